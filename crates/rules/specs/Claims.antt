@@ -1,0 +1,80 @@
+-- The claims about the rules. Together with the contracts of the code they say points 1, 2 and 3.
+use Prim.Native.Nat.{ℕ, _<_}
+use mathlib.Core.Path.{_≡_}
+use mathlib.Core.Logic.{_≢_, _⊎_}
+use mathlib.Core.Bool.{Bool, true, false}
+use mathlib.Core.List.{List, [], _∷_, map, List·Memᴰ}
+use lib.ListN.{getD, length}
+use Rattle.rules.specs.Refusals.{Reply, answer, Outcome}
+use Rattle.rules.specs.Memory.{frontier}
+use Rattle.rules.specs.Control.{Store, make, inRange}
+use Rattle.rules.specs.Phases.{otherHalf}
+use Rattle.rules.specs.Runs.{Call, Step, apply, run, after, sessionCalls, sessionRun, feeds}
+use Rattle.rules.specs.Free.{newFree, freeRun}
+use Rattle.rules.specs.Tracking.{Beside, newBeside, beside, Reached, recordsOf, wordsAt}
+use Rattle.rules.specs.Examples.{Example, starred}
+use Rattle.rules.specs.declared.Answer.the-variants.{Refused, Done}
+
+-- a store from a making that wasn't refused, "whatever words halves and list then hold"
+pub record Made (s : Store) : Type 0 where
+  pub half0 : List ℕ
+  pub half1 : List ℕ
+  pub list : List ℕ
+  pub accepted : make half0 half1 list .reply ≡ answer Done
+  pub fresh : make half0 half1 list .store ≡ s
+
+-- ---- 1. Refusals keep everything
+-- Point 1: "a refused call has written nothing and hands the control record back as it came". For every store and every call.
+unfoldable pub RefusalsKeep : Type 0
+RefusalsKeep = (s : Store) (c : Call) (n : ℕ) → apply s c .reply ≡ answer (Refused n) → apply s c .store ≡ s
+
+-- ---- 2. Answers
+-- Point 3: "In every run, any list of calls with any arguments from a newly made store, every session answer is the one a
+-- collector-free store gives".
+unfoldable pub Answers : Type 0
+Answers = (s : Store) → Made s → (cs : List Call) → sessionRun s cs ≡ freeRun newFree (sessionCalls cs) (feeds s cs)
+
+-- "It has no 4 and no 12": no call of a run is refused with them, collector steps included
+unfoldable pub NoDamage : Type 0
+NoDamage =
+    (s : Store) → Made s → (cs : List Call) (c : Call)
+    → (apply (after s cs) c .reply ≢ answer (Refused 4)) × (apply (after s cs) c .reply ≢ answer (Refused 12))
+
+-- every number that the control record holds stays in its range
+unfoldable pub StaysInRange : Type 0
+StaysInRange = (s : Store) → Made s → (cs : List Call) → inRange (after s cs) ≡ true
+
+-- ---- 3. Two runs
+-- Point 3: "two runs with the same calls agree exactly when the same allocations met no room". The calls are the session calls;
+-- collector steps, safe points, lengths and first words are each run's own.
+unfoldable pub TwoRuns : Type 0
+TwoRuns =
+    (s t : Store) → Made s → Made t → (cs ds : List Call) → sessionCalls cs ≡ sessionCalls ds
+    → (sessionRun s cs ≡ sessionRun t ds → feeds s cs ≡ feeds t ds) × (feeds s cs ≡ feeds t ds → sessionRun s cs ≡ sessionRun t ds)
+
+-- ---- 4. Freed
+-- Point 2: "what was unreachable when a collection began takes up no word when it has ended". b is the run as a step leaves
+-- phase 0, e as a later one has come back to it; left are the places of the records that the current half then holds.
+pub record FreedBetween (b e : Beside) (left : List ℕ) : Type 0 where
+  -- each was reached when the collection began, or has been allocated since
+  pub kept : (q : ℕ) → List·Memᴰ q left → Reached (b .free) q ⊎ length (b .free .records) < q
+  -- each is there once
+  pub once : (i j : ℕ) → i < length left → j < length left → getD left i 0 ≡ getD left j 0 → i ≡ j
+  -- the current half's used words are exactly theirs, and the other half has none
+  pub used : frontier (e .store .memory) (e .store .current) ≡ wordsAt (e .free) left
+  pub emptied : frontier (e .store .memory) (otherHalf (e .store .current)) ≡ 0
+
+abbrev pub leftIn : Beside → List ℕ
+leftIn e = map (e .place) (recordsOf (e .store .memory) (e .store .current))
+
+unfoldable pub Freed : Type 0
+Freed =
+    (s : Store) → Made s → (cs ds : List Call)
+    → after s cs .phase ≡ 0 → after (after s cs) (Step ∷ ds) .phase ≡ 0
+    → FreedBetween (beside (newBeside s) cs) (beside (beside (newBeside s) cs) (Step ∷ ds))
+    (leftIn (beside (beside (newBeside s) cs) (Step ∷ ds)))
+
+-- ---- 5. Starred examples
+-- "The starred examples are proved of the rules as one table with one theorem"
+unfoldable pub Starred : Type 0
+Starred = map (λ x. x .given) starred ≡ map (λ x. x .expected) starred

@@ -1,0 +1,86 @@
+-- Phases and levels: the two tables, fromspace and tospace, sessions by number, and moving on to the next phase.
+use Prim.Native.Nat.{ℕ, suc, _-_}
+use mathlib.Core.Bool.{Bool, true, false, cond, not, _&&_, _||_}
+use mathlib.Core.List.{List, [], _∷_, map}
+use lib.Dec.{eqb}
+use lib.ListN.{getD, set}
+use Rattle.rules.specs.Memory.{null}
+use Rattle.rules.specs.Control.{Store, withSessions}
+use Rattle.rules.specs.declared.Session.{Session}
+
+-- "The level of each phase is a fixed table"
+abbrev pub levels : List ℕ
+levels = 0 ∷ 1 ∷ 2 ∷ 2 ∷ 2 ∷ 3 ∷ 4 ∷ 4 ∷ 5 ∷ 6 ∷ 6 ∷ 6 ∷ 0 ∷ []
+
+unfoldable pub levelOf : ℕ → ℕ
+levelOf phase = getD levels phase 0
+
+-- the phase after each: "it moves to the next phase (12 to 0)"
+abbrev pub followers : List ℕ
+followers = 1 ∷ 2 ∷ 3 ∷ 4 ∷ 5 ∷ 6 ∷ 7 ∷ 8 ∷ 9 ∷ 10 ∷ 11 ∷ 12 ∷ 0 ∷ []
+
+unfoldable pub nextPhase : ℕ → ℕ
+nextPhase phase = getD followers phase 0
+
+-- ---- fromspace and tospace
+
+unfoldable pub otherHalf : ℕ → ℕ
+otherHalf h = 1 - h
+
+-- "Fromspace is the current half and tospace the other until phase 12; in phase 12 tospace is the current half"
+unfoldable pub fromspace : Store → ℕ
+fromspace s = cond (eqb (s .phase) 12) (otherHalf (s .current)) (s .current)
+
+unfoldable pub tospace : Store → ℕ
+tospace s = otherHalf (fromspace s)
+
+-- ---- sessions
+
+-- what stands past the last session; no call reaches it
+abbrev pub absent : Session
+absent = record { registers = []; level = 0; attached = false; scanned = false }
+
+unfoldable pub sessionAt : Store → ℕ → Session
+sessionAt s n = getD (s .sessions) n absent
+
+unfoldable pub withSession : Store → ℕ → Session → Store
+withSession s n x = withSessions s (set (s .sessions) n x)
+
+unfoldable pub register : Session → ℕ → ℕ
+register x k = getD (x .registers) k null
+
+abbrev pub withRegisters : Session → List ℕ → Session
+withRegisters x vs = record { registers = vs; level = x .level; attached = x .attached; scanned = x .scanned }
+
+abbrev pub withMark : Session → Bool → Session
+withMark x b = record { registers = x .registers; level = x .level; attached = x .attached; scanned = b }
+
+-- no session has a scanned mark
+unfoldable pub unmarked : List Session → List Session
+unmarked = map (λ x. withMark x false)
+
+-- "every attached session has the level"
+abbrev pub allAt : ℕ → List Session → Bool
+allAt l [] = true
+allAt l (x ∷ xs) = (not (x .attached) || eqb (x .level) l) && allAt l xs
+
+-- the number of the lowest attached session without a scanned mark; the number of sessions where there is none
+abbrev pub lowestUnmarked : List Session → ℕ
+lowestUnmarked [] = 0
+lowestUnmarked (x ∷ xs) = cond (x .attached && not (x .scanned)) 0 (suc (lowestUnmarked xs))
+
+-- ---- moving on
+
+-- "it moves to the next phase (12 to 0), resets walk place and field to 0 and clears scanned marks"
+unfoldable pub moveOn : Store → Store
+moveOn s =
+    record {
+      lengths = s .lengths;
+      memory = s .memory;
+      current = s .current;
+      phase = nextPhase (s .phase);
+      walk = record { place = 0; field = 0 };
+      list = s .list;
+      globals = s .globals;
+      sessions = unmarked (s .sessions);
+    }

@@ -1,0 +1,34 @@
+// The plain types that the rules (specs/) and the code above share. This crate has no function.
+
+// A session: "eight registers, a level and a scanned mark", and whether it is attached.
+pub struct Session {
+    pub registers: [u32; 8],
+    pub level: u32,
+    pub attached: bool,
+    pub scanned: bool,
+}
+
+// What following a reference ends in: the place of the record in its half with its counts of reference and plain
+// fields, or damage.
+pub enum Followed {
+    Sound(usize, u32, u32),
+    Damage,
+}
+
+// What a call answers: the number of its refusal, or what the call hands out.
+pub enum Answer {
+    Refused(u32),
+    Done,
+    Word(u32),
+    Same(bool),
+    Phase(usize),
+}
+
+// What a store or a put writes: the record to shade first (0: none), the word for the record itself or the global,
+// the replica that is written as well (0: none) and the word for it.
+pub struct Writes {
+    pub shade: u32,
+    pub own: u32,
+    pub replica: u32,
+    pub copy: u32,
+}
