@@ -1,0 +1,68 @@
+-- The starred examples, and two runs computed by the checker: the script example of document 01, and a whole collection.
+use Prim.Native.Nat.{ℕ, zero, suc}
+use mathlib.Core.Path.{_≡_, refl}
+use mathlib.Core.List.{List, [], _∷_, _++_}
+use lib.ListN.{replicate, drop}
+use Rattle.rules.specs.Memory.{half, frontier, withHalf, withFrontier, reference, halfOf, wordOf, inHalf, shapeWord, refsOf, plainsOf, newRecord, word, put, colour, replica, refs, plains, size, append, nextReference, sound, followed, copyOf, otherCopy, forward}
+use Rattle.rules.specs.Control.{halfAllowed, listAllowed, lengthsAllowed, sameLengths, walkLimit, inRange, making, Store}
+use Rattle.rules.specs.Phases.{levelOf, nextPhase, otherHalf, fromspace, tospace, sessionAt, withSession, register, unmarked, moveOn}
+use Rattle.rules.specs.Barriers.{toShade, listRoom, shading, shade, shadesAt, copiesAt, barrierShade, replicaFor, ownWord, replicaWord, storeWrites, putBoth, sameAt, roomIn, allocationRoom, placed, allocated, allocatedReference}
+use Rattle.rules.specs.Calls as calls
+use Rattle.rules.specs.Collector as collector
+use Rattle.rules.specs.Runs.{Call, Attach, SafePoint, Allocate, Load, StoreRef, Read, Write, Clear, Step, after}
+use Rattle.rules.specs.Examples.{makingOf, small, numbers, values, starred}
+use Rattle.rules.specs.Claims.{Starred}
+
+-- opens every definition that a closed run computes with
+unfoldable pub rules : Unit {0}
+unfolding small numbers values halfAllowed listAllowed lengthsAllowed sameLengths walkLimit inRange half frontier withHalf withFrontier reference halfOf wordOf inHalf shapeWord refsOf plainsOf newRecord word put colour replica refs plains size append nextReference sound followed copyOf otherCopy forward levelOf nextPhase otherHalf fromspace tospace sessionAt withSession register unmarked moveOn toShade listRoom shading shade shadesAt copiesAt barrierShade replicaFor ownWord replicaWord storeWrites putBoth roomIn allocationRoom placed allocated allocatedReference calls.sessionOf calls.recordIn calls.withRegister calls.attach calls.safePoint calls.allocate calls.load calls.store calls.read calls.write calls.clear collector.walked collector.below collector.pastRecord collector.haveLevel collector.rest collector.handshake collector.rootMark collector.scanRecord collector.scanSession collector.heapMark collector.needsShell collector.shellOf collector.withShell collector.allocateShells collector.copyRef collector.copyPlain collector.copyField collector.copy collector.rootFlip collector.stackFlip collector.reclaim collector.step calls.same making makingOf sameAt
+rules = tt
+
+pub starred-hold : Starred
+unfolding Starred starred rules
+starred-hold = refl
+
+-- ---- the script example of document 01, in halves of 16 words
+script : List Call
+script = Attach 0 ∷ Allocate 0 0 1 1 ∷ Write 0 0 0 7 ∷ Step ∷ SafePoint 0 ∷ Read 0 0 0 ∷ []
+
+script-numbers : numbers script ≡ replicate 6 0
+unfolding rules script
+script-numbers = refl
+
+script-values : values script ≡ 0 ∷ 0 ∷ 0 ∷ 1 ∷ 0 ∷ 7 ∷ []
+unfolding rules script
+script-values = refl
+
+-- ---- a whole collection: a record of 5 words that names one of 4, and a third of 4 that nothing names
+before : List Call
+before =
+    Attach 0 ∷ Allocate 0 0 1 1 ∷ Allocate 0 1 0 1 ∷ Write 0 1 0 42 ∷ StoreRef 0 0 0 1 ∷ Allocate 0 2 0 1 ∷ Clear 0 1
+    ∷ Clear 0 2 ∷ []
+
+-- n steps, each after a safe point
+steps : ℕ → List Call
+steps zero = []
+steps (suc n) = SafePoint 0 ∷ Step ∷ steps n
+
+-- phase and used words of both halves
+seen : Store → List ℕ
+seen s = s .phase ∷ s .memory .frontier0 ∷ s .memory .frontier1 ∷ []
+
+begun : seen (after small before) ≡ 0 ∷ 13 ∷ 0 ∷ []
+unfolding rules before seen
+begun = refl
+
+-- 93 steps later the collector has one step to go: both halves are full
+last : seen (after small (before ++ steps 93)) ≡ 12 ∷ 13 ∷ 9 ∷ []
+unfolding rules before steps seen
+last = refl
+
+-- what nothing named is gone, and the rest is still there
+collected : seen (after small (before ++ steps 94)) ≡ 0 ∷ 0 ∷ 9 ∷ []
+unfolding rules before steps seen
+collected = refl
+
+reading : drop 196 (values (before ++ steps 94 ++ (Load 0 1 0 0 ∷ Read 0 1 0 ∷ []))) ≡ 0 ∷ 42 ∷ []
+unfolding rules before steps
+reading = refl

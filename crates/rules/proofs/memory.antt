@@ -1,0 +1,29 @@
+-- The memory interface, the lowest layer: what a record is, and what the operations on memory keep. It rests on the definitions
+-- alone. Above it nothing opens a half, a word or a put.
+
+-- case analysis as functions; lists of one value, and with one element set
+pub mod Cases
+pub mod Lists
+-- references, shape words and the two halves as numbers
+pub mod Encoding
+-- lists of words as records that follow one another
+pub mod Chain
+-- the halves of a changed memory
+pub mod Halves
+-- records of a memory; the reference that the next one gets
+pub mod Records
+pub mod Next
+-- a walk over the records of a half
+pub mod Walk
+-- halves whose records stay where they are
+pub mod Same
+-- what each operation keeps: a word written, a record appended, as an allocation or a shell, a half emptied
+pub mod Put
+pub mod Append
+pub mod Allocation
+pub mod Empty
+-- sums over the records of a half
+pub mod Sum
+pub mod Total
+-- the records of a half as a list
+pub mod Listing

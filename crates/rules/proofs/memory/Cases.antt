@@ -1,0 +1,27 @@
+-- Case analysis as functions, so that a proof goes by cases inside a term, a recursive call in the arms too.
+use Prim.Native.Nat.{ℕ, _≤_, _<_}
+use mathlib.Core.Path.{_≡_, refl}
+use mathlib.Core.Logic.{_≢_, _⊎_, inl, inr}
+use mathlib.Core.Bool.{Bool, true, false}
+use native.Mathlib.Decide.{decLt, ℕ-discrete}
+use native.Mathlib.Omega.{arith}
+
+on-dec : {A C : Type 0} → Dec A → (A → C) → (¬ A → C) → C
+on-dec (yes a) f g = f a
+on-dec (no a) f g = g a
+
+pub lt-or : (a b : ℕ) {C : Type 0} → (a < b → C) → (b ≤ a → C) → C
+lt-or a b f g = on-dec (decLt a b) f (λ l. g (omega arith))
+
+pub eq-or : (a b : ℕ) {C : Type 0} → (a ≡ b → C) → (a ≢ b → C) → C
+eq-or a b f g = on-dec (ℕ-discrete a b) f g
+
+-- a Bool, with the equation
+pub bool-or : (t : Bool) {C : Type 0} → (t ≡ true → C) → (t ≡ false → C) → C
+bool-or true f g = f refl
+bool-or false f g = g refl
+
+-- one of two facts
+pub either : {A B C : Type 0} → A ⊎ B → (A → C) → (B → C) → C
+either (inl x) f g = f x
+either (inr y) f g = g y
