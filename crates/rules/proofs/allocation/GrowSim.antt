@@ -1,0 +1,39 @@
+-- New records keep the invariant, where they meet what it asks of them.
+use Prim.Native.Nat.{ℕ}
+use mathlib.Core.List.{List}
+use Rattle.rules.specs.Memory.{Memory}
+use Rattle.rules.specs.Control.{Store, withMemory}
+use Rattle.rules.specs.Free.{Free, Record}
+use Rattle.rules.proofs.invariant.Sim.{Sim}
+use Rattle.rules.proofs.invariant.Laws.{cur-two}
+use Rattle.rules.proofs.invariant.Range.{range-memory}
+use Rattle.rules.proofs.allocation.Grown.{Grown}
+use Rattle.rules.proofs.allocation.Growth.{Longer, Placed, Joined, Tinted}
+use Rattle.rules.proofs.allocation.GrowValues.{grown-identity, grown-values, grown-roots, grown-field-halves}
+use Rattle.rules.proofs.allocation.GrowPairs.{grown-pairs, grown-agreement}
+use Rattle.rules.proofs.allocation.GrowMarking.{grown-colours, grown-grey-list, grown-cleaned, grown-walking, grown-kept}
+use Rattle.rules.proofs.allocation.FreeRecords.{withRecords}
+
+module _ {K : ℕ → Type 0} {m m′ : ℕ → ℕ} {s : Store} {f : Free} {M′ : Memory} {New Re : ℕ → Type 0} {q : ℕ} {rs′ : List Record} where
+  pub grown-sim : Sim K m s f → Grown (s .memory) M′ New Re → Longer (f .records) rs′
+      → Placed (s .memory) M′ New m m′ (s .current) q (f .records) rs′
+      → Joined (s .memory) M′ New Re m′ (s .current) (s .phase)
+      → Tinted (s .memory) M′ New (s .current) (s .phase)
+      → Sim K m′ (withMemory s M′) (withRecords f rs′)
+  grown-sim h g l p j c = record {
+    range = range-memory (h .range) (g .filled) (g .lengths);
+    filled = g .filled;
+    identity = grown-identity g l p (h .identity);
+    values = grown-values g l p (h .identity .null-place) (h .values);
+    roots = grown-roots g l p (h .roots);
+    levels = h .levels;
+    root-halves = h .root-halves;
+    field-halves = grown-field-halves g (h .field-halves);
+    pairs = grown-pairs g p j (h .pairs);
+    agreement = grown-agreement g p j (h .identity) (h .values) (h .pairs) (h .agreement);
+    colours = grown-colours g j c (λ e. h .walking .at-5 e) (h .colours);
+    grey-list = grown-grey-list g j c (h .range .begins) (h .grey-list);
+    cleaned = grown-cleaned g (h .values) (h .roots) (h .grey-list) (h .cleaned);
+    walking = grown-walking g (cur-two h) j (h .walking);
+    kept = grown-kept g l p (h .kept);
+  }

@@ -1,0 +1,59 @@
+-- All that the invariant asks of new records: their tracked place, the collector-free records beside them, their replica words and their colours.
+use Prim.Native.Nat.{ℕ, _≤_, _<_}
+use mathlib.Core.Path.{_≡_}
+use mathlib.Core.Logic.{_≢_}
+use mathlib.Core.List.{List}
+use lib.ListN.{getD, length}
+use Rattle.rules.specs.Memory.{Memory, null, frontier, halfOf, white, grey, black, colour, replica, refs, plains}
+use Rattle.rules.specs.Phases.{otherHalf}
+use Rattle.rules.specs.Free.{Record}
+use Rattle.rules.proofs.memory.Records.{Start}
+use Rattle.rules.proofs.memory.Total.{total}
+use Rattle.rules.proofs.invariant.Words.{marks, copied, recOf}
+use Rattle.rules.proofs.invariant.Groups.{Pair}
+
+-- the collector-free records rs, with or without a new one of null and zero fields at the end
+pub record Longer (rs rs′ : List Record) : Type 0 where
+  pub more : length rs ≤ length rs′
+  pub old : (p : ℕ) → 0 < p → p ≤ length rs → recOf rs′ p ≡ recOf rs p
+  pub refs : (p i : ℕ) → getD (recOf rs′ p .refs) i null ≡ getD (recOf rs p .refs) i null
+  pub plains : (p i : ℕ) → getD (recOf rs′ p .plains) i 0 ≡ getD (recOf rs p .plains) i 0
+
+-- the tracked place: new records have the place q
+pub record Placed (M M′ : Memory) (New : ℕ → Type 0) (m m′ : ℕ → ℕ) (cur q : ℕ) (rs rs′ : List Record) : Type 0 where
+  pub none : m′ null ≡ m null
+  pub old : {u : ℕ} → Start M u → m′ u ≡ m u
+  pub new : {u : ℕ} → New u → m′ u ≡ q
+  pub low : 0 < q
+  pub high : q ≤ length rs′
+  pub nrefs : {u : ℕ} → New u → length (recOf rs′ q .refs) ≡ refs M′ u
+  pub nplains : {u : ℕ} → New u → length (recOf rs′ q .plains) ≡ plains M′ u
+  pub apart : {u v : ℕ} → New u → Start M v → halfOf v ≡ halfOf u → m v ≢ q
+  pub single : {u v : ℕ} → New u → New v → halfOf v ≡ halfOf u → v ≡ u
+  -- a new record of the current half is new to the collector-free store too
+  pub fresh : {u : ℕ} → New u → halfOf u ≡ cur → length rs < q
+
+-- replica words of new records, and of those that have got one
+pub record Joined (M M′ : Memory) (New Re : ℕ → Type 0) (m′ : ℕ → ℕ) (cur ph : ℕ) : Type 0 where
+  pub before : {u : ℕ} → Re u → replica M u ≡ null
+  pub after : {u : ℕ} → Re u → replica M′ u ≢ null
+  pub marked : {u : ℕ} → Re u → colour M u ≢ white
+  pub early : {u : ℕ} → Re u → ph ≤ 6
+  pub old-pair : {u : ℕ} → Re u → Pair M′ m′ u (replica M′ u)
+  pub new-pair : {u : ℕ} → New u → replica M′ u ≢ null → Pair M′ m′ u (replica M′ u)
+  pub home : ph ≤ 11 → {u : ℕ} → New u → halfOf u ≡ otherHalf cur → replica M′ u ≢ null
+  pub closed : 7 ≤ ph → {u : ℕ} → New u → replica M′ u ≢ null → New (replica M′ u)
+  pub empty : ph ≤ 4 → frontier M′ (otherHalf cur) ≡ 0
+  pub spent : ph ≤ 11 → frontier M′ (otherHalf cur) ≡ total M′ cur (copied M′)
+
+-- colours of new records
+pub record Tinted (M M′ : Memory) (New : ℕ → Type 0) (cur ph : ℕ) : Type 0 where
+  pub at-rest : ph ≡ 0 → {u : ℕ} → New u → halfOf u ≡ cur → colour M′ u ≡ white
+  pub at-reclaim : ph ≡ 12 → {u : ℕ} → New u → halfOf u ≡ cur → colour M′ u ≡ white
+  pub none-black : ph ≡ 1 → {u : ℕ} → New u → halfOf u ≡ cur → colour M′ u ≢ black
+  pub none-grey : {u : ℕ} → New u → halfOf u ≡ cur → colour M′ u ≢ grey
+  pub white-away : ph ≤ 11 → {u : ℕ} → New u → halfOf u ≡ otherHalf cur → colour M′ u ≡ white
+  pub paired : ph ≤ 11 → {u : ℕ} → New u → halfOf u ≡ cur → replica M′ u ≢ null → colour M′ u ≢ white
+  pub shelled : 6 ≤ ph → ph ≤ 11 → {u : ℕ} → New u → halfOf u ≡ cur → colour M′ u ≢ white → replica M′ u ≢ null
+  -- they leave the grey list its room
+  pub room : 1 ≤ ph → ph ≤ 4 → total M cur (marks M) ≤ total M′ cur (marks M′)

@@ -1,0 +1,6 @@
+-- The claims of specs/Claims.antt that need no run, one file each. It rests on relation; the others are in runs.Claims.
+
+-- claim 1: a refused call keeps the store
+pub mod Refusals
+-- claim 3, from claim 2
+pub mod TwoRuns

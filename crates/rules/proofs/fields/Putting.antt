@@ -1,0 +1,113 @@
+-- The call put: a global takes a register's word.
+use Prim.Native.Nat.{ℕ, _≤_}
+use mathlib.Core.Path.{_≡_, refl, _∙_}
+use mathlib.Core.Logic.{_≢_}
+use mathlib.Core.Bool.{Bool, true, false, cond, _&&_}
+use native.Mathlib.Omega.{arith}
+use lib.Dec.{eqb}
+use lib.ListN.{set}
+use borrow.Author.Tests.{leb-true, ne-eqb}
+use Rattle.rules.specs.Refusals.{passed}
+use Rattle.rules.specs.Memory.{null, inHalf, otherCopy}
+use Rattle.rules.specs.Control.{Store, withGlobals}
+use Rattle.rules.specs.Phases.{otherHalf}
+use Rattle.rules.specs.Barriers.{Heap, heapOf, shade, barrierShade, ownWord, putWrites}
+use Rattle.rules.specs.Calls as calls
+use Rattle.rules.specs.Calls.{isRegister, isGlobal}
+use Rattle.rules.specs.Free.{Free, freePut}
+use Rattle.rules.specs.declared.Session.{Session}
+use Rattle.rules.specs.declared.Writes.{Writes}
+use Rattle.rules.proofs.memory.Cases.{eq-or, lt-or, either}
+use Rattle.rules.proofs.invariant.Words.{Names}
+use Rattle.rules.proofs.invariant.Sim.{Sim}
+use Rattle.rules.proofs.invariant.Laws.{from-current, from-two, in-half-null}
+use Rattle.rules.proofs.invariant.Spans.{Allowed, level-from, level-to, level-low, level-last, level-most}
+use Rattle.rules.proofs.relation.Alike.{Alike, both-check, both-passes, alike-done}
+use Rattle.rules.proofs.relation.Tests.{both-session}
+use Rattle.rules.proofs.sessions.Session.{WordFits, GlobalFits, withFreeGlobals, global-sim}
+use Rattle.rules.proofs.sessions.Registers.{held-fits}
+use Rattle.rules.proofs.marking.Shading.{shade-front}
+use Rattle.rules.proofs.fields.Reference.{Fits}
+use Rattle.rules.proofs.fields.Barrier.{own-6, no-shade}
+use Rattle.rules.proofs.fields.Barred.{barred}
+use Rattle.rules.proofs.fields.Stores.{shaded-fits}
+use Rattle.rules.proofs.fields.Table.{own-fits, forwarded-fits, forwarded-names, reclaim-fits, reclaim-own}
+
+-- what fits a field fits a global, where the flip has not passed it
+fits-global : {K : ℕ → Type 0} {m : ℕ → ℕ} {s : Store} {u p : ℕ} (g : ℕ) → Fits K m s u p
+    → (10 ≤ s .phase → s .phase ≤ 11 → Names (otherHalf (s .current)) u) → GlobalFits K m s g u p
+fits-global g x flipped = record {
+  ok = x .ok;
+  is = x .is;
+  names = x .side;
+  flipping = λ e l. flipped (omega arith) (omega arith);
+  flipped = λ e. flipped (omega arith) (omega arith);
+  below = λ e l. x .clean (omega arith) (omega arith);
+  clean = λ lo hi. x .clean (omega arith) hi;
+  kept = x .held;
+}
+
+-- a global's word is the register's but at level 6
+own-global : (z : Heap) {l q : ℕ} → l ≢ 6 → ownWord z l null q ≡ passed q
+unfolding ownWord
+own-global z {l} {q} n = rw (ne-eqb l 6 n, in-half-null) (go (eqb l 5))
+  where
+    go : (b : Bool) → cond (b && false && inHalf (z .from) q) (otherCopy (z .memory) q) (passed q) ≡ passed q
+    go true = refl
+    go false = refl
+
+put-writes : (z : Heap) (l q : ℕ) {w u : ℕ} → barrierShade z l q ≡ passed w → ownWord z l null q ≡ passed u
+    → putWrites z l q ≡ passed (record { shade = w; own = u; replica = null; copy = null })
+unfolding putWrites
+put-writes z l q e c = rw (e, c)
+
+-- a put of q, for the place p, into global g passes its tests, and what it writes keeps the invariant
+pub record GlobalPut (K : ℕ → Type 0) (m : ℕ → ℕ) (s : Store) (f : Free) (l g q p : ℕ) : Type 0 where
+  pub writes : Writes
+  pub passes : putWrites (heapOf s) l q ≡ passed writes
+  pub sim : Sim K m (withGlobals (shade s (writes .shade)) (set (s .globals) g (writes .own))) (withFreeGlobals f (set (f .globals) g p))
+
+module _ {K : ℕ → Type 0} {m : ℕ → ℕ} {s : Store} {f : Free} {x : Session} {l q p : ℕ} (h : Sim K m s f) (t : WordFits K m s x q p)
+    (a : Allowed (s .phase) l) (g : ℕ) (b : g ≤ 31) where
+  -- levels 0 to 3: after shading
+  placed-low : l ≤ 3 → GlobalPut K m s f l g q p
+  placed-low c =
+      let w = barred h a c t in
+      let k = w .keeps in
+      record {
+        writes = record { shade = w .it; own = q; replica = null; copy = null };
+        passes = put-writes (heapOf s) l q (w .passes) (own-global (heapOf s) (λ e. omega arith));
+        sim = rw (k .globals) at (global-sim (w .sim) g b (fits-global g (shaded-fits h a c t w)
+            (λ lo hi. absurd (either (level-low 3 (omega arith) (h .range .phases) a c)
+            (λ z. let e = k .phase in omega arith) (λ z. let e = k .phase in omega arith)))));
+      }
+
+  -- levels 4 to 6: nothing is shaded
+  placed-high : {u : ℕ} → 4 ≤ l → ownWord (heapOf s) l null q ≡ passed u → Fits K m s u p
+      → (10 ≤ s .phase → s .phase ≤ 11 → Names (otherHalf (s .current)) u) → GlobalPut K m s f l g q p
+  unfolding shade
+  placed-high {u} c e y n = record {
+    writes = record { shade = null; own = u; replica = null; copy = null };
+    passes = put-writes (heapOf s) l q (no-shade (heapOf s) l null 0 q c) e;
+    sim = global-sim h g b (fits-global g y n);
+  }
+
+  put-places : GlobalPut K m s f l g q p
+  put-places = lt-or l 4 (λ c. placed-low (omega arith))
+      (λ c. let lo = level-from 4 (omega arith) (h .range .phases) a c in
+      eq-or (s .phase) 12
+      (λ e. placed-high c (reclaim-own h t e (level-last (h .range .phases) a c e) null) (reclaim-fits h t e) (λ y z. absurd (omega arith)))
+      (λ n. let hi : s .phase ≤ 11 = omega (arith, h .range .phases) in
+      lt-or l 6
+      (λ d. placed-high c (own-global (heapOf s) (λ e. omega arith)) (own-fits h t lo hi) (λ y z. absurd (omega (arith, level-to 5 (omega arith) (h .range .phases) a (omega arith) (omega arith)))))
+      (λ d. let e : l ≡ 6 = omega (arith, level-most (s .phase) l (h .range .phases) a) in
+      placed-high c (own-6 (heapOf s) (from-two h) (h .filled) l null (t .ok) e ∙ rw (from-current h n))
+      (forwarded-fits h t lo hi (level-from 6 (omega arith) (h .range .phases) a (omega arith))) (λ y z. forwarded-names h t lo hi))))
+
+-- ---- the call
+pub put-alike : {K : ℕ → Type 0} {m : ℕ → ℕ} {s : Store} {f : Free} → Sim K m s f → (n g from q : ℕ) → Alike K q m s (calls.put s n g from) (freePut f n g from)
+unfolding calls.put freePut
+put-alike {s = s} h n g from q = both-session h n _ _ (λ a. both-check (isRegister from) 8 tt
+    (λ b. both-check (isGlobal g) 9 tt
+    (λ c. let w = put-places h (held-fits h n from a) (a .allowed) g (leb-true _ _ c) in
+    both-passes _ (w .writes) (w .passes) _ (alike-done (w .sim) refl (shade-front s (w .writes .shade) 0) (shade-front s (w .writes .shade) 1)))))

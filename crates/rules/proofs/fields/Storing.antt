@@ -1,0 +1,138 @@
+-- The call store: what it writes keeps the invariant, at every level in every phase that the level has.
+use Prim.Native.Nat.{ℕ, _≤_, _<_}
+use mathlib.Core.Path.{_≡_, refl, sym, ap, _∙_}
+use mathlib.Core.Logic.{_≢_, inl, inr}
+use mathlib.Core.Bool.{_&&_}
+use native.Mathlib.Omega.{arith}
+use lib.Dec.{ltb}
+use borrow.Author.Tests.{ne-eqb, ltb-true}
+use Rattle.rules.specs.Refusals.{passed}
+use Rattle.rules.specs.Memory.{null, frontier, replica, refs, refField}
+use Rattle.rules.specs.Control.{Store, withMemory}
+use Rattle.rules.specs.Phases.{otherHalf}
+use Rattle.rules.specs.Barriers.{heapOf, to, shade, storeWrites, putBoth}
+use Rattle.rules.specs.Calls as calls
+use Rattle.rules.specs.Calls.{isRegister}
+use Rattle.rules.specs.Free.{Free, recordAt, withRecord, freeStore}
+use Rattle.rules.specs.declared.Session.{Session}
+use Rattle.rules.specs.declared.Writes.{Writes}
+use Rattle.rules.proofs.memory.Cases.{eq-or, lt-or}
+use Rattle.rules.proofs.memory.Records.{Start, start-nonnull}
+use Rattle.rules.proofs.invariant.Words.{In, fwd}
+use Rattle.rules.proofs.invariant.Groups.{NoFlip}
+use Rattle.rules.proofs.invariant.Sim.{Sim}
+use Rattle.rules.proofs.invariant.Laws.{cur-two, other-not, in-half, in-or, in-nonnull, has-replica, from-two}
+use Rattle.rules.proofs.invariant.Pairs.{pair-shape, replica-shape}
+use Rattle.rules.proofs.invariant.Originals.{pair-here}
+use Rattle.rules.proofs.invariant.Spans.{Allowed, level-most, level-from, level-home, level-late, level-last}
+use Rattle.rules.proofs.relation.Alike.{Alike, both-check, both-check-eq, both-passes, alike-done}
+use Rattle.rules.proofs.relation.Tests.{both-session, both-record}
+use Rattle.rules.proofs.sessions.Session.{WordFits}
+use Rattle.rules.proofs.sessions.Registers.{held-fits}
+use Rattle.rules.proofs.sessions.Values.{free-refs}
+use Rattle.rules.proofs.marking.Shading.{shade-front}
+use Rattle.rules.proofs.fields.Reference.{withRef}
+use Rattle.rules.proofs.fields.Barrier.{store-low, store-alone, store-both, copy-forward, both-front}
+use Rattle.rules.proofs.fields.Barred.{barred}
+use Rattle.rules.proofs.fields.Stores.{alone-sim, low-sim, from-sim, to-sim, reclaim-sim}
+use Rattle.rules.proofs.fields.Table.{from-words, to-words, reclaim-fits, reclaim-own}
+
+-- the store after the writes w
+abbrev pub stored : Store → ℕ → ℕ → Writes → Store
+stored s v i w = withMemory (shade s (w .shade)) (putBoth (shade s (w .shade) .memory) v (refField i) (w .own) (w .replica) (refField i) (w .copy))
+
+-- a store of q, for the place p, into field i of v passes its tests, and what it writes keeps the invariant
+pub record Stored (K : ℕ → Type 0) (m : ℕ → ℕ) (s : Store) (f : Free) (l v i q p : ℕ) : Type 0 where
+  pub writes : Writes
+  pub passes : storeWrites (heapOf s) l v i q ≡ passed writes
+  pub sim : Sim K m (stored s v i writes) (withRecord f (m v) (withRef (recordAt f (m v)) i p))
+
+-- the frontiers stay
+stored-front : (s : Store) (v i : ℕ) (w : Writes) (g : ℕ) → frontier (stored s v i w .memory) g ≡ frontier (s .memory) g
+stored-front s v i w g = both-front (shade s (w .shade) .memory) v (refField i) (w .own) (w .replica) (refField i) (w .copy) g ∙ shade-front s (w .shade) g
+
+module _ {K : ℕ → Type 0} {m : ℕ → ℕ} {s : Store} {f : Free} {x : Session} {l q p : ℕ} (h : Sim K m s f) (t : WordFits K m s x q p)
+    (a : Allowed (s .phase) l) {v i : ℕ} where
+  -- levels 0 to 3
+  stored-low : l ≤ 3 → In (s .memory) (s .current) v → i < refs (s .memory) v → Stored K m s f l v i q p
+  unfolding putBoth
+  stored-low b o r =
+      let w = barred h a b t in
+      record {
+        writes = record { shade = w .it; own = q; replica = null; copy = null };
+        passes = store-low (heapOf s) l v i q b (w .passes);
+        sim = low-sim h a b t w o r;
+      }
+
+  -- levels 4 to 6 in phases 6 to 11, the record in the current half
+  stored-from : 4 ≤ l → l ≤ 6 → 6 ≤ s .phase → s .phase ≤ 11 → In (s .memory) (s .current) v → replica (s .memory) v ≢ null → i < refs (s .memory) v
+      → Stored K m s f l v i q p
+  unfolding putBoth shade
+  stored-from b c lo hi o n r =
+      let w = from-words h t lo hi a b c o in
+      let away = fwd (s .memory) (otherHalf (s .current)) (w .word) in
+      record {
+        writes = record { shade = null; own = w .word; replica = replica (s .memory) v; copy = away };
+        passes = store-both (heapOf s) l v i q (h .filled) b (h .pairs .pair v o n .start) (rw (replica-shape h v o n .0) r) (w .own) (w .copy);
+        sim = rw (ne-eqb (replica (s .memory) v) null n) (from-sim h lo hi (w .fits) o r n);
+      }
+
+  -- the record in the other half
+  stored-to : 5 ≤ l → l ≤ 6 → 9 ≤ s .phase → s .phase ≤ 11 → In (s .memory) (otherHalf (s .current)) v → i < refs (s .memory) v → Stored K m s f l v i q p
+  unfolding putBoth shade
+  stored-to b c lo hi o r =
+      let w = to-words h t (omega arith) hi lo b c o in
+      let home = h .pairs .home hi v o in
+      let n = home .0 in
+      let g = home .1 in
+      let e : replica (s .memory) (replica (s .memory) v) ≡ v = g .back in
+      let z : i < refs (s .memory) (replica (s .memory) v) = rw (pair-shape (h .identity) (o .start) g .0) r in
+      let away = fwd (s .memory) (otherHalf (s .current)) (w .word) in
+      record {
+        writes = record { shade = null; own = away; replica = replica (s .memory) v; copy = w .word };
+        passes = store-both (heapOf s) l v i q (h .filled) (omega arith) (g .start) z (w .own) (w .copy);
+        sim = rw (ne-eqb (replica (s .memory) v) null n)
+            (rw (e, g .same) at (to-sim h (omega arith) hi (w .fits) (pair-here h o g) z (λ y. in-nonnull o (sym e ∙ y))));
+      }
+
+  -- level 6 in phase 12: both are in the current half already
+  stored-reclaim : l ≡ 6 → s .phase ≡ 12 → In (s .memory) (s .current) v → i < refs (s .memory) v → Stored K m s f l v i q p
+  unfolding putBoth shade
+  stored-reclaim b e o r = eq-or (replica (s .memory) v) null
+      (λ n. record {
+        writes = record { shade = null; own = q; replica = null; copy = null };
+        passes = store-alone (heapOf s) l v i q (omega arith) n (reclaim-own h t e b v);
+        sim = alone-sim h o r (reclaim-fits h t e) (inr (inl e));
+      })
+      (λ n. record {
+        writes = record { shade = null; own = q; replica = replica (s .memory) v; copy = fwd (s .memory) (to (heapOf s)) q };
+        passes = store-both (heapOf s) l v i q (h .filled) (omega arith) (h .pairs .pair v o n .start) (rw (replica-shape h v o n .0) r) (reclaim-own h t e b v)
+            (copy-forward (heapOf s) (from-two h) (h .filled) l v (t .ok) (λ z. omega arith));
+        sim = rw (ne-eqb (replica (s .memory) v) null n) (reclaim-sim h e (reclaim-fits h t e) o r n (fwd (s .memory) (to (heapOf s)) q));
+      })
+
+  -- every level; v is the record in another register of the session
+  store-writes : {z : Session} {k : ℕ} → WordFits K m s z v k → Start (s .memory) v → i < refs (s .memory) v → Stored K m s f l v i q p
+  store-writes r o n =
+      let top = level-most (s .phase) l (h .range .phases) a in
+      let here : NoFlip (s .phase) → In (s .memory) (s .current) v = λ y. in-half (r .ok) (start-nonnull o) (r .names y) in
+      lt-or l 4
+      (λ b. let z = level-home (h .range .phases) a (omega arith) in stored-low (omega arith) (here z) n)
+      (λ b. let lo = level-from 4 (omega arith) (h .range .phases) a b in
+      eq-or (s .phase) 12
+      (λ e. stored-reclaim (level-last (h .range .phases) a b e) e (here (omega arith)) n)
+      (λ e. let hi : s .phase ≤ 11 = omega (arith, h .range .phases) in
+      in-or (s .current) (cur-two h) o
+      (λ c. stored-from b top lo hi c (has-replica h lo hi c (r .clean (omega arith) hi)) n)
+      (λ c. let late : 9 ≤ s .phase = lt-or (s .phase) 9
+      (λ g. absurd (other-not h (sym (c .side) ∙ here (omega arith) .side))) (λ g. g) in
+      stored-to (level-late (h .range .phases) a b late) top late hi c n)))
+
+-- ---- the call
+module _ {K : ℕ → Type 0} {m : ℕ → ℕ} {s : Store} {f : Free} (h : Sim K m s f) where
+  pub store-alike : (n k i from q : ℕ) → Alike K q m s (calls.store s n k i from) (freeStore f n k i from)
+  unfolding calls.store freeStore
+  store-alike n k i from q = both-session h n _ _ (λ a. both-check (isRegister k && isRegister from) 8 tt
+      (λ b. both-record h n k _ _ (λ z e. both-check-eq _ _ 13 (ap (ltb i) (sym (free-refs h z))) tt
+      (λ l. let w = store-writes h (held-fits h n from a) (a .allowed) (held-fits h n k a) z (ltb-true _ _ l) in
+      both-passes _ (w .writes) (w .passes) _ (alike-done (w .sim) refl (stored-front s _ i (w .writes) 0) (stored-front s _ i (w .writes) 1))))))

@@ -1,0 +1,28 @@
+-- The invariant of a run, in groups by what they read, and what it gives at once. It rests on memory.
+
+-- words that name records; the groups on values, and those on marking
+pub mod Words
+pub mod Groups
+pub mod Marking
+-- all groups together: the invariant
+pub mod Sim
+-- which records words name, forwarding, fromspace and tospace
+pub mod Laws
+-- a record and its replica; the original of a record of the other half
+pub mod Pairs
+pub mod Originals
+-- what roots and marked records name is kept alive
+pub mod Alive
+-- levels by phase
+pub mod Spans
+-- groups in the phases in which they ask little
+pub mod Idle
+-- scanned marks cleared
+pub mod Unmarked
+-- the control record stays in range
+pub mod Range
+-- facts on words that carry over to another memory; what is counted of a record
+pub mod Carried
+pub mod Counted
+-- the record at the walk, and the walk moved
+pub mod Walked

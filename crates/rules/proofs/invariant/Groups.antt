@@ -1,0 +1,99 @@
+-- The groups of the invariant that speak of values: records and their places, fields, roots, halves, pairs and their agreement.
+-- M is the memory, m the tracked place of each reference, cur the current half, ph the phase.
+use Prim.Native.Nat.{ℕ, _+_, _≤_, _<_}
+use mathlib.Core.Path.{_≡_}
+use mathlib.Core.Logic.{_≢_, _⊎_}
+use mathlib.Core.Bool.{true, false}
+use mathlib.Core.List.{List, [], _∷_}
+use lib.ListN.{getD, length}
+use Rattle.rules.specs.Memory.{Memory, null, halfOf, wordOf, refs, plains, replica, frontier}
+use Rattle.rules.specs.Phases.{otherHalf, levelOf, absent}
+use Rattle.rules.specs.Free.{Record, FreeSession, freeAbsent}
+use Rattle.rules.specs.declared.Session.{Session}
+use Rattle.rules.proofs.memory.Records.{Start}
+use Rattle.rules.proofs.memory.Total.{total}
+use Rattle.rules.proofs.invariant.Words.{In, Ok, Names, field, plainOf, fwd, copied, reg, freg, recOf}
+
+-- ---- identity: every record of either half stands for one of the collector-free records; two of one half for different ones
+pub record Identity (M : Memory) (m : ℕ → ℕ) (rs : List Record) : Type 0 where
+  pub null-place : m null ≡ 0
+  pub low : (v : ℕ) → Start M v → 0 < m v
+  pub high : (v : ℕ) → Start M v → m v ≤ length rs
+  pub nrefs : (v : ℕ) → Start M v → length (recOf rs (m v) .refs) ≡ refs M v
+  pub nplains : (v : ℕ) → Start M v → length (recOf rs (m v) .plains) ≡ plains M v
+  pub apart : (v w : ℕ) → Start M v → Start M w → halfOf v ≡ halfOf w → m v ≡ m w → v ≡ w
+
+-- ---- values: the fields of the current half's records are the collector-free ones
+pub record Values (M : Memory) (m : ℕ → ℕ) (cur : ℕ) (rs : List Record) : Type 0 where
+  pub ok : (v i : ℕ) → In M cur v → i < refs M v → Ok M (field M v i)
+  pub ref : (v i : ℕ) → In M cur v → i < refs M v → getD (recOf rs (m v) .refs) i null ≡ m (field M v i)
+  pub plain : (v i : ℕ) → In M cur v → i < plains M v → getD (recOf rs (m v) .plains) i 0 ≡ plainOf M v i
+
+-- ---- roots: sessions xs and globals gs of the store, ys and fgs of the collector-free one
+pub record Roots (M : Memory) (m : ℕ → ℕ) (xs : List Session) (ys : List FreeSession) (gs fgs : List ℕ) : Type 0 where
+  pub sessions : length xs ≡ 16
+  pub free-sessions : length ys ≡ 16
+  pub registers : (n : ℕ) → n < 16 → length (getD xs n absent .registers) ≡ 8
+  pub free-registers : (n : ℕ) → n < 16 → length (getD ys n freeAbsent .registers) ≡ 8
+  pub globals : length gs ≡ 32
+  pub free-globals : length fgs ≡ 32
+  pub attached : (n : ℕ) → getD ys n freeAbsent .attached ≡ getD xs n absent .attached
+  pub idle : (n k : ℕ) → getD xs n absent .attached ≡ false → reg xs n k ≡ null
+  pub reg-ok : (n k : ℕ) → Ok M (reg xs n k)
+  pub reg-is : (n k : ℕ) → freg ys n k ≡ m (reg xs n k)
+  pub global-ok : (g : ℕ) → Ok M (getD gs g null)
+  pub global-is : (g : ℕ) → getD fgs g null ≡ m (getD gs g null)
+
+-- ---- levels: an attached session has the phase's level or that of the phase before
+unfoldable pub levelBefore : ℕ → ℕ
+levelBefore ph = getD (0 ∷ 0 ∷ 1 ∷ 2 ∷ 2 ∷ 2 ∷ 3 ∷ 4 ∷ 4 ∷ 5 ∷ 6 ∷ 6 ∷ 6 ∷ []) ph 0
+
+pub record Levels (ph : ℕ) (xs : List Session) : Type 0 where
+  pub allowed : (n : ℕ) → getD xs n absent .attached ≡ true
+      → (getD xs n absent .level ≡ levelOf ph) ⊎ (getD xs n absent .level ≡ levelBefore ph)
+
+-- ---- which half a word may name: the current one but in phases 9 to 11; what is in tospace names tospace
+abbrev pub NoFlip : ℕ → Type 0
+NoFlip ph = (ph ≢ 9) × (ph ≢ 10) × (ph ≢ 11)
+
+pub record RootHalves (cur ph place : ℕ) (xs : List Session) (gs : List ℕ) : Type 0 where
+  pub regs : NoFlip ph → (n k : ℕ) → Names cur (reg xs n k)
+  pub globals : NoFlip ph → (g : ℕ) → Names cur (getD gs g null)
+  -- RootFlip and StackFlip: what has been forwarded names the other half
+  pub flipping : ph ≡ 10 → (g : ℕ) → g < place → Names (otherHalf cur) (getD gs g null)
+  pub flipped : ph ≡ 11 → (g : ℕ) → Names (otherHalf cur) (getD gs g null)
+  pub marked : ph ≡ 11 → (n k : ℕ) → getD xs n absent .attached ≡ true → getD xs n absent .scanned ≡ true
+      → Names (otherHalf cur) (reg xs n k)
+
+pub record FieldHalves (M : Memory) (cur ph : ℕ) : Type 0 where
+  pub home : NoFlip ph → (v i : ℕ) → In M cur v → i < refs M v → Names cur (field M v i)
+  pub away : ph ≤ 11 → (v i : ℕ) → In M (otherHalf cur) v → i < refs M v → Names (otherHalf cur) (field M v i)
+  pub away-ok : ph ≤ 11 → (v i : ℕ) → In M (otherHalf cur) v → i < refs M v → Ok M (field M v i)
+
+-- ---- pairs: w is the replica of v
+pub record Pair (M : Memory) (m : ℕ → ℕ) (v w : ℕ) : Type 0 where
+  pub start : Start M w
+  pub across : halfOf w ≢ halfOf v
+  pub back : replica M w ≡ v
+  pub same : m w ≡ m v
+
+pub record Pairs (M : Memory) (m : ℕ → ℕ) (cur ph : ℕ) : Type 0 where
+  pub pair : (v : ℕ) → In M cur v → replica M v ≢ null → Pair M m v (replica M v)
+  -- up to StackFlip every record of the other half is the replica of one of the current half
+  pub home : ph ≤ 11 → (v : ℕ) → In M (otherHalf cur) v → (replica M v ≢ null) × Pair M m v (replica M v)
+  -- up to HeapMark the other half is empty
+  pub empty : ph ≤ 4 → frontier M (otherHalf cur) ≡ 0
+  -- the other half holds as many words as the current half's records with a replica: a shell finds room
+  pub spent : ph ≤ 11 → frontier M (otherHalf cur) ≡ total M cur (copied M)
+
+-- ---- agreement: field number j of v has been copied to its replica
+pub data Copied (ph place wf v j : ℕ) : Type 0 where
+  over : 8 ≤ ph → Copied ph place wf v j
+  earlier : wordOf v < place → Copied ph place wf v j
+  here : wordOf v ≡ place → j < wf → Copied ph place wf v j
+
+pub record Agreement (M : Memory) (cur ph place wf : ℕ) : Type 0 where
+  pub refs-agree : 7 ≤ ph → ph ≤ 11 → (v i : ℕ) → In M cur v → replica M v ≢ null → i < refs M v → Copied ph place wf v i
+      → field M (replica M v) i ≡ fwd M (otherHalf cur) (field M v i)
+  pub plains-agree : 7 ≤ ph → ph ≤ 11 → (v i : ℕ) → In M cur v → replica M v ≢ null → i < plains M v → Copied ph place wf v (refs M v + i)
+      → plainOf M (replica M v) i ≡ plainOf M v i

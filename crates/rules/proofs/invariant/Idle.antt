@@ -1,0 +1,110 @@
+-- Groups of the invariant in the phases in which they ask nothing, or little.
+use Prim.Native.Nat.{ℕ, _≤_, _<_}
+use mathlib.Core.Path.{_≡_}
+use mathlib.Core.Logic.{_≢_}
+use mathlib.Core.List.{List}
+use native.Mathlib.Omega.{arith}
+use lib.ListN.{getD}
+use Rattle.rules.specs.Memory.{Memory, null, wordOf, white, colour, replica}
+use Rattle.rules.specs.declared.Session.{Session}
+use Rattle.rules.proofs.memory.Walk.{Walk}
+use Rattle.rules.proofs.invariant.Words.{In, Names, reg}
+use Rattle.rules.proofs.invariant.Groups.{RootHalves, Agreement, NoFlip}
+use Rattle.rules.proofs.invariant.Marking.{Colours, GreyList, Cleaned, Walking}
+
+pub list-idle : {M : Memory} {cur ph : ℕ} {ws : List ℕ} {head tail : ℕ} → ¬ ((1 ≤ ph) × (ph ≤ 4)) → GreyList M cur ph ws head tail
+list-idle n = record {
+  listed = λ a b. absurd (n (a, b));
+  finished = λ a b. absurd (n (a, b));
+  unfinished = λ a b. absurd (n (a, b));
+  found = λ a b. absurd (n (a, b));
+  once = λ a b. absurd (n (a, b));
+  room = λ a b. absurd (n (a, b));
+}
+
+pub cleaned-idle : {M : Memory} {cur ph place wf : ℕ} {ws : List ℕ} {head tail : ℕ} {xs : List Session} {gs : List ℕ}
+    → ¬ ((2 ≤ ph) × (ph ≤ 11)) → Cleaned M cur ph place wf ws head tail xs gs
+cleaned-idle n = record {
+  fields = λ a b. absurd (n (a, b));
+  scanning = λ a. absurd (n (omega arith, omega arith));
+  scanned-within = λ a. absurd (n (omega arith, omega arith));
+  globals-below = λ a. absurd (n (omega arith, omega arith));
+  globals = λ a b. absurd (n (omega arith, b));
+  scanned-done = λ a. absurd (n (omega arith, omega arith));
+  scanned = λ a. absurd (n (omega arith, omega arith));
+  registers = λ a b. absurd (n (omega arith, b));
+}
+
+-- the phases without a walk over records or the list
+pub walking-idle : {M : Memory} {cur ph place wf head tail : ℕ} → ph ≢ 4 → ph ≢ 5 → ph ≢ 7 → ph ≢ 12 → Walking M cur ph place wf head tail
+walking-idle a b c d = record {
+  at-5 = λ o. absurd (b o);
+  at-7 = λ o. absurd (c o);
+  at-12 = λ o. absurd (d o);
+  field-4 = λ o. absurd (a o);
+  field-7 = λ o. absurd (c o);
+  field-7-end = λ o. absurd (c o);
+  cleared = λ o. absurd (d o);
+}
+
+-- up to HeapMark only that its field is 0 where the list is done
+pub walking-early : {M : Memory} {cur ph place wf head tail : ℕ} → ph ≤ 4 → (ph ≡ 4 → head ≡ tail → wf ≡ 0) → Walking M cur ph place wf head tail
+walking-early l d = record {
+  at-5 = λ e. absurd (omega arith);
+  at-7 = λ e. absurd (omega arith);
+  at-12 = λ e. absurd (omega arith);
+  field-4 = d;
+  field-7 = λ e. absurd (omega arith);
+  field-7-end = λ e. absurd (omega arith);
+  cleared = λ e. absurd (omega arith);
+}
+
+-- in Reclaim the walk over the records, those passed cleared
+pub walking-reclaim : {M : Memory} {cur ph place wf head tail : ℕ} → ph ≡ 12 → Walk M cur place
+    → ((v : ℕ) → In M cur v → wordOf v < place → replica M v ≡ null) → Walking M cur ph place wf head tail
+walking-reclaim e w c = record {
+  at-5 = λ a. absurd (omega arith);
+  at-7 = λ a. absurd (omega arith);
+  at-12 = λ a. w;
+  field-4 = λ a. absurd (omega arith);
+  field-7 = λ a. absurd (omega arith);
+  field-7-end = λ a. absurd (omega arith);
+  cleared = λ a. c;
+}
+
+-- where no field need agree
+pub agreement-early : {M : Memory} {cur ph place wf : ℕ} → ph < 7 → Agreement M cur ph place wf
+agreement-early l = record {
+  refs-agree = λ lo hi v i t n b c. absurd (omega arith);
+  plains-agree = λ lo hi v i t n b c. absurd (omega arith);
+}
+
+pub agreement-late : {M : Memory} {cur ph place wf : ℕ} → 11 < ph → Agreement M cur ph place wf
+agreement-late l = record {
+  refs-agree = λ lo hi v i t n b c. absurd (omega arith);
+  plains-agree = λ lo hi v i t n b c. absurd (omega arith);
+}
+
+-- Reclaim asks that all is white
+pub colours-reclaim : {M : Memory} {cur ph place : ℕ} → ph ≡ 12 → ((v : ℕ) → In M cur v → colour M v ≡ white) → Colours M cur ph place
+colours-reclaim e w = record {
+  at-rest = λ a. absurd (omega arith);
+  at-reclaim = λ a. w;
+  none-black = λ a. absurd (omega arith);
+  none-grey = λ a b. absurd (omega arith);
+  replicas-white = λ a. absurd (omega arith);
+  paired-marked = λ a. absurd (omega arith);
+  shelled-below = λ a. absurd (omega arith);
+  shelled = λ a b. absurd (omega arith);
+}
+
+-- outside the flips every root names the current half
+pub roots-home : {cur ph place : ℕ} {xs : List Session} {gs : List ℕ} → NoFlip ph
+    → ((n k : ℕ) → Names cur (reg xs n k)) → ((g : ℕ) → Names cur (getD gs g null)) → RootHalves cur ph place xs gs
+roots-home a r g = record {
+  regs = λ o. r;
+  globals = λ o. g;
+  flipping = λ o. absurd (a .1 o);
+  flipped = λ o. absurd (a .2 o);
+  marked = λ o. absurd (a .2 o);
+}

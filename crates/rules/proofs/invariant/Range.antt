@@ -1,0 +1,174 @@
+-- The control record stays in range: limits, another memory, and other numbers, words and sessions beside it.
+use Prim.Native.Nat.{ℕ, zero, suc, _≤_, _<_, zero-le}
+use mathlib.Core.Path.{_≡_, refl, sym, _∙_}
+use mathlib.Core.Logic.{_≢_}
+use mathlib.Core.Bool.{Bool, true, false, cond}
+use mathlib.Core.List.{List}
+use native.Mathlib.Omega.{arith}
+use lib.Dec.{eqb, leb, leb→le}
+use lib.ListN.{length, getD}
+use borrow.Author.Tests.{ne-eqb}
+use Rattle.rules.specs.Memory.{Memory, half, frontier}
+use Rattle.rules.specs.Control.{Store, Walk, Grey, withMemory, withWalk, withList, withGlobals, withSessions, withCurrent, walkLimit}
+use Rattle.rules.specs.Phases.{nextPhase, sessionAt, absent, moveOn}
+use Rattle.rules.specs.declared.Session.{Session}
+use Rattle.rules.proofs.Ranges.{InRange}
+use Rattle.rules.proofs.memory.Records.{Filled}
+use Rattle.rules.proofs.invariant.Spans.{at-each}
+use Rattle.rules.proofs.invariant.Unmarked.{unmarked-level}
+
+-- ---- limits
+
+-- no frontier passes the half length
+chosen-below : (b : Bool) (x y n : ℕ) → x ≤ n → y ≤ n → cond b x y ≤ n
+chosen-below true x y n p q = p
+chosen-below false x y n p q = q
+
+pub frontier-range : {s : Store} → InRange s → (h : ℕ) → frontier (s .memory) h ≤ s .lengths .half0
+unfolding frontier
+frontier-range {s} k h = chosen-below (eqb h 0) (s .memory .frontier0) (s .memory .frontier1) (s .lengths .half0) (k .front0) (k .front1)
+
+-- both halves are as long as the control record says
+pub half-length : {s : Store} → InRange s → (h : ℕ) → h < 2 → length (half (s .memory) h) ≡ s .lengths .half0
+unfolding half
+half-length k zero l = sym (k .lent0)
+half-length k (suc zero) l = omega (arith, k .lent1, k .equal)
+half-length k (suc (suc h)) l = absurd (omega arith)
+
+-- but in phases 3 and 10 the walk place goes up to the half length
+pub limit-length : (ph n : ℕ) → ph ≢ 3 → ph ≢ 10 → walkLimit ph n ≡ n
+unfolding walkLimit
+limit-length ph n a b = rw (ne-eqb ph 3 a, ne-eqb ph 10 b)
+
+next-most : (ph : ℕ) → ph ≤ 12 → nextPhase ph ≤ 12
+unfolding nextPhase
+next-most ph l = leb→le _ _ (at-each 13 (λ i. leb (nextPhase i) 12) tt ph (omega arith))
+
+-- ---- changes
+
+-- what is asked of the numbers, the list's words and the sessions
+record Numbers (s : Store) (cur ph : ℕ) (w : Walk) (l : Grey) (xs : List Session) : Type 0 where
+  half : cur ≤ 1
+  phases : ph ≤ 12
+  places : w .place ≤ walkLimit ph (s .lengths .half0)
+  fields : w .field ≤ 510
+  same : length (l .words) ≡ length (s .list .words)
+  begins : l .head ≤ l .tail
+  ends : l .tail ≤ s .lengths .list
+  levels : (n : ℕ) → getD xs n absent .level ≤ 6
+
+module _ {s : Store} (k : InRange s) where
+  -- another memory, filled, with halves as long as before
+  pub range-memory : {M′ : Memory} → Filled M′ → ((h : ℕ) → length (half M′ h) ≡ length (half (s .memory) h)) → InRange (withMemory s M′)
+  unfolding half frontier sessionAt
+  range-memory f e = record {
+    lent0 = k .lent0 ∙ sym (e 0);
+    lent1 = k .lent1 ∙ sym (e 1);
+    lent2 = k .lent2;
+    least = k .least;
+    most = k .most;
+    equal = k .equal;
+    enough = k .enough;
+    half = k .half;
+    front0 = let z = f .fits 0 (omega arith) in omega (arith, z, e 0, k .lent0);
+    front1 = let z = f .fits 1 (omega arith) in omega (arith, z, e 1, k .lent1, k .equal);
+    phases = k .phases;
+    places = k .places;
+    fields = k .fields;
+    begins = k .begins;
+    ends = k .ends;
+    levels = k .levels;
+  }
+
+  -- anything but the memory and the lengths
+  range-control : {cur ph : ℕ} {w : Walk} {l : Grey} (gs : List ℕ) {xs : List Session} → Numbers s cur ph w l xs
+      → InRange (record { lengths = s .lengths; memory = s .memory; current = cur; phase = ph; walk = w; list = l; globals = gs; sessions = xs })
+  unfolding sessionAt
+  range-control gs a = record {
+    lent0 = k .lent0;
+    lent1 = k .lent1;
+    lent2 = k .lent2 ∙ sym (a .same);
+    least = k .least;
+    most = k .most;
+    equal = k .equal;
+    enough = k .enough;
+    half = a .half;
+    front0 = k .front0;
+    front1 = k .front1;
+    phases = a .phases;
+    places = a .places;
+    fields = a .fields;
+    begins = a .begins;
+    ends = a .ends;
+    levels = a .levels;
+  }
+
+  -- another walk, list and sessions
+  pub range-with : {p i : ℕ} {ws : List ℕ} {head tail : ℕ} {xs : List Session} → p ≤ walkLimit (s .phase) (s .lengths .half0) → i ≤ 510
+      → length ws ≡ length (s .list .words) → head ≤ tail → tail ≤ length (s .list .words) → ((n : ℕ) → getD xs n absent .level ≤ 6)
+      → InRange (withSessions (withList (withWalk s p i) ws head tail) xs)
+  range-with a b c d e g = range-control (s .globals) (record {
+    half = k .half;
+    phases = k .phases;
+    places = a;
+    fields = b;
+    same = c;
+    begins = d;
+    ends = omega (arith, k .lent2);
+    levels = g;
+  })
+
+  own-levels : (n : ℕ) → getD (s .sessions) n absent .level ≤ 6
+  unfolding sessionAt
+  own-levels = k .levels
+
+  own-ends : s .list .tail ≤ length (s .list .words)
+  own-ends = omega (arith, k .ends, k .lent2)
+
+  -- one of them
+  pub range-walk : (p i : ℕ) → p ≤ walkLimit (s .phase) (s .lengths .half0) → i ≤ 510 → InRange (withWalk s p i)
+  range-walk p i a b = range-with a b refl (k .begins) own-ends own-levels
+
+  pub range-emptied : InRange (withList s (s .list .words) 0 0)
+  range-emptied = range-with (k .places) (k .fields) refl zero-le zero-le own-levels
+
+  pub range-sessions : (xs : List Session) → ((n : ℕ) → getD xs n absent .level ≤ 6) → InRange (withSessions s xs)
+  range-sessions xs g = range-with (k .places) (k .fields) refl (k .begins) own-ends g
+
+  -- other globals, another current half, the next phase
+  pub range-globals : (gs : List ℕ) → InRange (withGlobals s gs)
+  range-globals gs = range-control gs (record {
+    half = k .half;
+    phases = k .phases;
+    places = k .places;
+    fields = k .fields;
+    same = refl;
+    begins = k .begins;
+    ends = k .ends;
+    levels = own-levels;
+  })
+
+  pub range-current : (h : ℕ) → h ≤ 1 → InRange (withCurrent s h)
+  range-current h l = range-control (s .globals) (record {
+    half = l;
+    phases = k .phases;
+    places = k .places;
+    fields = k .fields;
+    same = refl;
+    begins = k .begins;
+    ends = k .ends;
+    levels = own-levels;
+  })
+
+  pub range-moved : InRange (moveOn s)
+  unfolding moveOn
+  range-moved = range-control (s .globals) (record {
+    half = k .half;
+    phases = next-most (s .phase) (k .phases);
+    places = zero-le;
+    fields = zero-le;
+    same = refl;
+    begins = k .begins;
+    ends = k .ends;
+    levels = λ n. rw (unmarked-level (s .sessions) n) (own-levels n);
+  })

@@ -1,0 +1,71 @@
+-- Scanned marks cleared: nothing else of a session changes, and the groups on roots and levels stay.
+use Prim.Native.Nat.{ℕ}
+use mathlib.Core.Path.{_≡_, sym, _∙_}
+use mathlib.Core.Bool.{true, false, false≢true}
+use mathlib.Core.List.{List}
+use lib.ListN.{getD, length, length-map, List·getD-map}
+use Rattle.rules.specs.Memory.{Memory}
+use Rattle.rules.specs.Phases.{absent, withMark, unmarked}
+use Rattle.rules.specs.Free.{FreeSession}
+use Rattle.rules.specs.declared.Session.{Session}
+use Rattle.rules.proofs.invariant.Words.{reg}
+use Rattle.rules.proofs.invariant.Groups.{Roots, Levels, RootHalves}
+
+-- ---- sessions by number
+
+pub unmarked-at : (xs : List Session) (n : ℕ) → getD (unmarked xs) n absent ≡ withMark (getD xs n absent) false
+unfolding unmarked
+unmarked-at xs n = List·getD-map (λ x. withMark x false) xs n absent
+
+unmarked-length : (xs : List Session) → length (unmarked xs) ≡ length xs
+unfolding unmarked
+unmarked-length xs = length-map xs (λ x. withMark x false)
+
+pub unmarked-attached : (xs : List Session) (n : ℕ) → getD (unmarked xs) n absent .attached ≡ getD xs n absent .attached
+unmarked-attached xs n = rw (unmarked-at xs n)
+
+pub unmarked-level : (xs : List Session) (n : ℕ) → getD (unmarked xs) n absent .level ≡ getD xs n absent .level
+unmarked-level xs n = rw (unmarked-at xs n)
+
+unmarked-scanned : (xs : List Session) (n : ℕ) → getD (unmarked xs) n absent .scanned ≡ false
+unmarked-scanned xs n = rw (unmarked-at xs n)
+
+pub unmarked-none : (xs : List Session) (n : ℕ) → getD (unmarked xs) n absent .scanned ≡ true → ⊥
+unmarked-none xs n e = false≢true (sym (unmarked-scanned xs n) ∙ e)
+
+unmarked-registers : (xs : List Session) (n : ℕ) → getD (unmarked xs) n absent .registers ≡ getD xs n absent .registers
+unmarked-registers xs n = rw (unmarked-at xs n)
+
+pub unmarked-reg : (xs : List Session) (n k : ℕ) → reg (unmarked xs) n k ≡ reg xs n k
+unmarked-reg xs n k = rw (unmarked-registers xs n)
+
+-- ---- groups
+
+pub roots-unmarked : {M : Memory} {m : ℕ → ℕ} {xs : List Session} {ys : List FreeSession} {gs fgs : List ℕ}
+    → Roots M m xs ys gs fgs → Roots M m (unmarked xs) ys gs fgs
+roots-unmarked {M} {m} {xs} r = record {
+  sessions = unmarked-length xs ∙ r .sessions;
+  free-sessions = r .free-sessions;
+  registers = λ n l. rw (unmarked-registers xs n) (r .registers n l);
+  free-registers = r .free-registers;
+  globals = r .globals;
+  free-globals = r .free-globals;
+  attached = λ n. rw (unmarked-attached xs n) (r .attached n);
+  idle = λ n k a. rw (unmarked-reg xs n k) (r .idle n k (rw (unmarked-attached xs n) at a));
+  reg-ok = λ n k. rw (unmarked-reg xs n k) (r .reg-ok n k);
+  reg-is = λ n k. rw (unmarked-reg xs n k) (r .reg-is n k);
+  global-ok = r .global-ok;
+  global-is = r .global-is;
+}
+
+pub levels-unmarked : {ph : ℕ} {xs : List Session} → Levels ph xs → Levels ph (unmarked xs)
+levels-unmarked {xs = xs} r = record { allowed = λ n e. rw (unmarked-at xs n) (r .allowed n (rw (unmarked-at xs n) at e)) }
+
+pub root-halves-unmarked : {cur ph place : ℕ} {xs : List Session} {gs : List ℕ} → RootHalves cur ph place xs gs → RootHalves cur ph place (unmarked xs) gs
+root-halves-unmarked {xs = xs} r = record {
+  regs = λ a n k. rw (unmarked-at xs n) (r .regs a n k);
+  globals = r .globals;
+  flipping = r .flipping;
+  flipped = r .flipped;
+  marked = λ a n k e q. absurd (unmarked-none xs n q);
+}

@@ -1,0 +1,71 @@
+-- The grey list and what is clean, after HeapMark has coloured the entry at the list's place black.
+use Prim.Native.Nat.{ℕ, _+_, _≤_, _<_}
+use mathlib.Core.Path.{_≡_, sym, _∙_}
+use mathlib.Core.Logic.{_≢_}
+use mathlib.Core.List.{List}
+use native.Mathlib.Omega.{arith}
+use lib.ListN.{getD}
+use Rattle.rules.specs.Memory.{Memory, null, white, grey, black, colourAt, colour, refs}
+use Rattle.rules.specs.declared.Session.{Session}
+use Rattle.rules.proofs.memory.Cases.{eq-or, lt-or}
+use Rattle.rules.proofs.memory.Put.{PutKept}
+use Rattle.rules.proofs.invariant.Words.{In, Ok, Clean, field}
+use Rattle.rules.proofs.invariant.Marking.{GreyList, Cleaned}
+use Rattle.rules.proofs.frames.Kept.{in-to, in-back}
+use Rattle.rules.proofs.marking.Recolour.{recolour-frame, colour-new, colour-other, field-still, clean-still, total-still}
+
+module _ {M M′ : Memory} {cur ph : ℕ} {ws : List ℕ} {head tail : ℕ} (p : PutKept M M′ (getD ws head null) colourAt black) (is : ph ≡ 4)
+    (two : cur < 2) (g : GreyList M cur ph ws head tail) (more : head < tail) where
+  lo : 1 ≤ ph
+  lo = omega arith
+
+  hi : ph ≤ 4
+  hi = omega arith
+
+  oldest : In M cur (getD ws head null)
+  oldest = g .listed lo hi head more
+
+  -- another entry keeps its colour
+  entry-colour : (i : ℕ) → i < tail → i ≢ head → colour M′ (getD ws i null) ≡ colour M (getD ws i null)
+  entry-colour i l d = colour-other p (g .listed lo hi i l .start) (λ o. d (g .once lo hi i head l more o))
+
+  oldest-grey : colour M (getD ws head null) ≢ white
+  oldest-grey = omega (arith, g .unfinished lo hi head (omega arith) more)
+
+  pub black-list : GreyList M′ cur ph ws (head + 1) tail
+  black-list = record {
+    listed = λ a b i l. in-to (recolour-frame p) (g .listed a b i l);
+    finished = λ a b i l. lt-or i head
+        (λ n. entry-colour i (omega arith) (omega arith) ∙ g .finished a b i n)
+        (λ n. let q : i ≡ head = omega arith in rw q (colour-new p));
+    unfinished = λ a b i n l. entry-colour i l (omega arith) ∙ g .unfinished a b i (omega arith) l;
+    found = λ a b u i c. let o : u ≢ getD ws head null = λ z. (let w : colour M′ (getD ws head null) ≡ grey = rw z at c in omega (arith, colour-new p)) in
+        let j = in-back (recolour-frame p) i in
+        let q = g .found a b u j (sym (colour-other p (j .start) o) ∙ c) in
+        (q .0, lt-or head (q .0) (λ n. omega arith) (λ n. let y : q .0 ≡ head = omega (arith, q .1) in absurd (o (sym (q .3) ∙ rw y))), q .2, q .3);
+    once = g .once;
+    room = λ a b. rw (total-still p (omega arith) two oldest oldest-grey) (g .room a b);
+  }
+
+  -- all its fields are passed
+  pub black-cleaned : {place wf : ℕ} {xs : List Session} {gs : List ℕ} → ((u i : ℕ) → In M cur u → i < refs M u → Ok M (field M u i))
+      → ((k : ℕ) → Ok M (getD gs k null)) → refs M (getD ws head null) ≤ wf
+      → Cleaned M cur ph place wf ws head tail xs gs → Cleaned M′ cur ph place 0 ws (head + 1) tail xs gs
+  black-cleaned {place} {wf} {xs} {gs} ok root all q = record {
+    fields = fields;
+    scanning = λ a b i l. absurd (omega arith);
+    scanned-within = λ a b. omega arith;
+    globals-below = λ a. absurd (omega arith);
+    globals = λ a b k. clean-still p (omega arith) (root k) (q .globals a b k);
+    scanned-done = λ a n c o. absurd (omega (arith, q .scanned-done is n c o));
+    scanned = λ a n k c o. absurd (omega (arith, q .scanned-done is n c o));
+    registers = λ a. absurd (omega arith);
+  }
+    where
+      fields : 2 ≤ ph → ph ≤ 11 → (u i : ℕ) → In M′ cur u → colour M′ u ≡ black → i < refs M′ u → Clean M′ cur (field M′ u i)
+      fields a b u i j c l =
+          let k : In M cur u = in-back (recolour-frame p) j in
+          let n : i < refs M u = rw (p .same-refs (k .start)) at l in
+          field-still p (omega arith) (k .start) i n (ok u i k n) (eq-or u (getD ws head null)
+          (λ o. let y : i < refs M (getD ws head null) = rw o at n in rw o (q .scanning is more i (omega arith)))
+          (λ o. q .fields a b u i k (sym (colour-other p (k .start) o) ∙ c) n))

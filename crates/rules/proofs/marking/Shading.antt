@@ -1,0 +1,164 @@
+-- Shading by the rule: what it gives, and that it keeps the invariant.
+use Prim.Native.Nat.{ℕ, _+_, _≤_, _<_}
+use mathlib.Core.Path.{_≡_, refl, ap}
+use mathlib.Core.Logic.{_≢_}
+use mathlib.Core.Bool.{Bool, true, false, cond}
+use native.Mathlib.Omega.{arith}
+use lib.Dec.{eqb}
+use lib.ListN.{getD, length}
+use lib.Seq.{getD-set-other}
+use borrow.Author.Tests.{ne-eqb, le-leb}
+use Rattle.rules.specs.Refusals.{passed}
+use Rattle.rules.specs.Memory.{Memory, null, frontier, white, grey, colourAt, colour}
+use Rattle.rules.specs.Control.{Store}
+use Rattle.rules.specs.Phases.{absent}
+use Rattle.rules.specs.Barriers.{heapOf, toShade, listRoom, shading, shade}
+use Rattle.rules.specs.Free.{Free}
+use Rattle.rules.proofs.memory.Cases.{eq-or}
+use Rattle.rules.proofs.memory.Records.{Start, Filled, start-nonnull}
+use Rattle.rules.proofs.memory.Put.{PutKept, frontier-put}
+use Rattle.rules.proofs.invariant.Words.{In, Ok, ok-null, ok-start, Names, Clean}
+use Rattle.rules.proofs.invariant.Sim.{Sim}
+use Rattle.rules.proofs.invariant.Laws.{in-half, followed-start}
+use Rattle.rules.proofs.invariant.Unmarked.{unmarked-at}
+use Rattle.rules.proofs.frames.Frame.{Frame, One}
+use Rattle.rules.proofs.frames.Change.{frame-none, frame-wider}
+use Rattle.rules.proofs.marking.Recolour.{colour-new, colour-other, clean-still}
+use Rattle.rules.proofs.marking.Shade.{greyed, shaded, shade-is, greyed-kept, greyed-frame, shade-room, shade-sim}
+
+-- the store with w shaded (nothing where w is null) differs from s in the colour of w, the list and the marks alone
+pub record ShadeKeeps (s : Store) (w : ℕ) : Type 0 where
+  pub frame : Frame (s .memory) (shade s w .memory) (One w colourAt)
+  pub lengths : shade s w .lengths ≡ s .lengths
+  pub current : shade s w .current ≡ s .current
+  pub phase : shade s w .phase ≡ s .phase
+  pub walk : shade s w .walk ≡ s .walk
+  pub globals : shade s w .globals ≡ s .globals
+  pub registers : (n : ℕ) → getD (shade s w .sessions) n absent .registers ≡ getD (s .sessions) n absent .registers
+  pub level : (n : ℕ) → getD (shade s w .sessions) n absent .level ≡ getD (s .sessions) n absent .level
+  pub attached : (n : ℕ) → getD (shade s w .sessions) n absent .attached ≡ getD (s .sessions) n absent .attached
+  pub head : shade s w .list .head ≡ s .list .head
+  pub grows : s .list .tail ≤ shade s w .list .tail
+  pub entries : (i : ℕ) → i < s .list .tail → getD (shade s w .list .words) i null ≡ getD (s .list .words) i null
+  -- what names no white record still names none; what is black stays so
+  pub clean : (h u : ℕ) → Ok (s .memory) u → Clean (s .memory) h u → Clean (shade s w .memory) h u
+  pub other : (u : ℕ) → In (s .memory) (s .current) u → colour (s .memory) u ≢ white → colour (shade s w .memory) u ≡ colour (s .memory) u
+
+-- shading v by the rule passes its tests and shades `it`, which is v or null; v is clean then
+pub record Shaded (K : ℕ → Type 0) (m : ℕ → ℕ) (s : Store) (f : Free) (v : ℕ) : Type 0 where
+  pub it : ℕ
+  pub passes : shading (heapOf s) v ≡ passed it
+  pub sim : Sim K m (shade s it) f
+  pub keeps : ShadeKeeps s it
+  pub clean : Clean (shade s it .memory) (s .current) v
+
+-- ---- what a shade keeps
+
+-- the frontiers, whatever is shaded
+pub shade-front : (s : Store) (w g : ℕ) → frontier (shade s w .memory) g ≡ frontier (s .memory) g
+unfolding shade
+shade-front s w g = pick (eqb w null)
+  where
+    pick : (b : Bool) → frontier (cond b s (shaded s w) .memory) g ≡ frontier (s .memory) g
+    pick true = refl
+    pick false = frontier-put (s .memory) w colourAt grey g
+
+-- nothing shaded
+pub keeps-none : {s : Store} → Filled (s .memory) → ShadeKeeps s null
+unfolding shade
+keeps-none f = record {
+  frame = frame-wider (frame-none f) (λ v j q. absurd q) (λ v q. let e = q .1 in omega arith);
+  lengths = refl;
+  current = refl;
+  phase = refl;
+  walk = refl;
+  globals = refl;
+  registers = λ n. refl;
+  level = λ n. refl;
+  attached = λ n. refl;
+  head = refl;
+  grows = omega arith;
+  entries = λ i l. refl;
+  clean = λ h u ok c. c;
+  other = λ u t c. refl;
+}
+
+-- a white record shaded
+keeps-shade : {K : ℕ → Type 0} {m : ℕ → ℕ} {s : Store} {f : Free} {v : ℕ} → Sim K m s f → 1 ≤ s .phase → s .phase ≤ 4
+    → In (s .memory) (s .current) v → colour (s .memory) v ≡ white → ShadeKeeps s v
+keeps-shade {s = s} {v = v} h lo hi t e = record {
+  frame = rw is (greyed-frame h lo hi t e);
+  lengths = rw is;
+  current = rw is;
+  phase = rw is;
+  walk = rw is;
+  globals = rw is;
+  registers = λ n. rw is (ap (λ x. x .registers) (unmarked-at (s .sessions) n));
+  level = λ n. rw is (ap (λ x. x .level) (unmarked-at (s .sessions) n));
+  attached = λ n. rw is (ap (λ x. x .attached) (unmarked-at (s .sessions) n));
+  head = rw is;
+  grows = rw is (omega arith);
+  entries = λ i l. rw is (getD-set-other (s .list .words) (s .list .tail) i v null (omega arith));
+  clean = λ g u ok c. rw is (clean-still p (omega arith) ok c);
+  other = λ u i c. rw is (colour-other p (i .start) (λ o. c (rw o e)));
+}
+  where
+    is : shade s v ≡ shaded s v
+    is = shade-is h lo hi t e
+
+    p : PutKept (s .memory) (greyed s v) v colourAt grey
+    p = greyed-kept h lo hi t e
+
+-- ---- what is to be shaded
+
+to-shade-null : (M : Memory) → toShade M null ≡ passed null
+unfolding toShade
+to-shade-null M = refl
+
+pub to-shade-white : {M : Memory} {v : ℕ} → Filled M → Start M v → colour M v ≡ white → toShade M v ≡ passed v
+unfolding toShade
+to-shade-white {M} {v} f t e = rw (ne-eqb v null (start-nonnull t), followed-start f t, e)
+
+to-shade-marked : {M : Memory} {v : ℕ} → Filled M → Start M v → colour M v ≢ white → toShade M v ≡ passed null
+unfolding toShade
+to-shade-marked {M} {v} f t d = rw (ne-eqb v null (start-nonnull t), followed-start f t, ne-eqb (colour M v) white d)
+
+pub to-shade-clean : {M : Memory} {h v : ℕ} → Filled M → Ok M v → Names h v → Clean M h v → toShade M v ≡ passed null
+to-shade-clean {M} f (ok-null e) side c = rw e (to-shade-null M)
+to-shade-clean f (ok-start t) side c = to-shade-marked f t (c (start-nonnull t) (side (start-nonnull t)))
+
+-- ---- the rule
+module _ {K : ℕ → Type 0} {m : ℕ → ℕ} {s : Store} {f : Free} {v : ℕ} (h : Sim K m s f) where
+  -- a word that names no white record, in every phase: nothing is shaded
+  pub shading-clean : Ok (s .memory) v → Names (s .current) v → Clean (s .memory) (s .current) v → Shaded K m s f v
+  unfolding shading listRoom shade
+  shading-clean ok side c = record {
+    it = null;
+    passes = rw (to-shade-clean (h .filled) ok side c, le-leb (s .list .tail + 0) (length (s .list .words)) (omega (arith, h .range .ends, h .range .lent2)));
+    sim = h;
+    keeps = keeps-none (h .filled);
+    clean = c;
+  }
+
+  -- a white record: there is room for it
+  shading-white : 1 ≤ s .phase → s .phase ≤ 4 → In (s .memory) (s .current) v → colour (s .memory) v ≡ white → shading (heapOf s) v ≡ passed v
+  unfolding shading listRoom
+  shading-white lo hi t e =
+      rw (to-shade-white (h .filled) (t .start) e, ne-eqb v null (start-nonnull (t .start)), le-leb (s .list .tail + 1) (length (s .list .words)) (shade-room h lo hi t e))
+
+  -- in phases 1 to 4, a word that is kept alive
+  pub shading-marks : 1 ≤ s .phase → s .phase ≤ 4 → Ok (s .memory) v → Names (s .current) v → (v ≢ null → K (m v)) → Shaded K m s f v
+  shading-marks lo hi ok side k = eq-or v null
+      (λ e. shading-clean ok side (λ n. absurd (n e)))
+      (λ n. eq-or (colour (s .memory) v) white
+      (λ e. white-record (in-half ok n side) e n)
+      (λ c. shading-clean ok side (λ x y. c)))
+    where
+      white-record : In (s .memory) (s .current) v → colour (s .memory) v ≡ white → v ≢ null → Shaded K m s f v
+      white-record t e n = record {
+        it = v;
+        passes = shading-white lo hi t e;
+        sim = shade-sim h lo hi t e (k n);
+        keeps = keeps-shade h lo hi t e;
+        clean = λ x y. rw (shade-is h lo hi t e, colour-new (greyed-kept h lo hi t e)) (omega arith);
+      }

@@ -1,0 +1,52 @@
+-- RootMark and HeapMark: the walk goes on, past a global or past a field.
+use Prim.Native.Nat.{ℕ, _+_, _≤_, _<_}
+use mathlib.Core.Path.{_≡_, sym}
+use native.Mathlib.Omega.{arith}
+use lib.ListN.{getD}
+use Rattle.rules.specs.Memory.{null, refs}
+use Rattle.rules.specs.Control.{Store, withWalk, walkLimit}
+use Rattle.rules.specs.Free.{Free}
+use Rattle.rules.proofs.memory.Cases.{lt-or}
+use Rattle.rules.proofs.memory.Records.{start-refs}
+use Rattle.rules.proofs.invariant.Words.{Clean, field}
+use Rattle.rules.proofs.invariant.Sim.{Sim}
+use Rattle.rules.proofs.invariant.Idle.{agreement-early, walking-early}
+use Rattle.rules.proofs.invariant.Walked.{walk-sim}
+
+module _ {K : ℕ → Type 0} {m : ℕ → ℕ} {s : Store} {f : Free} (h : Sim K m s f) where
+  -- RootMark: the global at the walk place is clean
+  pub past-global : s .phase ≡ 3 → (k i : ℕ) → s .walk .place ≡ k → s .walk .field ≡ i → k < 32
+      → Clean (s .memory) (s .current) (getD (s .globals) k null) → Sim K m (withWalk s (k + 1) i) f
+  unfolding walkLimit
+  past-global e k i a b l c = walk-sim h (record {
+    places = rw e (omega arith);
+    fields = omega (arith, h .range .fields);
+    globals-below = λ z g o. lt-or g k
+        (λ n. h .cleaned .globals-below e g (omega arith))
+        (λ n. let j : g ≡ k = omega arith in rw j c);
+    scanning = λ z. absurd (omega arith);
+    scanned-within = λ z. absurd (omega arith);
+    shelled-below = λ z. absurd (omega arith);
+    agreement = agreement-early (omega arith);
+    flipping = λ z. absurd (omega arith);
+    walking = walking-early (omega arith) (λ z. absurd (omega arith));
+  })
+
+  -- HeapMark: the field at the walk field of the entry at the list's place is clean
+  pub past-field : s .phase ≡ 4 → (k i v : ℕ) → s .walk .place ≡ k → s .walk .field ≡ i → s .list .head < s .list .tail
+      → getD (s .list .words) (s .list .head) null ≡ v → i < refs (s .memory) v
+      → Clean (s .memory) (s .current) (field (s .memory) v i) → Sim K m (withWalk s k (i + 1)) f
+  past-field e k i v a b l o n c = walk-sim h (record {
+    places = rw (sym a) (h .range .places);
+    fields = let small : refs (s .memory) v ≤ 255 = rw o at (start-refs (h .filled) (h .grey-list .listed (omega arith) (omega arith) (s .list .head) l .start)) in
+        omega arith;
+    globals-below = λ z. absurd (omega arith);
+    scanning = λ z y j x. lt-or j i
+        (λ n. h .cleaned .scanning e l j (omega arith))
+        (λ n. let w : j ≡ i = omega arith in rw (w, o) c);
+    scanned-within = λ z y. rw o (omega arith);
+    shelled-below = λ z. absurd (omega arith);
+    agreement = agreement-early (omega arith);
+    flipping = λ z. absurd (omega arith);
+    walking = walking-early (omega arith) (λ z y. absurd (omega arith));
+  })

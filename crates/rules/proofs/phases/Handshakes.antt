@@ -1,0 +1,28 @@
+-- Rest, and the phases that wait for every attached session to have the level.
+use Prim.Native.Nat.{ℕ}
+use mathlib.Core.Path.{_≡_, refl}
+use mathlib.Core.Bool.{true}
+use Rattle.rules.specs.Control.{Store}
+use Rattle.rules.specs.Phases.{moveOn}
+use Rattle.rules.specs.Collector.{rest, handshake, haveLevel}
+use Rattle.rules.specs.Free.{Free}
+use Rattle.rules.proofs.memory.Cases.{bool-or}
+use Rattle.rules.proofs.invariant.Sim.{Sim}
+use Rattle.rules.proofs.relation.Stepped.{Stepped, stepped-same}
+use Rattle.rules.proofs.phases.Moves.{Waits, rest-moves, handshake-moves}
+
+module _ {K : ℕ → Type 0} {m : ℕ → ℕ} {s : Store} {f : Free} (h : Sim K m s f) where
+  pub rest-stepped : s .phase ≡ 0 → Stepped K m s f (rest s)
+  unfolding rest moveOn
+  rest-stepped e = stepped-same refl (rest-moves h e) refl
+
+  -- the step moves on if every attached session has the level, else it changes nothing
+  pub waiting-stepped : (haveLevel s ≡ true → Sim K m (moveOn s) f) → Stepped K m s f (handshake s)
+  unfolding handshake moveOn
+  waiting-stepped k = bool-or (haveLevel s)
+      (λ l. stepped-same (rw l) (k l) refl)
+      (λ l. stepped-same (rw l) h refl)
+
+  -- 1, 2, 6, 8, 9
+  pub handshake-stepped : Waits (s .phase) → Stepped K m s f (handshake s)
+  handshake-stepped w = waiting-stepped (handshake-moves h w)

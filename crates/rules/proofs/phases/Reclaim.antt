@@ -1,0 +1,44 @@
+-- 12 Reclaim: the whole unit.
+use Prim.Native.Nat.{ℕ, _≤_, _<_}
+use mathlib.Core.Path.{_≡_, refl}
+use mathlib.Core.Bool.{true, false}
+use native.Mathlib.Omega.{arith}
+use borrow.Author.Tests.{lt-ltb, le-ltb}
+use Rattle.rules.specs.Memory.{null, replicaAt, frontier}
+use Rattle.rules.specs.Control.{Store}
+use Rattle.rules.specs.Phases.{moveOn}
+use Rattle.rules.specs.Collector.{walked, below, pastRecord, haveLevel, reclaim}
+use Rattle.rules.specs.Free.{Free}
+use Rattle.rules.proofs.memory.Cases.{lt-or, bool-or}
+use Rattle.rules.proofs.memory.Put.{frontier-put}
+use Rattle.rules.proofs.invariant.Sim.{Sim}
+use Rattle.rules.proofs.invariant.Laws.{followed-start}
+use Rattle.rules.proofs.relation.Stepped.{Stepped, stepped, stepped-same}
+use Rattle.rules.proofs.phases.Clear.{cleared-in, clear-sim}
+use Rattle.rules.proofs.phases.Reclaimed.{front-less-0, front-less-1, reclaim-moves}
+
+module _ {K : ℕ → Type 0} {m : ℕ → ℕ} {s : Store} {f : Free} (h : Sim K m s f) (e : s .phase ≡ 12) where
+  -- below the frontier
+  clears : haveLevel s ≡ true → s .walk .place < frontier (s .memory) (s .current) → Stepped K m s f (reclaim s)
+  unfolding reclaim below pastRecord
+  clears a l = stepped
+      (rw (a, lt-ltb (s .walk .place) (frontier (s .memory) (s .current)) l, followed-start (h .filled) (cleared-in h e l .start)))
+      (clear-sim h e l)
+      (omega (arith, frontier-put (s .memory) (walked s) replicaAt null 0))
+      (omega (arith, frontier-put (s .memory) (walked s) replicaAt null 1))
+
+  -- at the frontier
+  ends : haveLevel s ≡ true → frontier (s .memory) (s .current) ≤ s .walk .place → Stepped K m s f (reclaim s)
+  unfolding reclaim below moveOn
+  ends a d = stepped
+      (rw (a, le-ltb (s .walk .place) (frontier (s .memory) (s .current)) d))
+      (reclaim-moves h e d a) (front-less-0 h e d) (front-less-1 h e d)
+
+  waits : haveLevel s ≡ false → Stepped K m s f (reclaim s)
+  unfolding reclaim
+  waits a = stepped-same (rw a) h refl
+
+  pub reclaim-stepped : Stepped K m s f (reclaim s)
+  reclaim-stepped = bool-or (haveLevel s)
+      (λ a. lt-or (s .walk .place) (frontier (s .memory) (s .current)) (clears a) (ends a))
+      waits

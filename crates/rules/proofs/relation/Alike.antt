@@ -1,0 +1,61 @@
+-- What is shown of a session call: it ends alike on the store and on the collector-free store. The two rules have the same tests in
+-- the same order; those that only the store has (4 and 12) pass.
+use Prim.Native.Nat.{ℕ}
+use mathlib.Core.Path.{_≡_, refl}
+use mathlib.Core.Logic.{_≢_}
+use mathlib.Core.Bool.{Bool, true, false, not, _||_}
+use native.Mathlib.Omega.{arith}
+use lib.Dec.{T, eqb, T-not}
+use Rattle.rules.specs.Refusals.{Tested, refused, passed, check, _>>=_, _>>_, Outcome, Reply}
+use Rattle.rules.specs.Memory.{frontier}
+use Rattle.rules.specs.Control.{Store}
+use Rattle.rules.specs.Free.{Free}
+use Rattle.rules.proofs.invariant.Sim.{Sim}
+use Rattle.rules.proofs.relation.Tracks.{Tracks, tracks-stay}
+
+-- ---- two rules: refused alike, with neither 4 nor 12, or passed with what is related
+
+pub data Both {A B : Type 0} (R : A → B → Type 0) : Tested A → Tested B → Type 0 where
+  refused-both : (n : ℕ) → n ≢ 4 → n ≢ 12 → Both R (refused n) (refused n)
+  passed-both : {a : A} {b : B} → R a b → Both R (passed a) (passed b)
+
+-- a refusal number that a run may give: neither 4 nor 12
+abbrev pub mayRefuse : ℕ → Bool
+mayRefuse n = not (eqb n 4 || eqb n 12)
+
+may-not : (n k : ℕ) → T (mayRefuse n) → T (not (mayRefuse k)) → n ≢ k
+may-not n k t u e = T-not (mayRefuse k) u (rw e at t)
+
+-- the same test on both sides, with such a number
+pub both-check : {A B : Type 0} {R : A → B → Type 0} (b : Bool) (n : ℕ) → T (mayRefuse n) → {t : Tested A} {u : Tested B}
+    → (b ≡ true → Both R t u) → Both R (check b n >> t) (check b n >> u)
+both-check true n x c = c refl
+both-check false n x c = refused-both n (may-not n 4 x tt) (may-not n 12 x tt)
+
+-- a test that is equal on both sides
+pub both-check-eq : {A B : Type 0} {R : A → B → Type 0} (b c : Bool) (n : ℕ) → b ≡ c → T (mayRefuse n) → {t : Tested A} {u : Tested B}
+    → (b ≡ true → Both R t u) → Both R (check b n >> t) (check c n >> u)
+both-check-eq b c n e x k = rw (← e) (both-check b n x k)
+
+-- tests that pass on the store's side alone: a rule t that passes with a
+pub both-passes : {A B C : Type 0} {R : B → C → Type 0} (t : Tested A) (a : A) → t ≡ passed a → (k : A → Tested B) {u : Tested C}
+    → Both R (k a) u → Both R (t >>= k) u
+both-passes t a e k c = rw e c
+
+-- ---- a session call on both stores: where it passes, with the same reply and the invariant kept; q is the place of a record that
+-- the call may have written
+
+pub record Left (K : ℕ → Type 0) (q : ℕ) (m : ℕ → ℕ) (s : Store) (o : Outcome Store) (p : Outcome Free) : Type 0 where
+  pub place : ℕ → ℕ
+  pub sim : Sim K place (o .store) (p .store)
+  pub reply : o .reply ≡ p .reply
+  pub tracks : Tracks q m place (s .memory) (o .store .memory)
+
+abbrev pub Alike : (K : ℕ → Type 0) (q : ℕ) (m : ℕ → ℕ) (s : Store) → Tested (Outcome Store) → Tested (Outcome Free) → Type 0
+Alike K q m s = Both (Left K q m s)
+
+-- a call that ends with one reply on both sides and moves no frontier
+pub alike-done : {K : ℕ → Type 0} {q : ℕ} {m : ℕ → ℕ} {s t : Store} {g : Free} {r r′ : Reply} → Sim K m t g → r ≡ r′
+    → frontier (t .memory) 0 ≡ frontier (s .memory) 0 → frontier (t .memory) 1 ≡ frontier (s .memory) 1
+    → Alike K q m s (passed (record { store = t; reply = r })) (passed (record { store = g; reply = r′ }))
+alike-done {K} {q} {m} {s} {t} h e a b = passed-both (record { place = m; sim = h; reply = e; tracks = tracks-stay q m (s .memory) (t .memory) (omega arith) (omega arith) })

@@ -1,0 +1,13 @@
+-- The run theorem: a new store has the invariant, and every call and every step keeps it. It rests on all layers below.
+
+-- a newly made store
+pub mod Start
+-- a step, and any call
+pub mod Step
+pub mod Call
+-- runs: the invariant, and the session answers
+pub mod Runs
+-- what a collection frees
+pub mod Freed
+-- the claims 2 to 4
+pub mod Claims

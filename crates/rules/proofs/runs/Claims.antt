@@ -1,0 +1,47 @@
+-- The claims about runs: answers, no damage, ranges, two runs, what is freed.
+use Prim.Native.Nat.{ℕ}
+use mathlib.Core.List.{List}
+use Rattle.rules.specs.Control.{Store}
+use Rattle.rules.specs.Runs.{Call}
+use Rattle.rules.specs.Tracking.{newBeside, beside}
+use Rattle.rules.specs.Claims.{Made, Answers, NoDamage, StaysInRange, TwoRuns, Freed}
+use Rattle.rules.proofs.Ranges.{in-range-tested}
+use Rattle.rules.proofs.claims.TwoRuns as pair
+use Rattle.rules.proofs.runs.Start.{start-sim}
+use Rattle.rules.proofs.runs.Call.{one-call}
+use Rattle.rules.proofs.runs.Runs.{Holds, run-holds, beside-store, run-answers}
+use Rattle.rules.proofs.runs.Freed.{freed-between}
+
+-- every place may stay
+abbrev Any : ℕ → Type 0
+Any q = Unit {0}
+
+-- the invariant in every run
+module _ (s : Store) (made : Made s) where
+  start-holds : Holds Any (newBeside s)
+  start-holds = start-sim Any (λ q l. tt) s made
+
+  holds : (cs : List Call) → Holds Any (beside (newBeside s) cs)
+  holds cs = run-holds (newBeside s) start-holds cs
+
+pub answers : Answers
+unfolding Answers
+answers s made cs = run-answers (newBeside s) (start-holds s made) cs
+
+pub no-damage : NoDamage
+unfolding NoDamage
+no-damage s made cs c =
+    let k = one-call (beside (newBeside s) cs) (holds s made cs) c in
+    rw (← beside-store (newBeside s) cs) (k .not-4, k .not-12)
+
+pub stays-in-range : StaysInRange
+unfolding StaysInRange
+stays-in-range s made cs = rw (← beside-store (newBeside s) cs) (in-range-tested (holds s made cs .range))
+
+pub two-runs : TwoRuns
+two-runs = pair.two-runs answers
+
+pub freed : Freed
+unfolding Freed
+freed s made cs ds begins ends =
+    freed-between (beside (newBeside s) cs) (holds s made cs) (rw (beside-store (newBeside s) cs) begins) ds (rw (beside-store (newBeside s) cs) ends)

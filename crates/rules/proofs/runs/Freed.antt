@@ -1,0 +1,128 @@
+-- What was unreachable when a collection began takes up no word when it has ended: the invariant with the places that were
+-- reached then, or have been allocated since, as those to be kept.
+use Prim.Native.Nat.{ℕ, _-_, _<_}
+use mathlib.Core.Path.{_≡_, sym, ap, _∙_, fun-ext, subst}
+use mathlib.Core.Logic.{_≢_, _⊎_, inl, inr}
+use mathlib.Core.List.{List, _∷_, List·Memᴰ}
+use native.Mathlib.Omega.{arith}
+use lib.ListN.{getD, length, List·getD-eq-default}
+use Rattle.rules.specs.Memory.{null, halfOf, size, sizeOf, refs, plains}
+use Rattle.rules.specs.Control.{withList}
+use Rattle.rules.specs.Phases.{moveOn, nextPhase}
+use Rattle.rules.specs.Collector.{rest, step, walked, units, handshake}
+use Rattle.rules.specs.Runs.{Call, Step, apply, after}
+use Rattle.rules.specs.Free.{Free, Record, noRecord, recordAt, freeSession, freeRegister}
+use Rattle.rules.specs.Tracking.{Beside, track, besideCall, beside, Reached, by-register, by-global, by-field}
+use Rattle.rules.specs.Claims.{FreedBetween, leftIn}
+use Rattle.rules.proofs.Ranges.{in-range-tested}
+use Rattle.rules.proofs.memory.Records.{Start, size-fields}
+use Rattle.rules.proofs.memory.Listing.{mapped-start, mapped-once, mapped-words}
+use Rattle.rules.proofs.invariant.Words.{recOf}
+use Rattle.rules.proofs.invariant.Marking.{Kept}
+use Rattle.rules.proofs.invariant.Laws.{cur-two}
+use Rattle.rules.proofs.relation.Tracks.{tracked, tracks-none}
+use Rattle.rules.proofs.runs.Call.{one-call}
+use Rattle.rules.proofs.runs.Runs.{Holds, run-holds, beside-store}
+
+-- the places to keep: reached when the collection begins, or allocated since
+abbrev pub Living : Free → ℕ → Type 0
+Living f q = Reached f q ⊎ length (f .records) < q
+
+-- ---- the step that leaves phase 0
+
+-- as the step leaves it
+abbrev begun : Beside → Beside
+begun b = record { store = moveOn (withList (b .store) (b .store .list .words) 0 0); free = b .free; place = b .place }
+
+module _ {K : ℕ → Type 0} (b : Beside) (h : Holds K b) (z : b .store .phase ≡ 0) where
+  first-unit : getD units (b .store .phase) handshake (b .store) ≡ rest (b .store)
+  first-unit = ap (λ ph. getD units ph handshake (b .store)) z
+
+  begins : apply (b .store) Step .store ≡ begun b .store
+  unfolding step rest
+  begins = rw (in-range-tested (h .range), first-unit)
+
+  no-place : track b Step ≡ b .place
+  unfolding track tracked moveOn
+  no-place = rw begins (fun-ext (λ u. sym (tracks-none (b .place (walked (b .store))) (b .place) (b .store .memory) u)))
+
+  first-step : besideCall b Step ≡ begun b
+  first-step = rw (begins, no-place)
+
+  begun-holds : Holds K (begun b)
+  begun-holds = subst (Holds K) first-step (one-call b h Step .sim)
+
+  -- ---- nothing is marked yet, so any closed set of places may be kept
+
+  no-fields : (rs : List Record) (q i : ℕ) → length rs < q → getD (recOf rs q .refs) i null ≡ null
+  no-fields rs q i l = rw (List·getD-eq-default rs noRecord {n = q - 1} (omega arith))
+
+  living : Kept (Living (b .free)) (b .store .memory) (b .place) (b .store .current) 1 (b .free .records) (b .free .sessions) (b .free .globals)
+  unfolding freeSession freeRegister recordAt
+  living = record {
+    to-come = λ q l. inr l;
+    registers = λ n k e. inl (by-register n k e);
+    globals = λ g e. inl (by-global g e);
+    fields = field;
+    marked = λ lo hi v t e. absurd (e (h .colours .at-rest z v t));
+    left-12 = λ e. absurd (omega arith);
+    left-0 = λ e. absurd (omega arith);
+  }
+    where
+      field : (q i : ℕ) → Living (b .free) q → getD (recOf (b .free .records) q .refs) i null ≢ null → Living (b .free) (getD (recOf (b .free .records) q .refs) i null)
+      field q i (inl r) e = inl (by-field q i r e)
+      field q i (inr l) e = absurd (e (no-fields (b .free .records) q i l))
+
+  phase-1 : begun b .store .phase ≡ 1
+  unfolding moveOn nextPhase
+  phase-1 = rw z
+
+  begun-kept : Kept (Living (b .free)) (begun b .store .memory) (b .place) (begun b .store .current) (begun b .store .phase) (b .free .records) (b .free .sessions) (b .free .globals)
+  unfolding moveOn
+  begun-kept = rw (phase-1) living
+
+  living-holds : Holds (Living (b .free)) (begun b)
+  living-holds = let k = begun-holds in record {
+    range = k .range;
+    filled = k .filled;
+    identity = k .identity;
+    values = k .values;
+    roots = k .roots;
+    levels = k .levels;
+    root-halves = k .root-halves;
+    field-halves = k .field-halves;
+    pairs = k .pairs;
+    agreement = k .agreement;
+    colours = k .colours;
+    grey-list = k .grey-list;
+    cleaned = k .cleaned;
+    walking = k .walking;
+    kept = begun-kept;
+  }
+
+-- ---- back in phase 0
+
+module _ {K : ℕ → Type 0} {e : Beside} (h : Holds K e) (z : e .store .phase ≡ 0) where
+  sizes : (v : ℕ) → Start (e .store .memory) v → halfOf v ≡ e .store .current
+      → sizeOf (length (recordAt (e .free) (e .place v) .refs)) (length (recordAt (e .free) (e .place v) .plains)) ≡ size (e .store .memory) v
+  unfolding recordAt
+  sizes v t side = rw (h .identity .nrefs v t, h .identity .nplains v t) (sym (size-fields (e .store .memory) v))
+
+  left-of : (q : ℕ) → List·Memᴰ q (leftIn e) → K q
+  left-of q i =
+      let l = mapped-start (h .filled) (cur-two h) (e .place) i in
+      rw (l .value) at (h .kept .left-0 z (l .named) (record { start = l .start; side = l .side }))
+
+  ended : (b : Beside) → ((q : ℕ) → K q → Living (b .free) q) → FreedBetween b e (leftIn e)
+  ended b k = record {
+    kept = λ q i. k q (left-of q i);
+    once = mapped-once (h .filled) (cur-two h) (e .place) (λ u v t a w c. h .identity .apart u v t w (a ∙ sym c));
+    used = sym (mapped-words (h .filled) (cur-two h) (e .place) (e .free) sizes);
+    emptied = h .pairs .empty (omega arith);
+  }
+
+pub freed-between : {K : ℕ → Type 0} (b : Beside) → Holds K b → b .store .phase ≡ 0 → (ds : List Call) → after (b .store) (Step ∷ ds) .phase ≡ 0
+    → FreedBetween b (beside b (Step ∷ ds)) (leftIn (beside b (Step ∷ ds)))
+freed-between b h z ds back =
+    let k : Holds (Living (b .free)) (beside (besideCall b Step) ds) = rw (first-step b h z) (run-holds (begun b) (living-holds b h z) ds) in
+    ended k (rw (beside-store b (Step ∷ ds)) back) b (λ q l. l)

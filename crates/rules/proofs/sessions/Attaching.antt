@@ -1,0 +1,83 @@
+-- The calls that attach and detach a session, and the safe point, which is no session call.
+use Prim.Native.Nat.{ℕ, _≤_}
+use mathlib.Core.Path.{refl, sym}
+use mathlib.Core.Logic.{inl}
+use mathlib.Core.Bool.{Bool, true, false, not, true≢false}
+use native.Mathlib.Omega.{arith}
+use lib.Dec.{leb}
+use lib.ListN.{replicate}
+use borrow.Author.Tests.{leb-true}
+use Rattle.rules.specs.Refusals.{_>>=_, done}
+use Rattle.rules.specs.Memory.{null}
+use Rattle.rules.specs.Control.{Store, registerCount}
+use Rattle.rules.specs.Phases.{levelOf, sessionAt, withSession}
+use Rattle.rules.specs.Calls as calls
+use Rattle.rules.specs.Free.{Free, freeSession, freeNobody, freeSessionOf, freeAttach, freeDetach}
+use Rattle.rules.proofs.Ranges.{in-range-tested}
+use Rattle.rules.proofs.memory.Lists.{zeros}
+use Rattle.rules.proofs.invariant.Sim.{Sim}
+use Rattle.rules.proofs.invariant.Spans.{level-most}
+use Rattle.rules.proofs.relation.Alike.{Alike, both-check, alike-done}
+use Rattle.rules.proofs.relation.Tests.{same-attached, both-session}
+use Rattle.rules.proofs.sessions.Session.{SessionFits, session-sim, session-sim-same, session-fits, null-fits, refit}
+
+module _ {K : ℕ → Type 0} {m : ℕ → ℕ} {s : Store} {f : Free} (h : Sim K m s f) where
+  phase-level : levelOf (s .phase) ≤ 6
+  phase-level = level-most (s .phase) (levelOf (s .phase)) (h .range .phases) (inl refl)
+
+  attached-fits : SessionFits K m s (record { registers = replicate registerCount null; level = levelOf (s .phase); attached = true; scanned = false })
+      (record { attached = true; registers = replicate registerCount null })
+  attached-fits = record {
+    registers = refl;
+    free-registers = refl;
+    attached = refl;
+    low = phase-level;
+    allowed = λ e. inl refl;
+    idle = λ e. absurd (true≢false e);
+    done = λ p a e. absurd (true≢false (sym e));
+    words = λ e k. rw (zeros 8 k) (null-fits h _);
+    free-idle = λ e. absurd (true≢false e);
+  }
+
+  detached-fits : (b : Bool) → SessionFits K m s (record { registers = replicate registerCount null; level = 0; attached = false; scanned = b }) freeNobody
+  detached-fits b = record {
+    registers = refl;
+    free-registers = refl;
+    attached = refl;
+    low = omega arith;
+    allowed = λ e. absurd (true≢false (sym e));
+    idle = λ e k. zeros 8 k;
+    done = λ p e. absurd (true≢false (sym e));
+    words = λ e. absurd (true≢false (sym e));
+    free-idle = λ e k. zeros 8 k;
+  }
+
+  -- the session at the phase's level
+  safe-fits : (n : ℕ) → n ≤ 15
+      → SessionFits K m s (record { registers = sessionAt s n .registers; level = levelOf (s .phase); attached = sessionAt s n .attached; scanned = sessionAt s n .scanned }) (freeSession f n)
+  safe-fits n l = let z = session-fits h n l in record {
+    registers = z .registers;
+    free-registers = z .free-registers;
+    attached = z .attached;
+    low = phase-level;
+    allowed = λ e. inl refl;
+    idle = z .idle;
+    done = z .done;
+    words = λ e k. refit _ refl (z .words e k);
+    free-idle = z .free-idle;
+  }
+
+  pub attach-alike : (n q : ℕ) → Alike K q m s (calls.attach s n) (freeAttach f n)
+  unfolding calls.attach freeAttach withSession
+  attach-alike n q = rw (in-range-tested (h .range), same-attached h n) (both-check (leb n 15) 5 tt
+      (λ l. both-check (not (sessionAt s n .attached)) 7 tt
+      (λ e. alike-done (session-sim h n (leb-true n 15 l) attached-fits) refl refl refl)))
+
+  pub detach-alike : (n q : ℕ) → Alike K q m s (calls.detach s n) (freeDetach f n)
+  unfolding calls.detach freeDetach withSession
+  detach-alike n q = both-session h n _ _ (λ a. alike-done (session-sim h n (a .number) (detached-fits _)) refl refl refl)
+
+  -- the collector-free store has no safe point: beside it the same session tests, and nothing changed
+  pub safe-point-alike : (n q : ℕ) → Alike K q m s (calls.safePoint s n) (freeSessionOf f n >>= λ x. done f)
+  unfolding calls.safePoint withSession
+  safe-point-alike n q = both-session h n _ _ (λ a. alike-done (session-sim-same h n (a .number) (safe-fits n (a .number))) refl refl refl)
