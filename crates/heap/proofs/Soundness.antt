@@ -1,0 +1,143 @@
+-- What following a reference finds.
+use Prim.Native.Nat.{ℕ, _+_, _/_, _%_, _≤_, _<_}
+use mathlib.Core.Path.{_≡_, _∙_, sym, refl, ap}
+use mathlib.Core.Bool.{Bool, true, false, cond, _&&_}
+use mathlib.Core.List.{List}
+use native.Mathlib.Omega.{arith}
+use native.Mathlib.Nat.{add-zero}
+use lib.Dec.{leb}
+use lib.ListN.{length, getD}
+use borrow.Author.Tests.{le-leb, lt-leb, leb-true}
+use Rattle.rules.specs.Memory.{Memory, half, frontier, halfOf, wordOf, refsOf, plainsOf, word, colour, refs, plains, size, sound, follow}
+use Rattle.rules.specs.declared.Followed.{Followed}
+use Rattle.rules.specs.declared.Followed.the-variants.{Sound, Damage}
+use Rattle.heap.specs.View.{memory, Inside}
+use Rattle.heap.proofs.Halves.{half-any, frontier-within}
+
+and-false : (b : Bool) → (b && false) ≡ false
+and-false true = refl
+and-false false = refl
+
+-- ---- the code's tests are those of sound
+
+pub follow-none : (M : Memory) (v : ℕ) → v < 2 → Damage ≡ follow M v
+unfolding follow sound
+follow-none M v l = rw (lt-leb 2 v l)
+
+module _ (M : Memory) (v at f : ℕ) (W : List ℕ) (a : at ≡ wordOf v) (w : W ≡ half M (halfOf v)) (e : f ≡ frontier M (halfOf v)) where
+  shape-word : word M v 0 ≡ getD W at 0
+  unfolding word
+  shape-word = rw (add-zero, w, a)
+
+  colour-word : colour M v ≡ getD W (at + 1) 0
+  unfolding colour word
+  colour-word = rw (w, a)
+
+  end-word : wordOf v + size M v ≡ at + 3 + getD W at 0 / 256 + getD W at 0 % 256
+  unfolding size refs plains refsOf plainsOf
+  end-word = rw (shape-word, a) (omega arith)
+
+  pub follow-short : f < at + 3 → Damage ≡ follow M v
+  unfolding follow sound
+  follow-short l =
+      let s : frontier M (halfOf v) < wordOf v + size M v = omega (arith, end-word) in
+      rw (lt-leb (wordOf v + size M v) (frontier M (halfOf v)) s, and-false)
+
+  sound-tests : 2 ≤ v → sound M v ≡ (leb (getD W at 0) 65535 && leb (getD W (at + 1) 0) 2 && leb (at + 3 + getD W at 0 / 256 + getD W at 0 % 256) f)
+  unfolding sound
+  sound-tests n = rw (le-leb 2 v n, shape-word, colour-word, end-word, e)
+
+  pub follow-sound : 2 ≤ v → (leb (getD W at 0) 65535 && leb (getD W (at + 1) 0) 2 && leb (at + 3 + getD W at 0 / 256 + getD W at 0 % 256) f) ≡ true
+      → Sound at (getD W at 0 / 256) (getD W at 0 % 256) ≡ follow M v
+  unfolding follow refs plains refsOf plainsOf
+  follow-sound n b = rw (sound-tests n ∙ b, shape-word, a)
+
+  pub follow-damage : 2 ≤ v → (leb (getD W at 0) 65535 && leb (getD W (at + 1) 0) 2 && leb (at + 3 + getD W at 0 / 256 + getD W at 0 % 256) f) ≡ false
+      → Damage ≡ follow M v
+  unfolding follow
+  follow-damage n b = rw (sound-tests n ∙ b)
+
+-- ---- what is known of a record found
+
+pub record Found (M : Memory) (v at r p : ℕ) : Type 0 where
+  pub named : 2 ≤ v
+  pub sound : sound M v ≡ true
+  pub place : at ≡ wordOf v
+  pub refs : r ≡ refs M v
+  pub plains : p ≡ plains M v
+  pub few : r ≤ 255
+  pub some : p ≤ 255
+  pub below : wordOf v + size M v ≤ frontier M (halfOf v)
+
+split : (b : Bool) (k x y : ℕ) {at r p : ℕ} → cond b (Sound k x y) Damage ≡ Sound at r p → (b ≡ true) × (k ≡ at) × (x ≡ r) × (y ≡ p)
+split true k x y e = (refl, cc, cc, cc)
+split false k x y e = absurd (let z : _≡_ {A = ℕ} 0 1 = cc in omega arith)
+
+both : (a b : Bool) → (a && b) ≡ true → (a ≡ true) × (b ≡ true)
+both true b e = (refl, e)
+both false b e = absurd (let z : _≡_ {A = ℕ} 0 1 = cc in omega arith)
+
+-- the tests of a sound reference, and its counts
+small : (w : ℕ) → w ≤ 65535 → (refsOf w ≤ 255) × (plainsOf w ≤ 255)
+unfolding refsOf plainsOf
+small w h = (omega arith, omega arith)
+
+sound-passed : (M : Memory) (v : ℕ) → sound M v ≡ true
+    → (2 ≤ v) × (word M v 0 ≤ 65535) × (wordOf v + size M v ≤ frontier M (halfOf v))
+unfolding sound
+sound-passed M v e =
+    let x = both (leb 2 v && leb (word M v 0) 65535 && leb (colour M v) 2) (leb (wordOf v + size M v) (frontier M (halfOf v))) e in
+    let y = both (leb 2 v && leb (word M v 0) 65535) (leb (colour M v) 2) (x .0) in
+    let z = both (leb 2 v) (leb (word M v 0) 65535) (y .0) in
+    (leb-true 2 v (z .0), leb-true (word M v 0) 65535 (z .1), leb-true (wordOf v + size M v) (frontier M (halfOf v)) (x .1))
+
+pub sound-named : (M : Memory) (v : ℕ) → sound M v ≡ true → 2 ≤ v
+sound-named M v e = sound-passed M v e .0
+
+pub sound-below : (M : Memory) (v : ℕ) → sound M v ≡ true → wordOf v + size M v ≤ frontier M (halfOf v)
+sound-below M v e = sound-passed M v e .2
+
+sound-small : (M : Memory) (v : ℕ) → sound M v ≡ true → (refs M v ≤ 255) × (plains M v ≤ 255)
+unfolding refs plains
+sound-small M v e = small (word M v 0) (sound-passed M v e .1)
+
+pub found : {x : Followed} (M : Memory) (v : ℕ) {at r p : ℕ} → x ≡ follow M v → x ≡ Sound at r p → Found M v at r p
+unfolding follow
+found M v e s =
+    let q = split (sound M v) (wordOf v) (refs M v) (plains M v) (sym e ∙ s) in
+    let n = sound-small M v (q .0) in
+    record {
+      named = sound-named M v (q .0);
+      sound = q .0;
+      place = sym (q .1);
+      refs = sym (q .2);
+      plains = sym (q .3);
+      few = rw (← q .2) (n .0);
+      some = rw (← q .3) (n .1);
+      below = sound-below M v (q .0);
+    }
+
+unsplit : (b : Bool) (k x y : ℕ) → cond b (Sound k x y) Damage ≡ Damage → b ≡ false
+unsplit true k x y e = absurd (let z : _≡_ {A = ℕ} 0 1 = cc in omega arith)
+unsplit false k x y e = refl
+
+pub lost : {x : Followed} (M : Memory) (v : ℕ) → x ≡ follow M v → x ≡ Damage → sound M v ≡ false
+unfolding follow
+lost M v e d = unsplit (sound M v) _ _ _ (sym e ∙ d)
+
+-- ---- the words of a sound record are words of its half
+
+module _ (h0 h1 : List ℕ) (f0 f1 v : ℕ) (s : sound (memory h0 h1 f0 f1) v ≡ true) (a : f0 ≤ length h0) (b : f1 ≤ length h1) where
+  pub sound-inside : (j : ℕ) → j < size (memory h0 h1 f0 f1) v → Inside h0 h1 v j
+  sound-inside j l =
+      let f = frontier-within h0 h1 f0 f1 v a b in
+      let k = sound-below (memory h0 h1 f0 f1) v s in
+      let e = ap length (half-any h0 h1 f0 f1 (halfOf v)) in
+      record { named = sound-named (memory h0 h1 f0 f1) v s; below = omega arith }
+
+  in-header : (j : ℕ) → j < 3 → j < size (memory h0 h1 f0 f1) v
+  unfolding size
+  in-header j l = omega arith
+
+  pub header-inside : (j : ℕ) → j < 3 → Inside h0 h1 v j
+  header-inside j l = sound-inside j (in-header j l)

@@ -1,0 +1,32 @@
+-- `heap::forwarding::other_copy` meets its contract.
+use Rattle.heap.proofs.Soundness.{found, header-inside}
+use Rattle.heap.proofs.Copies.{copy-damage, copy-own, copy-other}
+use borrow.Author.Needs.{needs}
+use Rattle.heap.proofs.forwarding.other_copy.Statement.{statement}
+use Rattle.heap.proofs.forwarding.other_copy.Tie as tie
+
+follow-requires : tie.Need-follow-requires
+follow-requires c κs = search needs
+
+enum-told : tie.Need-enum-told
+enum-told c = search needs
+
+enum-told-2 : tie.Need-enum-told-2
+enum-told-2 c = search needs
+
+returns : tie.Need-returns
+returns c = copy-damage _ _ (c .before .before .follow .ensures) (c .enum-told2 .given .1)
+
+get-word-requires : tie.Need-get-word-requires
+get-word-requires c κs = header-inside _ _ _ _ _ (found _ _ (c .before .before .follow .ensures) (c .enum-told .given .1) .sound) (c .before .before .before .before .before .pre .low) (c .before .before .before .before .before .pre .high) 2 (search needs)
+
+returns-2 : tie.Need-returns-2
+returns-2 c = copy-own _ _ (c .before .before .before .before .follow .ensures) (c .before .before .enum-told .given .1) (c .before .get-word .ensures _ _) (c .if1 .taken)
+
+returns-3 : tie.Need-returns-3
+returns-3 c = copy-other _ _ (c .before .before .before .before .follow .ensures) (c .before .before .enum-told .given .1) (c .before .get-word .ensures _ _) (c .if1 .left)
+
+pub other-copy-spec : {M : Type 1} → statement M
+other-copy-spec =
+    tie.close
+    (tie.spec follow-requires enum-told enum-told-2 returns get-word-requires returns-2 returns-3)

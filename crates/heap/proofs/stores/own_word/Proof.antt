@@ -1,0 +1,46 @@
+-- `heap::stores::own_word` meets its contract.
+use borrow.Author.Tests.{eq-eqb, ne-eqb}
+use Rattle.rules.specs.Barriers.{ownWord}
+use borrow.Author.Needs.{needs}
+use Rattle.heap.proofs.stores.own_word.Statement.{statement}
+use Rattle.heap.proofs.stores.own_word.Tie as tie
+
+forward-requires : tie.Need-forward-requires
+forward-requires c κs = search needs
+
+returns : tie.Need-returns
+unfolding ownWord
+returns c = rw (eq-eqb _ _ (c .before .if1 .taken)) (c .forward .ensures)
+
+other-half-requires : tie.Need-other-half-requires
+other-half-requires c κs = search needs
+
+in-half-requires : tie.Need-in-half-requires
+in-half-requires c κs = search needs
+
+in-half-requires-2 : tie.Need-in-half-requires-2
+in-half-requires-2 c κs = search needs
+
+other-copy-requires : tie.Need-other-copy-requires
+other-copy-requires c κs = search needs
+
+returns-2 : tie.Need-returns-2
+unfolding ownWord
+returns-2 c = rw (ne-eqb _ _ (c .before .before .before .before .before .if1 .left), ← c .before .before .before .before .other-half .ensures, ← c .before .before .before .in-half .ensures, ← c .before .before .in-half2 .ensures, c .before .if2 .taken) (c .other-copy .ensures)
+
+returns-3 : tie.Need-returns-3
+unfolding ownWord
+returns-3 c = rw (ne-eqb _ _ (c .before .before .before .before .if1 .left), ← c .before .before .before .other-half .ensures, ← c .before .before .in-half .ensures, ← c .before .in-half2 .ensures, c .if2 .left)
+
+pub own-word-spec : {M : Type 1} → statement M
+own-word-spec =
+    tie.close
+    (tie.spec
+    forward-requires
+    returns
+    other-half-requires
+    in-half-requires
+    in-half-requires-2
+    other-copy-requires
+    returns-2
+    returns-3)

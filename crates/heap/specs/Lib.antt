@@ -1,0 +1,2 @@
+-- The code's values as the rules' values.
+pub mod View

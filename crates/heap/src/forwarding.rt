@@ -1,0 +1,56 @@
+// The other copy of a record.
+ghost use mathlib.Core.Path.{_≡_};
+ghost use Prim.Native.Nat.{_≤_};
+ghost use Rattle.rules.specs.Memory.{inHalf, otherCopy, forward};
+ghost use Rattle.rules.specs.Phases.{otherHalf};
+ghost use Rattle.rules.specs.Barriers.{to};
+ghost use Rattle.heap.specs.View.{heap, checked, Within};
+use crate::Bounds;
+use crate::Checked;
+use crate::following::follow;
+use crate::words::get_word;
+use rules::Followed;
+
+// Whether a reference is in half h.
+pub fn in_half(h: u32, v: u32) -> bool
+    ensures { λ r. ⌜ r ≡ inHalf h v ⌝ }
+{
+    (2 <= v) & (v % 2 == h)
+}
+
+// Tospace where h is fromspace, and the other way round.
+pub fn other_half(h: u32) -> u32
+    requires { ⌜ h ≤ 1 ⌝ }
+    ensures { λ r. ⌜ r ≡ otherHalf h ⌝ }
+{
+    1 - h
+}
+
+// The reference of the other copy of a record, or its own where it has no replica.
+pub fn other_copy<'a>(b: Bounds, h0: &'a [u32], h1: &'a [u32], v: u32) -> Checked
+    requires { ⌜ Within b (now h0) (now h1) ⌝ }
+    ensures { λ r. ⌜ checked r ≡ otherCopy (heap b (now (h0 .entry)) (now (h1 .entry)) .memory) v ⌝ }
+{
+    let Followed::Sound(_, _, _) = follow(h0, h1, b.frontier0, b.frontier1, v) else {
+        return Checked::Damage;
+    };
+    let t = get_word(h0, h1, v, 2);
+    if t == 0 {
+        Checked::Word(v)
+    } else {
+        Checked::Word(t)
+    }
+}
+
+// A reference forwarded to tospace.
+pub fn forward<'a>(b: Bounds, h0: &'a [u32], h1: &'a [u32], v: u32) -> Checked
+    requires { ⌜ Within b (now h0) (now h1) ⌝ }
+    ensures { λ r. ⌜ checked r ≡ forward (heap b (now (h0 .entry)) (now (h1 .entry)) .memory) (to (heap b (now (h0 .entry)) (now (h1 .entry)))) v ⌝ }
+{
+    let tospace = other_half(b.from);
+    let kept = in_half(tospace, v);
+    if (v == 0) | kept {
+        return Checked::Word(v);
+    }
+    other_copy(b, h0, h1, v)
+}

@@ -1,0 +1,38 @@
+// Code over the two lent halves, without the control record: following, reading and writing words, writing records,
+// forwarding, shading, and planning what a store or a put writes.
+// Each contract is one equation with a definition of the crate rules.
+
+pub mod following;
+pub mod forwarding;
+pub mod records;
+pub mod same;
+pub mod shades;
+pub mod stores;
+pub mod words;
+
+// Where the records of each half end, which half is fromspace, and the end and the length of the grey list.
+pub struct Bounds {
+    pub frontier0: usize,
+    pub frontier1: usize,
+    pub from: u32,
+    pub tail: usize,
+    pub capacity: usize,
+}
+
+// A reference or a word after its tests, or damage.
+pub enum Checked {
+    Word(u32),
+    Damage,
+}
+
+// What comparing two references answers, or damage.
+pub enum Compared {
+    Equal(bool),
+    Damage,
+}
+
+// What a store or a put writes, or damage.
+pub enum Planned {
+    Plan(rules::Writes),
+    Damage,
+}

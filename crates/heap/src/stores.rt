@@ -1,0 +1,144 @@
+// What stores and puts write, by the session's level.
+ghost use mathlib.Core.Path.{_≡_};
+ghost use mathlib.Core.Bool.{cond};
+ghost use Rattle.rules.specs.Memory.{refs, plains};
+ghost use Rattle.rules.specs.Barriers.{replicaFor, ownWord, replicaWord, storeWrites, putWrites};
+ghost use Rattle.heap.specs.View.{heap, checked, planned, Within, Inside};
+use crate::Bounds;
+use crate::Checked;
+use crate::Planned;
+use crate::following::follow;
+use crate::forwarding::forward;
+use crate::forwarding::in_half;
+use crate::forwarding::other_copy;
+use crate::forwarding::other_half;
+use crate::shades::barrier_shade;
+use crate::words::get_word;
+use rules::Followed;
+use rules::Writes;
+
+// The number of plain fields, or of reference fields.
+fn count_of(plain: bool, r: u32, p: u32) -> u32
+    ensures { λ n. ⌜ n ≡ cond plain p r ⌝ }
+{
+    if plain { p } else { r }
+}
+
+// The replica that a write of field i, plain or reference, at level l goes to as well, or null where none is written.
+pub fn replica_for<'a>(
+    b: Bounds,
+    h0: &'a [u32],
+    h1: &'a [u32],
+    plain: bool,
+    l: u32,
+    v: u32,
+    i: u32,
+) -> Checked
+    requires { ⌜ Within b (now h0) (now h1) × Inside (now h0) (now h1) v 2 ⌝ }
+    ensures { λ r. ⌜ checked r ≡ replicaFor (heap b (now (h0 .entry)) (now (h1 .entry)) .memory) (cond plain plains refs) l v i ⌝ }
+{
+    let t = get_word(h0, h1, v, 2);
+    if !(4 <= l) | (t == 0) {
+        return Checked::Word(0);
+    }
+    let Followed::Sound(_, r, p) = follow(h0, h1, b.frontier0, b.frontier1, t) else {
+        return Checked::Damage;
+    };
+    let count = count_of(plain, r, p);
+    if count <= i {
+        return Checked::Damage;
+    }
+    Checked::Word(t)
+}
+
+// The word that a store of q at level l writes to the record itself, v, or to a global, where v is null.
+pub fn own_word<'a>(b: Bounds, h0: &'a [u32], h1: &'a [u32], l: u32, v: u32, q: u32) -> Checked
+    requires { ⌜ Within b (now h0) (now h1) ⌝ }
+    ensures { λ r. ⌜ checked r ≡ ownWord (heap b (now (h0 .entry)) (now (h1 .entry))) l v q ⌝ }
+{
+    if l == 6 {
+        return forward(b, h0, h1, q);
+    }
+    let tospace = other_half(b.from);
+    let moved = in_half(tospace, v);
+    let old = in_half(b.from, q);
+    if (l == 5) & moved & old {
+        return other_copy(b, h0, h1, q);
+    }
+    Checked::Word(q)
+}
+
+// The word that the same store writes to the replica of v.
+pub fn replica_word<'a>(b: Bounds, h0: &'a [u32], h1: &'a [u32], l: u32, v: u32, q: u32) -> Checked
+    requires { ⌜ Within b (now h0) (now h1) ⌝ }
+    ensures { λ r. ⌜ checked r ≡ replicaWord (heap b (now (h0 .entry)) (now (h1 .entry))) l v q ⌝ }
+{
+    if l != 5 {
+        return forward(b, h0, h1, q);
+    }
+    let near = in_half(v % 2, q);
+    if near {
+        return other_copy(b, h0, h1, q);
+    }
+    Checked::Word(q)
+}
+
+// All that a store of q into reference field i of v writes.
+pub fn store_writes<'a>(
+    b: Bounds,
+    h0: &'a [u32],
+    h1: &'a [u32],
+    l: u32,
+    v: u32,
+    i: u32,
+    q: u32,
+) -> Planned
+    requires { ⌜ Within b (now h0) (now h1) × Inside (now h0) (now h1) v 2 ⌝ }
+    ensures { λ r. ⌜ planned r ≡ storeWrites (heap b (now (h0 .entry)) (now (h1 .entry))) l v i q ⌝ }
+{
+    let Checked::Word(w) = barrier_shade(b, h0, h1, l, q) else {
+        return Planned::Damage;
+    };
+    let Checked::Word(t) = replica_for(b, h0, h1, false, l, v, i) else {
+        return Planned::Damage;
+    };
+    let Checked::Word(own) = own_word(b, h0, h1, l, v, q) else {
+        return Planned::Damage;
+    };
+    if t == 0 {
+        return Planned::Plan(Writes {
+            shade: w,
+            own,
+            replica: 0,
+            copy: 0,
+        });
+    }
+    let Checked::Word(copy) = replica_word(b, h0, h1, l, v, q) else {
+        return Planned::Damage;
+    };
+    Planned::Plan(Writes {
+        shade: w,
+        own,
+        replica: t,
+        copy,
+    })
+}
+
+// All that a put of q into a global writes.
+pub fn put_writes<'a>(b: Bounds, h0: &'a [u32], h1: &'a [u32], l: u32, q: u32) -> Planned
+    requires { ⌜ Within b (now h0) (now h1) ⌝ }
+    ensures { λ r. ⌜ planned r ≡ putWrites (heap b (now (h0 .entry)) (now (h1 .entry))) l q ⌝ }
+{
+    let Checked::Word(w) = barrier_shade(b, h0, h1, l, q) else {
+        return Planned::Damage;
+    };
+    let Checked::Word(own) = own_word(b, h0, h1, l, 0, q) else {
+        return Planned::Damage;
+    };
+    Planned::Plan(Writes {
+        shade: w,
+        own,
+        replica: 0,
+        copy: 0,
+    })
+}

@@ -1,0 +1,91 @@
+// The words of a record that a reference names.
+ghost use mathlib.Core.Path.{_≡_};
+ghost use Prim.Native.Nat.{ℕ, _≤_};
+ghost use Rattle.rules.specs.Memory.{reference, half, halfOf, wordOf, word, put, refs, plainField};
+ghost use Rattle.rules.specs.Barriers.{putBoth};
+ghost use Rattle.heap.specs.View.{memory, Inside, HasPlain};
+
+// The half that a reference is in.
+pub fn half_of<'a>(h0: &'a [u32], h1: &'a [u32], v: u32) -> &'a [u32]
+    ensures { λ r. ⌜ ((f0 f1 : ℕ) → now r ≡ half (memory (now (h0 .entry)) (now (h1 .entry)) f0 f1) (halfOf v)) ⌝ }
+{
+    if v % 2 == 0 { h0 } else { h1 }
+}
+
+// The word of its half that a reference names.
+pub fn word_of(v: u32) -> usize
+    requires { ⌜ 2 ≤ v ⌝ }
+    ensures { λ r. ⌜ r ≡ wordOf v ⌝ }
+{
+    ((v - 2) / 2) as usize
+}
+
+// The reference of word k of half h.
+pub fn reference_of(h: u32, k: usize) -> u32
+    requires { ⌜ (h ≤ 1) × (k ≤ 1048576) ⌝ }
+    ensures { λ r. ⌜ r ≡ reference h k ⌝ }
+{
+    (2 * k + 2) as u32 + h
+}
+
+// Word j of the record that v names.
+pub fn get_word<'a>(h0: &'a [u32], h1: &'a [u32], v: u32, j: usize) -> u32
+    requires { ⌜ Inside (now h0) (now h1) v j ⌝ }
+    ensures { λ r. ⌜ ((f0 f1 : ℕ) → r ≡ word (memory (now (h0 .entry)) (now (h1 .entry)) f0 f1) v j) ⌝ }
+{
+    let at = word_of(v);
+    let half = half_of(h0, h1, v);
+    half[at + j]
+}
+
+// The number of reference fields of the record that v names.
+pub fn refs_of<'a>(h0: &'a [u32], h1: &'a [u32], v: u32) -> u32
+    requires { ⌜ Inside (now h0) (now h1) v 0 ⌝ }
+    ensures { λ r. ⌜ ((f0 f1 : ℕ) → r ≡ refs (memory (now (h0 .entry)) (now (h1 .entry)) f0 f1) v) ⌝ }
+{
+    let shape = get_word(h0, h1, v, 0);
+    shape / 256
+}
+
+// Sets word j of the record that v names.
+pub fn put_word(h0: &mut [u32], h1: &mut [u32], v: u32, j: usize, x: u32)
+    requires { ⌜ Inside (now h0) (now h1) v j ⌝ }
+    ensures { λ _. ⌜ ((f0 f1 : ℕ) → memory (now (h0 .exit)) (now (h1 .exit)) f0 f1
+        ≡ put (memory (now (h0 .entry)) (now (h1 .entry)) f0 f1) v j x) ⌝ }
+{
+    let at = word_of(v);
+    if v % 2 == 0 {
+        h0[at + j] = x;
+    } else {
+        h1[at + j] = x;
+    }
+}
+
+// Sets word j of the record that v names, then word k of its replica t, where there is one.
+pub fn put_both(h0: &mut [u32], h1: &mut [u32], v: u32, j: usize, x: u32, t: u32, k: usize, y: u32)
+    requires { ⌜ Inside (now h0) (now h1) v j × ((t ≡ 0 → ⊥) → Inside (now h0) (now h1) t k) ⌝ }
+    ensures { λ _. ⌜ ((f0 f1 : ℕ) → memory (now (h0 .exit)) (now (h1 .exit)) f0 f1
+        ≡ putBoth (memory (now (h0 .entry)) (now (h1 .entry)) f0 f1) v j x t k y) ⌝ }
+{
+    put_word(h0, h1, v, j, x);
+    if t != 0 {
+        put_word(h0, h1, t, k, y);
+    }
+}
+
+// Sets plain field i of v, a record with r reference fields, then plain field i of its replica t, where there is one.
+pub fn put_plain(h0: &mut [u32], h1: &mut [u32], v: u32, r: u32, i: u32, x: u32, t: u32)
+    requires { ⌜ Inside (now h0) (now h1) v (plainField r i) × ((t ≡ 0 → ⊥) → HasPlain (now h0) (now h1) t i) ⌝ }
+    ensures { λ _. ⌜ ((f0 f1 : ℕ) → memory (now (h0 .exit)) (now (h1 .exit)) f0 f1
+        ≡ putBoth (memory (now (h0 .entry)) (now (h1 .entry)) f0 f1) v (plainField r i) x t
+        (plainField (refs (memory (now (h0 .entry)) (now (h1 .entry)) f0 f1) t) i) x) ⌝ }
+{
+    let j = 3 + (r as usize) + (i as usize);
+    if t == 0 {
+        put_word(h0, h1, v, j, x);
+    } else {
+        let n = refs_of(h0, h1, t);
+        let k = 3 + (n as usize) + (i as usize);
+        put_both(h0, h1, v, j, x, t, k, x);
+    }
+}
