@@ -1,0 +1,110 @@
+-- Allocation: its tests, room, and the record written in one half or in both.
+use Prim.Native.Nat.{ℕ, _+_, _≤_, _<_}
+use mathlib.Core.Path.{_≡_, _∙_, sym, refl}
+use mathlib.Core.Bool.{Bool, true, false, _&&_}
+use mathlib.Core.List.{List}
+use native.Mathlib.Omega.{arith}
+use lib.Dec.{leb}
+use lib.ListN.{length}
+use borrow.Author.Tests.{le-leb, lt-leb, leb-true, eq-eqb, ne-eqb}
+use Rattle.rules.specs.Refusals.{Tested, refused, passed, check, refusalOf, _>>=_, _>>_, done}
+use Rattle.rules.specs.Memory.{half, frontier}
+use Rattle.rules.specs.Control.{Store, withMemory}
+use Rattle.rules.specs.Phases.{sessionAt}
+use Rattle.rules.specs.Barriers.{roomIn, allocationRoom, allocated, allocatedReference}
+use Rattle.rules.specs.Calls.{sessionOf, isRegister, isShape, withRegister, allocate}
+use Rattle.rules.proofs.Ranges.{both, InRange, in-session, session-passed, refused-with}
+use Rattle.heap.specs.View.{memory}
+use Rattle.store.specs.View.{view}
+use Rattle.store.specs.Allocation.{Fits, Small, Allocatable}
+use Rattle.store.specs.declared.Control.{Control}
+
+-- ---- what the control record test gives
+
+module _ (c : Control) (h0 h1 l : List ℕ) (k : InRange (view c h0 h1 l)) where
+  pub fits : Fits c h0 h1
+  fits = record { low = k .lent0; high = k .equal ∙ k .lent1 }
+
+  pub small : (r p : ℕ) → (leb r 255 && leb p 255) ≡ true → Small c r p
+  small r p e =
+      let b = both (leb r 255) (leb p 255) e in
+      record { half = k .half; low = omega (arith, k); high = omega (arith, k); refs = leb-true r 255 (b .0); plains = leb-true p 255 (b .1) }
+
+-- ---- the test of room
+
+module _ (s : Store) (l r p n : ℕ) (f0 : n ≡ length (s .memory .half0)) (f1 : n ≡ length (s .memory .half1)) where
+  pub room-two : 2 < l → (leb (s .memory .frontier0 + (3 + r + p)) n && leb (s .memory .frontier1 + (3 + r + p)) n) ≡ allocationRoom s l r p
+  unfolding allocationRoom roomIn frontier half
+  room-two g = rw (lt-leb l 2 g, ← f0, ← f1)
+
+  pub room-low : l ≤ 2 → s .current ≡ 0 → leb (s .memory .frontier0 + (3 + r + p)) n ≡ allocationRoom s l r p
+  unfolding allocationRoom roomIn frontier half
+  room-low g z = rw (le-leb l 2 g, eq-eqb (s .current) 0 z, ← f0)
+
+  pub room-high : l ≤ 2 → (s .current ≡ 0 → ⊥) → leb (s .memory .frontier1 + (3 + r + p)) n ≡ allocationRoom s l r p
+  unfolding allocationRoom roomIn frontier half
+  room-high g z = rw (le-leb l 2 g, ne-eqb (s .current) 0 z, ← f1)
+
+-- ---- the row of tests
+
+module _ (s : Store) (n k r p : ℕ) (a : sessionOf s n ≡ passed (sessionAt s n)) (i : k ≤ 7) (j : (leb r 255 && leb p 255) ≡ true) where
+  pub tests-passed : allocationRoom s (sessionAt s n .level) r p ≡ true → 0 ≡ refusalOf (allocate s n k r p)
+  unfolding allocate
+  tests-passed b = rw (a, le-leb k 7 i, j, b)
+
+  pub tests-no-room : allocationRoom s (sessionAt s n .level) r p ≡ false → 14 ≡ refusalOf (allocate s n k r p)
+  unfolding allocate
+  tests-no-room b = rw (a, le-leb k 7 i, j, b)
+
+-- a row that answers 0 has passed
+first-passed : {A B : Type 0} (t : Tested A) (f : A → Tested B) → refusalOf (t >>= f) ≡ 0 → refusalOf t ≡ 0
+first-passed (refused m) f e = e
+first-passed (passed a) f e = refl
+
+three-passed : {A : Type 0} (x : A) (a b c : Bool) → refusalOf (check a 8 >> (check b 10 >> (check c 14 >> passed x))) ≡ 0
+    → (a ≡ true) × (b ≡ true) × (c ≡ true)
+three-passed x true true true e = (refl, refl, refl)
+three-passed x true true false e = absurd (omega arith)
+three-passed x true false c e = absurd (omega arith)
+three-passed x false b c e = absurd (omega arith)
+
+-- the store with the record allocated at level l
+abbrev after : Store → ℕ → ℕ → ℕ → ℕ → ℕ → Store
+after s n k l r p = withRegister (withMemory s (allocated s l r p)) n k (allocatedReference s l)
+
+-- what holds where the tests answered 0
+pub record Allocating (c : Control) (h0 h1 g : List ℕ) (n k r p : ℕ) : Type 0 where
+  pub number : n ≤ 15
+  pub register : k ≤ 7
+  pub ready : Allocatable c h0 h1 (sessionAt (view c h0 h1 g) n .level) r p
+  pub outcome : allocate (view c h0 h1 g) n k r p ≡ done (after (view c h0 h1 g) n k (sessionAt (view c h0 h1 g) n .level) r p)
+
+any-list : (c : Control) (h0 h1 g m : List ℕ) (l r p : ℕ) → allocationRoom (view c h0 h1 g) l r p ≡ true → allocationRoom (view c h0 h1 m) l r p ≡ true
+unfolding allocationRoom
+any-list c h0 h1 g m l r p e = e
+
+pub allocating : {q : ℕ} (c : Control) (h0 h1 g : List ℕ) (n k r p : ℕ) → q ≡ refusalOf (allocate (view c h0 h1 g) n k r p) → q ≡ 0 → Allocating c h0 h1 g n k r p
+unfolding allocate
+allocating c h0 h1 g n k r p e z =
+    let s = view c h0 h1 g in
+    let x = sessionAt s n in
+    let f = session-passed s n (first-passed (sessionOf s n) _ (sym e ∙ z)) in
+    let o = after s n k (x .level) r p in
+    let t = three-passed (record { store = o; reply = _ }) (isRegister k) (isShape r p) (allocationRoom s (x .level) r p) (rw f at (sym e ∙ z)) in
+    let i = in-session s n f in
+    record {
+      number = i .number;
+      register = leb-true k 7 (t .0);
+      ready = record { small = small c h0 h1 g (i .known) r p (t .1); room = λ m. any-list c h0 h1 g m (x .level) r p (t .2) };
+      outcome = rw (f, t .0, t .1, t .2);
+    }
+
+pub not-allocated : {q : ℕ} (s : Store) (n k r p : ℕ) → q ≡ refusalOf (allocate s n k r p) → (q ≡ 0 → ⊥) → allocate s n k r p ≡ refused q
+not-allocated s n k r p e z = rw e (refused-with (allocate s n k r p) (λ y. z (e ∙ y)))
+
+pub allocate-done : {t u : Store} {v : ℕ} (c : Control) (h0 h1 g : List ℕ) (n k r p : ℕ) → Allocating c h0 h1 g n k r p
+    → v ≡ allocatedReference (view c h0 h1 g) (sessionAt (view c h0 h1 g) n .level)
+    → u ≡ withMemory (view c h0 h1 g) (allocated (view c h0 h1 g) (sessionAt (view c h0 h1 g) n .level) r p)
+    → t ≡ withRegister u n k v
+    → allocate (view c h0 h1 g) n k r p ≡ done t
+allocate-done c h0 h1 g n k r p a x y z = rw (a .outcome, z, y, x)

@@ -1,0 +1,70 @@
+-- The tests' refusal, or the record written and the register set.
+use native.Mathlib.Omega.{arith}
+use Rattle.rules.specs.Phases.{sessionAt}
+use Rattle.store.proofs.Allocating.{allocating, not-allocated, allocate-done}
+use borrow.Author.Needs.{needs}
+use Rattle.store.proofs.Control.allocate.Statement.{statement}
+use Rattle.store.proofs.Control.allocate.Tie as tie
+
+allocation-tests-requires : tie.Need-allocation-tests-requires
+allocation-tests-requires c κs = search needs
+
+same-length : tie.Need-same-length
+same-length c = search needs
+
+same-length-2 : tie.Need-same-length-2
+same-length-2 c = search needs
+
+returns : tie.Need-returns
+returns c = rw (not-allocated _ _ _ _ _ (c .before .allocation-tests .ensures) (c .if1 .taken))
+
+mul-session : tie.Need-mul-session
+mul-session c = search needs
+
+element-copy-out-session : tie.Need-element-copy-out-session
+element-copy-out-session c =
+    let k = allocating _ _ _ _ _ _ _ _ (c .before .allocation-tests .ensures) (c .if1 .left) in
+    omega (arith, k .number)
+
+allocated-reference-requires : tie.Need-allocated-reference-requires
+allocated-reference-requires c κs =
+    let k = allocating _ _ _ _ _ _ _ _ (c .before .before .allocation-tests .ensures) (c .before .if1 .left) .ready .small in
+    (k .half, k .low, k .high)
+
+allocated-requires : tie.Need-allocated-requires
+unfolding sessionAt
+allocated-requires c κs = allocating _ _ _ _ _ _ _ _ (c .before .before .before .before .before .allocation-tests .ensures) (c .before .before .before .before .if1 .left) .ready
+
+with-register-requires : tie.Need-with-register-requires
+with-register-requires c κs =
+    let k = allocating _ _ _ _ _ _ _ _ (c .before .before .before .before .before .before .before .before .before .before .allocation-tests .ensures) (c .before .before .before .before .before .before .before .before .before .if1 .left) in
+    (k .number, k .register)
+
+same-length-3 : tie.Need-same-length-3
+same-length-3 c = search needs
+
+same-length-4 : tie.Need-same-length-4
+same-length-4 c = search needs
+
+returns-2 : tie.Need-returns-2
+unfolding sessionAt
+returns-2 c =
+    let k = allocating _ _ _ _ _ _ _ _ (c .before .before .before .before .before .before .before .before .before .before .before .allocation-tests .ensures) (c .before .before .before .before .before .before .before .before .before .before .if1 .left) in
+    rw (allocate-done _ _ _ _ _ _ _ _ k (c .before .before .before .before .before .before .before .before .allocated-reference .ensures _ _ _) (c .before .before .before .before .before .allocated .ensures _) (c .with-register .ensures _ _ _))
+
+pub allocate-spec : {M : Type 1} → statement M
+allocate-spec =
+    tie.close
+    (tie.spec
+    allocation-tests-requires
+    same-length
+    same-length-2
+    returns
+    mul-session
+    element-copy-out-session
+    allocated-reference-requires
+    allocated-requires
+    with-register-requires
+    same-length-3
+    same-length-4
+    returns-2)

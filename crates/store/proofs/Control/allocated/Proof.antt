@@ -1,0 +1,98 @@
+-- The record of each level.
+use mathlib.Core.List.{[]}
+use Rattle.store.proofs.Placing.{below-at, other-small, fromspace-small, frontier-small, room-one, room-each, room-second, allocated-white, allocated-black, allocated-both}
+use native.Mathlib.Omega.{arith}
+use borrow.Author.Needs.{needs}
+use Rattle.store.proofs.Control.allocated.Statement.{statement}
+use Rattle.store.proofs.Control.allocated.Tie as tie
+
+placed-requires : tie.Need-placed-requires
+placed-requires c κs = room-one _ _ _ _ _ _ (c .before .before .before .before .before .pre) (omega (arith, c .before .before .if1 .taken))
+
+same-length : tie.Need-same-length
+same-length c = search needs
+
+same-length-2 : tie.Need-same-length-2
+same-length-2 c = search needs
+
+returns : tie.Need-returns
+returns c = λ l. allocated-white _ _ _ _ (c .before .before .before .before .before .before .before .if1 .taken) (c .before .before .before .before .placed .ensures l)
+
+placed-requires-2 : tie.Need-placed-requires-2
+placed-requires-2 c κs = room-one _ _ _ _ _ _ (c .before .before .before .before .before .before .pre) (c .before .before .if2 .taken)
+
+same-length-3 : tie.Need-same-length-3
+same-length-3 c = search needs
+
+same-length-4 : tie.Need-same-length-4
+same-length-4 c = search needs
+
+returns-2 : tie.Need-returns-2
+returns-2 c = λ l. allocated-black _ _ _ _ (c .before .before .before .before .before .before .before .before .if1 .left) (c .before .before .before .before .before .before .before .if2 .taken) (c .before .before .before .before .placed2 .ensures l)
+
+fromspace-requires : tie.Need-fromspace-requires
+fromspace-requires c κs = c .before .before .before .before .pre .small .half
+
+other-half-requires : tie.Need-other-half-requires
+other-half-requires c κs = fromspace-small _ (c .fromspace .ensures [] [] []) (c .before .before .before .before .before .pre .small .half)
+
+frontier-requires : tie.Need-frontier-requires
+frontier-requires c κs = search needs
+
+reference-requires : tie.Need-reference-requires
+reference-requires c κs = (
+  fromspace-small _ (c .before .before .fromspace .ensures [] [] []) (c .before .before .before .before .before .before .before .pre .small .half),
+  below-at (c .frontier .ensures [] []) (frontier-small [] [] _ _ _ (c .before .before .before .before .before .before .before .pre .small .low) (c .before .before .before .before .before .before .before .pre .small .high)),
+)
+
+frontier-requires-2 : tie.Need-frontier-requires-2
+frontier-requires-2 c κs = search needs
+
+reference-requires-2 : tie.Need-reference-requires-2
+reference-requires-2 c κs = (
+  below-at (c .before .before .before .other-half .ensures) (other-small _),
+  below-at (c .frontier2 .ensures [] []) (frontier-small [] [] _ _ _ (c .before .before .before .before .before .before .before .before .before .pre .small .low) (c .before .before .before .before .before .before .before .before .before .pre .small .high)),
+)
+
+placed-requires-3 : tie.Need-placed-requires-3
+placed-requires-3 c κs = room-each _ _ _ _ _ _ (c .before .before .before .before .before .before .before .before .before .before .before .before .pre) (c .before .before .before .before .before .before .before .before .if2 .left) _ (fromspace-small _ (c .before .before .before .before .before .before .before .fromspace .ensures [] [] []) (c .before .before .before .before .before .before .before .before .before .before .before .before .pre .small .half))
+
+placed-requires-4 : tie.Need-placed-requires-4
+placed-requires-4 c κs =
+    let f = fromspace-small _ (c .before .before .before .before .before .before .before .before .before .before .before .before .before .before .fromspace .ensures [] [] []) (c .before .before .before .before .before .before .before .before .before .before .before .before .before .before .before .before .before .before .before .pre .small .half) in
+    room-second _ _ _ _ _ _ _ _ _ _ _ f (c .before .before .before .before .before .before .before .before .before .before .before .before .before .other-half .ensures)
+    (room-each _ _ _ _ _ _ (c .before .before .before .before .before .before .before .before .before .before .before .before .before .before .before .before .before .before .before .pre) (c .before .before .before .before .before .before .before .before .before .before .before .before .before .before .before .if2 .left) _ (below-at (c .before .before .before .before .before .before .before .before .before .before .before .before .before .other-half .ensures) (other-small _)))
+    (c .before .before .before .before .before .before .placed3 .ensures [])
+
+same-length-5 : tie.Need-same-length-5
+same-length-5 c = search needs
+
+same-length-6 : tie.Need-same-length-6
+same-length-6 c = search needs
+
+returns-3 : tie.Need-returns-3
+returns-3 c = λ l. allocated-both _ _ _ _ (c .before .before .before .before .before .before .before .before .before .before .before .before .before .before .before .before .before .before .before .before .before .if1 .left) (c .before .before .before .before .before .before .before .before .before .before .before .before .before .before .before .before .before .before .before .before .if2 .left) (c .before .before .before .before .before .before .before .before .before .before .before .before .before .before .before .before .before .before .before .fromspace .ensures _ _ l) (c .before .before .before .before .before .before .before .before .before .before .before .before .before .before .before .before .before .before .other-half .ensures) (c .before .before .before .before .before .before .before .before .before .before .before .before .before .before .before .before .before .frontier .ensures _ _) (c .before .before .before .before .before .before .before .before .before .before .before .before .before .before .before .before .reference .ensures) (c .before .before .before .before .before .before .before .before .before .before .before .before .before .before .before .frontier2 .ensures _ _) (c .before .before .before .before .before .before .before .before .before .before .before .before .before .before .reference2 .ensures) (c .before .before .before .before .before .before .before .before .before .before .before .placed3 .ensures l) (c .before .before .before .before .placed4 .ensures l)
+
+pub allocated-spec : {M : Type 1} → statement M
+allocated-spec =
+    tie.close
+    (tie.spec
+    placed-requires
+    same-length
+    same-length-2
+    returns
+    placed-requires-2
+    same-length-3
+    same-length-4
+    returns-2
+    fromspace-requires
+    other-half-requires
+    frontier-requires
+    reference-requires
+    frontier-requires-2
+    reference-requires-2
+    placed-requires-3
+    placed-requires-4
+    same-length-5
+    same-length-6
+    returns-3)

@@ -1,0 +1,75 @@
+-- The replica followed, then a reference field or a plain one.
+use native.Mathlib.Omega.{arith}
+use Rattle.rules.proofs.Ranges.{in-range}
+use Rattle.heap.proofs.Soundness.{found, lost}
+use Rattle.store.proofs.Walks.{fronts}
+use Rattle.store.proofs.FieldCopies.{field-lost, field-ref, field-plain}
+use borrow.Author.Needs.{needs}
+use Rattle.store.proofs.Control.copy_field.Statement.{statement}
+use Rattle.store.proofs.Control.copy_field.Tie as tie
+
+follow-requires : tie.Need-follow-requires
+follow-requires c κs = fronts (in-range _ (c .before .before .before .before .pre .ranges))
+
+enum-told : tie.Need-enum-told
+enum-told c = search needs
+
+enum-told-2 : tie.Need-enum-told-2
+enum-told-2 c = search needs
+
+same-length : tie.Need-same-length
+same-length c = search needs
+
+same-length-2 : tie.Need-same-length-2
+same-length-2 c = search needs
+
+returns : tie.Need-returns
+returns c = λ l. field-lost _ _ (c .before .before .before .before .before .before .before .pre .replica) (lost _ _ (c .before .before .follow .ensures) (c .enum-told2 .given .1))
+
+copy-ref-requires : tie.Need-copy-ref-requires
+copy-ref-requires c κs =
+    let f = found _ _ (c .before .before .before .before .before .follow .ensures) (c .before .before .before .enum-told .given .1) in
+    (record { ranges = c .before .before .before .before .before .before .before .before .before .before .pre .ranges; here = c .before .before .before .before .before .before .before .before .before .before .pre .here; there = f .sound }, rw (← c .before .before .before .before .before .before .before .before .before .before .pre .count) (c .before .before .if1 .taken))
+
+same-length-3 : tie.Need-same-length-3
+same-length-3 c = search needs
+
+same-length-4 : tie.Need-same-length-4
+same-length-4 c = search needs
+
+returns-2 : tie.Need-returns-2
+returns-2 c = λ l. field-ref _ _ (c .before .before .before .before .before .before .before .before .before .before .before .before .before .before .before .pre .replica) (found _ _ (c .before .before .before .before .before .before .before .before .before .before .follow .ensures) (c .before .before .before .before .before .before .before .before .enum-told .given .1) .sound) (c .before .before .before .before .before .before .before .before .before .before .before .before .before .before .before .pre .count) (c .before .before .before .before .before .before .before .if1 .taken) (c .before .before .before .before .copy-ref .ensures l)
+
+copy-plain-requires : tie.Need-copy-plain-requires
+copy-plain-requires c κs =
+    let f = found _ _ (c .before .before .before .before .before .follow .ensures) (c .before .before .before .enum-told .given .1) in
+    let p = c .before .before .before .before .before .before .before .before .before .before .pre in
+    (record { ranges = p .ranges; here = p .here; there = f .sound }, omega arith)
+
+same-length-5 : tie.Need-same-length-5
+same-length-5 c = search needs
+
+same-length-6 : tie.Need-same-length-6
+same-length-6 c = search needs
+
+returns-3 : tie.Need-returns-3
+returns-3 c = λ l. field-plain _ _ (c .before .before .before .before .before .before .before .before .before .before .before .before .before .before .before .pre .replica) (found _ _ (c .before .before .before .before .before .before .before .before .before .before .follow .ensures) (c .before .before .before .before .before .before .before .before .enum-told .given .1) .sound) (c .before .before .before .before .before .before .before .before .before .before .before .before .before .before .before .pre .count) (c .before .before .before .before .before .before .before .if1 .left) (c .before .before .before .before .copy-plain .ensures l)
+
+pub copy-field-spec : {M : Type 1} → statement M
+copy-field-spec =
+    tie.close
+    (tie.spec
+    follow-requires
+    enum-told
+    enum-told-2
+    same-length
+    same-length-2
+    returns
+    copy-ref-requires
+    same-length-3
+    same-length-4
+    returns-2
+    copy-plain-requires
+    same-length-5
+    same-length-6
+    returns-3)

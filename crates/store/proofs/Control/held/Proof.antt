@@ -1,0 +1,79 @@
+-- The tests 4, 5, 6, 8 and 11 in order, then the register's word.
+use native.Mathlib.Omega.{arith}
+use lib.ListN.{getD}
+use borrow.Author.Tests.{eq-eqb, ne-eqb}
+use Rattle.rules.specs.Phases.{register, sessionAt, absent}
+use Rattle.store.specs.Operands.{holding}
+use Rattle.store.proofs.Guards.{turned-away, let-in, known, registers-out, registers-in, registers-known}
+use borrow.Author.Needs.{needs}
+use Rattle.store.proofs.Control.held.Statement.{statement}
+use Rattle.store.proofs.Control.held.Tie as tie
+
+session-tests-requires : tie.Need-session-tests-requires
+session-tests-requires c κs = search needs
+
+returns : tie.Need-returns
+unfolding holding
+returns c = rw (turned-away _ _ (c .before .session-tests .ensures) (c .if1 .taken))
+
+returns-2 : tie.Need-returns-2
+unfolding holding
+returns-2 c =
+    let a = c .before .before .before .before .before .before .args in
+    rw (
+      let-in _ _ (c .before .before .session-tests .ensures) (c .before .if1 .left),
+      registers-out (a .register) (a .other) (c .if2 .taken),
+    )
+
+mul-session : tie.Need-mul-session
+mul-session c = search needs
+
+element-copy-out-session : tie.Need-element-copy-out-session
+element-copy-out-session c =
+    let k = known _ _ (c .before .before .session-tests .ensures) (c .before .if1 .left) in
+    omega arith
+
+mul-reference : tie.Need-mul-reference
+mul-reference c = search needs
+
+element-copy-out-reference : tie.Need-element-copy-out-reference
+element-copy-out-reference c =
+    let a = c .before .before .before .before .before .before .before .args in
+    let k = registers-known (a .register) (a .other) (c .before .if2 .left) in
+    omega arith
+
+returns-3 : tie.Need-returns-3
+unfolding holding register sessionAt
+returns-3 c =
+    let a = c .before .before .before .before .before .before .before .before .before .args in
+    let v = getD (getD (a .t1 .sessions) (a .s) absent .registers) (a .register) 0 in
+    rw (
+      let-in _ _ (c .before .before .before .before .before .session-tests .ensures) (c .before .before .before .before .if1 .left),
+      registers-in (a .register) (a .other) (c .before .before .before .if2 .left),
+      eq-eqb v 0 (c .if3 .taken),
+    )
+
+returns-4 : tie.Need-returns-4
+unfolding holding register sessionAt
+returns-4 c =
+    let a = c .before .before .before .before .before .before .before .before .before .args in
+    let v = getD (getD (a .t1 .sessions) (a .s) absent .registers) (a .register) 0 in
+    rw (
+      let-in _ _ (c .before .before .before .before .before .session-tests .ensures) (c .before .before .before .before .if1 .left),
+      registers-in (a .register) (a .other) (c .before .before .before .if2 .left),
+      ne-eqb v 0 (c .if3 .left),
+    )
+
+pub held-spec : {M : Type 1} → statement M
+held-spec =
+    tie.close
+    (tie.spec
+    session-tests-requires
+    returns
+    returns-2
+    mul-session
+    element-copy-out-session
+    mul-reference
+    element-copy-out-reference
+    returns-3
+    returns-4)

@@ -1,0 +1,135 @@
+-- Waiting for level 0, the other half emptied, damage, or the next record's replica word cleared.
+use mathlib.Core.Path.{_∙_, ap}
+use native.Mathlib.Omega.{arith}
+use Rattle.rules.specs.Phases.{moveOn}
+use Rattle.rules.specs.Control.{Store}
+use Rattle.rules.proofs.Ranges.{in-range, place-small}
+use Rattle.heap.proofs.Soundness.{found, lost}
+use Rattle.store.specs.Steps.{went}
+use Rattle.store.proofs.Flags.{no, yes}
+use Rattle.store.proofs.Walks.{fronts, header-at, reclaim-waits, reclaim-ends, reclaim-lost, reclaim-clears}
+use borrow.Author.Needs.{needs}
+use Rattle.store.proofs.Control.reclaim.Statement.{statement}
+use Rattle.store.proofs.Control.reclaim.Tie as tie
+
+have-level-requires : tie.Need-have-level-requires
+have-level-requires c κs =
+    let k = in-range _ (c .before .before .pre) in
+    k .phases
+
+stepped-requires : tie.Need-stepped-requires
+stepped-requires c κs = search needs
+
+returns : tie.Need-returns
+returns c = λ l. reclaim-waits _ (no (c .before .before .have-level .ensures _ _ l) (c .before .if1 .taken)) (c .stepped .ensures _ _ l)
+
+below-requires : tie.Need-below-requires
+below-requires c κs = search needs
+
+other-half-requires : tie.Need-other-half-requires
+other-half-requires c κs =
+    let k = in-range _ (c .before .before .before .before .before .before .pre) in
+    k .half
+
+with-frontier-requires : tie.Need-with-frontier-requires
+with-frontier-requires c κs = search needs
+
+move-on-requires : tie.Need-move-on-requires
+move-on-requires c κs =
+    let k = in-range _ (c .before .before .before .before .before .before .before .before .pre) in
+    let e = ap (λ (s : Store). s .phase) (c .with-frontier .ensures (c .before .before .before .before .before .before .before .before .args .h0 .now) (c .before .before .before .before .before .before .before .before .args .h1 .now) (c .before .before .before .before .before .before .before .before .args .h0 .now)) in
+    omega arith
+
+stepped-requires-2 : tie.Need-stepped-requires-2
+stepped-requires-2 c κs = search needs
+
+returns-2 : tie.Need-returns-2
+returns-2 c =
+    λ l. reclaim-ends _ (yes (c .before .before .before .before .before .before .before .have-level .ensures _ _ l) (c .before .before .before .before .before .before .if1 .left)) (no (c .before .before .before .before .before .below .ensures _ _ l) (c .before .before .before .before .if2 .taken)) (c .before .before .before .other-half .ensures)
+    (c .before .before .with-frontier .ensures _ _ l) (c .stepped2 .ensures _ _ l ∙ ap went (c .before .move-on .ensures _ _ l))
+
+walked-requires : tie.Need-walked-requires
+walked-requires c κs =
+    let k = in-range _ (c .before .before .before .before .before .before .pre) in
+    (k .half, place-small k)
+
+follow-requires : tie.Need-follow-requires
+follow-requires c κs = fronts (in-range _ (c .before .before .before .before .before .before .before .before .before .pre))
+
+enum-known-r : tie.Need-enum-known-r
+enum-known-r c = search needs
+
+enum-told : tie.Need-enum-told
+enum-told c = search needs
+
+same-length : tie.Need-same-length
+same-length c = search needs
+
+same-length-2 : tie.Need-same-length-2
+same-length-2 c = search needs
+
+returns-3 : tie.Need-returns-3
+returns-3 c =
+    λ l. reclaim-lost _ (yes (c .before .before .before .before .before .before .before .before .before .have-level .ensures _ _ l) (c .before .before .before .before .before .before .before .before .if1 .left)) (yes (c .before .before .before .before .before .before .before .below .ensures _ _ l) (c .before .before .before .before .before .before .if2 .left)) (c .before .before .before .before .before .walked .ensures _ _ l)
+    (lost _ _ (c .before .before .follow .ensures) (c .enum-told .given .1))
+
+put-word-requires : tie.Need-put-word-requires
+put-word-requires c κs = header-at (in-range _ (c .before .before .before .before .before .before .before .before .before .before .before .before .before .before .before .pre)) (found _ _ (c .before .before .before .before .before .follow .ensures) (c .before .before .before .r .given .1)) 2 (omega arith)
+
+cast-past-record : tie.Need-cast-past-record
+cast-past-record c = search needs
+
+cast-past-record-2 : tie.Need-cast-past-record-2
+cast-past-record-2 c = search needs
+
+add-past-record : tie.Need-add-past-record
+add-past-record c = search needs
+
+add-past-record-2 : tie.Need-add-past-record-2
+add-past-record-2 c = search needs
+
+past-record-requires : tie.Need-past-record-requires
+past-record-requires c κs =
+    let f = found _ _ (c .before .before .before .before .before .before .before .before .before .before .follow .ensures) (c .before .before .before .before .before .before .before .before .r .given .1) in
+    (place-small (in-range _ (c .before .before .before .before .before .before .before .before .before .before .before .before .before .before .before .before .before .before .before .before .pre)), omega arith)
+
+same-length-3 : tie.Need-same-length-3
+same-length-3 c = search needs
+
+same-length-4 : tie.Need-same-length-4
+same-length-4 c = search needs
+
+returns-4 : tie.Need-returns-4
+returns-4 c =
+    λ l. reclaim-clears _ (yes (c .before .before .before .before .before .before .before .before .before .before .before .before .before .before .before .before .before .before .have-level .ensures _ _ l) (c .before .before .before .before .before .before .before .before .before .before .before .before .before .before .before .before .before .if1 .left)) (yes (c .before .before .before .before .before .before .before .before .before .before .before .before .before .before .before .before .below .ensures _ _ l) (c .before .before .before .before .before .before .before .before .before .before .before .before .before .before .before .if2 .left)) (c .before .before .before .before .before .before .before .before .before .before .before .before .before .before .walked .ensures _ _ l)
+    (found _ _ (c .before .before .before .before .before .before .before .before .before .before .before .follow .ensures) (c .before .before .before .before .before .before .before .before .before .r .given .1)) (c .before .before .before .before .before .put-word .ensures _ _) (c .past-record .ensures _ _ l)
+
+pub reclaim-spec : {M : Type 1} → statement M
+reclaim-spec =
+    tie.close
+    (tie.spec
+    have-level-requires
+    stepped-requires
+    returns
+    below-requires
+    other-half-requires
+    with-frontier-requires
+    move-on-requires
+    stepped-requires-2
+    returns-2
+    walked-requires
+    follow-requires
+    enum-known-r
+    enum-told
+    same-length
+    same-length-2
+    returns-3
+    put-word-requires
+    cast-past-record
+    cast-past-record-2
+    add-past-record
+    add-past-record-2
+    past-record-requires
+    same-length-3
+    same-length-4
+    returns-4)

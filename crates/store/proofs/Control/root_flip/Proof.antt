@@ -1,0 +1,84 @@
+-- The step moves on after the last global; before it damage, or the next global forwarded.
+use mathlib.Core.Path.{_∙_, ap}
+use Rattle.rules.proofs.Ranges.{in-range}
+use Rattle.heap.specs.View.{checked}
+use Rattle.store.specs.Steps.{went}
+use Rattle.store.proofs.Shaded.{within}
+use Rattle.store.proofs.Forwards.{bounds-over, forward-told}
+use Rattle.store.proofs.Flips.{roots-done, root-lost, root-flips}
+use borrow.Author.Needs.{needs}
+use Rattle.store.proofs.Control.root_flip.Statement.{statement}
+use Rattle.store.proofs.Control.root_flip.Tie as tie
+
+move-on-requires : tie.Need-move-on-requires
+move-on-requires c κs =
+    let k = in-range _ (c .before .before .before .pre) in
+    k .phases
+
+stepped-requires : tie.Need-stepped-requires
+stepped-requires c κs = search needs
+
+returns : tie.Need-returns
+returns c = λ l. roots-done _ (c .before .before .if1 .taken) (c .stepped .ensures _ _ l ∙ ap went (c .before .move-on .ensures _ _ l))
+
+mul-v : tie.Need-mul-v
+mul-v c = search needs
+
+element-copy-out-v : tie.Need-element-copy-out-v
+element-copy-out-v c = search needs
+
+bounds-requires : tie.Need-bounds-requires
+bounds-requires c κs =
+    let k = in-range _ (c .before .before .before .before .pre) in
+    k .half
+
+forward-requires : tie.Need-forward-requires
+forward-requires c κs = within _ _ (bounds-over (c .before .before .before .before .before .args .t1) _ _ (c .bounds .ensures)) (in-range _ (c .before .before .before .before .before .pre))
+
+enum-known-q : tie.Need-enum-known-q
+enum-known-q c = search needs
+
+enum-told : tie.Need-enum-told
+enum-told c = search needs
+
+returns-2 : tie.Need-returns-2
+returns-2 c =
+    λ l. root-lost _ (c .before .before .before .before .before .if1 .left)
+    (forward-told (c .before .before .before .before .before .before .before .before .args .t1) _ _ l (bounds-over (c .before .before .before .before .before .before .before .before .args .t1) _ _ (c .before .before .before .bounds .ensures)) _ (c .before .before .forward .ensures) (ap checked (c .enum-told .given .1)))
+
+mul-self : tie.Need-mul-self
+mul-self c = search needs
+
+element-write-self : tie.Need-element-write-self
+element-write-self c = search needs
+
+add-self : tie.Need-add-self
+add-self c = search needs
+
+stepped-requires-2 : tie.Need-stepped-requires-2
+stepped-requires-2 c κs = search needs
+
+returns-3 : tie.Need-returns-3
+returns-3 c =
+    λ l. root-flips _ (c .before .before .before .before .before .before .before .if1 .left)
+    (forward-told (c .before .before .before .before .before .before .before .before .before .before .args .t1) _ _ l (bounds-over (c .before .before .before .before .before .before .before .before .before .before .args .t1) _ _ (c .before .before .before .before .before .bounds .ensures)) _ (c .before .before .before .before .forward .ensures) (ap checked (c .before .before .q .given .1))) (c .stepped2 .ensures _ _ l)
+
+pub root-flip-spec : {M : Type 1} → statement M
+root-flip-spec =
+    tie.close
+    (tie.spec
+    move-on-requires
+    stepped-requires
+    returns
+    mul-v
+    element-copy-out-v
+    bounds-requires
+    forward-requires
+    enum-known-q
+    enum-told
+    returns-2
+    mul-self
+    element-write-self
+    add-self
+    stepped-requires-2
+    returns-3)

@@ -1,0 +1,99 @@
+-- Same: the tests in order, then the comparison.
+use mathlib.Core.Path.{_∙_, sym, ap}
+use native.Mathlib.Omega.{arith}
+use Rattle.rules.specs.Phases.{register, sessionAt}
+use Rattle.rules.specs.Calls.{same}
+use Rattle.heap.specs.View.{compared}
+use Rattle.store.proofs.Guards.{turned-away, let-in, known, registers-out, registers-in, registers-known}
+use Rattle.store.proofs.Shaded.{within}
+use Rattle.store.proofs.Comparing.{same-lost, same-answered}
+use borrow.Author.Needs.{needs}
+use Rattle.store.proofs.Control.same.Statement.{statement}
+use Rattle.store.proofs.Control.same.Tie as tie
+
+session-tests-requires : tie.Need-session-tests-requires
+session-tests-requires c κs = search needs
+
+returns : tie.Need-returns
+unfolding same
+returns c = rw (turned-away _ _ (c .before .session-tests .ensures) (c .if1 .taken))
+
+returns-2 : tie.Need-returns-2
+unfolding same
+returns-2 c =
+    let a = c .before .before .before .before .before .before .args in
+    rw (let-in _ _ (c .before .before .session-tests .ensures) (c .before .if1 .left), registers-out (a .a) (a .b) (c .if2 .taken))
+
+mul-session : tie.Need-mul-session
+mul-session c = search needs
+
+element-copy-out-session : tie.Need-element-copy-out-session
+element-copy-out-session c =
+    let k = known _ _ (c .before .before .session-tests .ensures) (c .before .if1 .left) in
+    omega (arith, k .number)
+
+mul-first : tie.Need-mul-first
+mul-first c = search needs
+
+element-copy-out-first : tie.Need-element-copy-out-first
+element-copy-out-first c =
+    let a = c .before .before .before .before .before .before .before .args in
+    omega (arith, registers-known (a .a) (a .b) (c .before .if2 .left) .0)
+
+mul-second : tie.Need-mul-second
+mul-second c = search needs
+
+element-copy-out-second : tie.Need-element-copy-out-second
+element-copy-out-second c =
+    let a = c .before .before .before .before .before .before .before .before .args in
+    omega (arith, registers-known (a .a) (a .b) (c .before .before .if2 .left) .1)
+
+bounds-requires : tie.Need-bounds-requires
+bounds-requires c κs =
+    let k = known _ _ (c .before .before .before .before .before .session-tests .ensures) (c .before .before .before .before .if1 .left) in
+    k .known .half
+
+same-at-requires : tie.Need-same-at-requires
+same-at-requires c κs =
+    let k = known _ _ (c .before .before .before .before .before .before .session-tests .ensures) (c .before .before .before .before .before .if1 .left) in
+    within _ _ (c .bounds .ensures _ _ _ (k .known .lent2)) (k .known)
+
+enum-known-yes : tie.Need-enum-known-yes
+enum-known-yes c = search needs
+
+enum-told : tie.Need-enum-told
+enum-told c = search needs
+
+returns-3 : tie.Need-returns-3
+unfolding register sessionAt
+returns-3 c =
+    let a = c .before .before .before .before .before .before .before .before .before .before .before .before .before .args in
+    let k = known _ _ (c .before .before .before .before .before .before .before .before .before .session-tests .ensures) (c .before .before .before .before .before .before .before .before .if1 .left) in
+    rw (same-lost _ _ (a .a) (a .b) (let-in _ _ (c .before .before .before .before .before .before .before .before .before .session-tests .ensures) (c .before .before .before .before .before .before .before .before .if1 .left)) (registers-in (a .a) (a .b) (c .before .before .before .before .before .before .before .if2 .left)) (c .before .before .before .bounds .ensures _ _ _ (k .known .lent2)) (sym (c .before .before .same-at .ensures) ∙ ap compared (c .enum-told .given .1)))
+
+returns-4 : tie.Need-returns-4
+unfolding register sessionAt
+returns-4 c =
+    let a = c .before .before .before .before .before .before .before .before .before .before .before .before .before .before .args in
+    let k = known _ _ (c .before .before .before .before .before .before .before .before .before .before .session-tests .ensures) (c .before .before .before .before .before .before .before .before .before .if1 .left) in
+    rw (same-answered _ _ (a .a) (a .b) (let-in _ _ (c .before .before .before .before .before .before .before .before .before .before .session-tests .ensures) (c .before .before .before .before .before .before .before .before .before .if1 .left)) (registers-in (a .a) (a .b) (c .before .before .before .before .before .before .before .before .if2 .left)) (c .before .before .before .before .bounds .ensures _ _ _ (k .known .lent2)) (sym (c .before .before .before .same-at .ensures) ∙ ap compared (c .before .yes .given .1)))
+
+pub same-spec : {M : Type 1} → statement M
+same-spec =
+    tie.close
+    (tie.spec
+    session-tests-requires
+    returns
+    returns-2
+    mul-session
+    element-copy-out-session
+    mul-first
+    element-copy-out-first
+    mul-second
+    element-copy-out-second
+    bounds-requires
+    same-at-requires
+    enum-known-yes
+    enum-told
+    returns-3
+    returns-4)

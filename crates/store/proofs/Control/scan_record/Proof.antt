@@ -1,0 +1,102 @@
+-- Damage is refused; else the next reference field is shaded, or the record coloured black.
+use native.Mathlib.Omega.{arith}
+use Rattle.rules.proofs.Ranges.{in-range}
+use Rattle.store.proofs.Marked.{record-damage, colour-inside, field-inside, field-next, record-done}
+use borrow.Author.Needs.{needs}
+use Rattle.store.proofs.Control.scan_record.Statement.{statement}
+use Rattle.store.proofs.Control.scan_record.Tie as tie
+
+follow-requires : tie.Need-follow-requires
+follow-requires c κs = let k = in-range _ (c .before .before .before .before .before .pre .1) in (omega arith, omega arith)
+
+enum-known-r : tie.Need-enum-known-r
+enum-known-r c = search needs
+
+enum-told : tie.Need-enum-told
+enum-told c = search needs
+
+same-length : tie.Need-same-length
+same-length c = search needs
+
+same-length-2 : tie.Need-same-length-2
+same-length-2 c = search needs
+
+returns : tie.Need-returns
+returns c = rw (record-damage _ (c .before .before .before .before .before .before .before .before .pre .1) _ (c .before .before .follow .ensures) (c .enum-told .given .1))
+
+cast-if1 : tie.Need-cast-if1
+cast-if1 c = search needs
+
+add-get-word : tie.Need-add-get-word
+add-get-word c = search needs
+
+get-word-requires : tie.Need-get-word-requires
+get-word-requires c κs = field-inside _ (c .before .before .before .before .before .before .before .before .before .before .before .before .pre .1) _ (c .before .before .before .before .before .before .follow .ensures) (c .before .before .before .before .r .given .1) (c .before .before .if1 .taken)
+
+add-shade-next : tie.Need-add-shade-next
+add-shade-next c = search needs
+
+shade-next-requires : tie.Need-shade-next-requires
+shade-next-requires c κs = search needs
+
+same-length-3 : tie.Need-same-length-3
+same-length-3 c = search needs
+
+same-length-4 : tie.Need-same-length-4
+same-length-4 c = search needs
+
+same-length-5 : tie.Need-same-length-5
+same-length-5 c = search needs
+
+returns-2 : tie.Need-returns-2
+returns-2 c =
+    rw (field-next _ (c .before .before .before .before .before .before .before .before .before .before .before .before .before .before .before .before .before .before .before .before .before .before .before .pre .1) _ (c .before .before .before .before .before .before .before .before .before .before .before .before .before .before .before .before .before .follow .ensures) (c .before .before .before .before .before .before .before .before .before .before .before .before .before .before .before .r .given .1) (c .before .before .before .before .before .before .before .before .before .before .before .before .before .if1 .taken) (c .before .before .before .before .before .before .before .before .before .before .get-word .ensures _ _))
+    (c .before .before .before .before .before .before .shade-next .ensures)
+
+put-word-requires : tie.Need-put-word-requires
+put-word-requires c κs = colour-inside _ (c .before .before .before .before .before .before .before .before .before .before .before .before .pre .1) _ (c .before .before .before .before .before .before .follow .ensures) (c .before .before .before .before .r .given .1)
+
+add-self : tie.Need-add-self
+add-self c = search needs
+
+stepped-requires : tie.Need-stepped-requires
+stepped-requires c κs = search needs
+
+same-length-6 : tie.Need-same-length-6
+same-length-6 c = search needs
+
+same-length-7 : tie.Need-same-length-7
+same-length-7 c = search needs
+
+returns-3 : tie.Need-returns-3
+returns-3 c =
+    let start = c .before .before .before .before .before .before .before .before .before .before .before .before .before .before .before .before .before .before .before in
+    let self = start .args .self in
+    rw (record-done _ (start .pre .1) _ (c .before .before .before .before .before .before .before .before .before .before .before .before .before .follow .ensures) (c .before .before .before .before .before .before .before .before .before .before .before .r .given .1) (c .before .before .before .before .before .before .before .before .before .if1 .left) (c .before .before .before .before .before .before .put-word .ensures (self .frontier0) (self .frontier1)))
+    (c .stepped .ensures _ _ _)
+
+pub scan-record-spec : {M : Type 1} → statement M
+scan-record-spec =
+    tie.close
+    (tie.spec
+    follow-requires
+    enum-known-r
+    enum-told
+    same-length
+    same-length-2
+    returns
+    cast-if1
+    add-get-word
+    get-word-requires
+    add-shade-next
+    shade-next-requires
+    same-length-3
+    same-length-4
+    same-length-5
+    returns-2
+    put-word-requires
+    add-self
+    stepped-requires
+    same-length-6
+    same-length-7
+    returns-3)

@@ -1,0 +1,51 @@
+-- The record coloured, listed, and the marks cleared; nothing for null.
+use native.Mathlib.Omega.{arith}
+use Rattle.store.proofs.Shaded.{shade-null, shade-record}
+use borrow.Author.Needs.{needs}
+use Rattle.store.proofs.Control.shade.Statement.{statement}
+use Rattle.store.proofs.Control.shade.Tie as tie
+
+put-word-requires : tie.Need-put-word-requires
+put-word-requires c κs = c .before .before .before .before .before .before .pre (c .before .before .if1 .taken) .0
+
+mul-list : tie.Need-mul-list
+mul-list c = omega (arith, c .before .before .before .before .before .before .before .before .before .before .before .pre (c .before .before .before .before .before .before .before .if1 .taken) .1)
+
+slice-write-list : tie.Need-slice-write-list
+slice-write-list c = omega (arith, c .before .before .before .before .before .before .before .before .before .before .before .pre (c .before .before .before .before .before .before .before .if1 .taken) .1)
+
+add-self : tie.Need-add-self
+add-self c = omega (arith, c .before .before .before .before .before .before .before .before .before .before .before .pre (c .before .before .before .before .before .before .before .if1 .taken) .1)
+
+unmarked-requires : tie.Need-unmarked-requires
+unmarked-requires c κs = search needs
+
+same-length : tie.Need-same-length
+same-length c = search needs
+
+same-length-2 : tie.Need-same-length-2
+same-length-2 c = search needs
+
+same-length-3 : tie.Need-same-length-3
+same-length-3 c = search needs
+
+returns : tie.Need-returns
+returns c = shade-record _ _ (c .before .before .before .before .before .before .before .before .before .if1 .taken) (c .before .before .before .before .before .before .put-word .ensures _ _) (c .unmarked .ensures)
+
+returns-2 : tie.Need-returns-2
+returns-2 c = shade-null _ _ (c .if1 .left)
+
+pub shade-spec : {M : Type 1} → statement M
+shade-spec =
+    tie.close
+    (tie.spec
+    put-word-requires
+    mul-list
+    slice-write-list
+    add-self
+    unmarked-requires
+    same-length
+    same-length-2
+    same-length-3
+    returns
+    returns-2)

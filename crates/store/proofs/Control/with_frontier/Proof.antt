@@ -1,0 +1,16 @@
+-- The frontier of one half set.
+use borrow.Author.Tests.{eq-eqb, ne-eqb}
+use Rattle.rules.specs.Memory.{withFrontier}
+use Rattle.store.proofs.Control.with_frontier.Statement.{statement}
+use Rattle.store.proofs.Control.with_frontier.Tie as tie
+
+returns : tie.Need-returns
+unfolding withFrontier
+returns c = λ h0 h1 l. rw (eq-eqb _ _ (c .if1 .taken))
+
+returns-2 : tie.Need-returns-2
+unfolding withFrontier
+returns-2 c = λ h0 h1 l. rw (ne-eqb _ _ (c .if1 .left))
+
+pub with-frontier-spec : {M : Type 1} → statement M
+with-frontier-spec = tie.close (tie.spec returns returns-2)

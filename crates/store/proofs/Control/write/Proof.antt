@@ -1,0 +1,50 @@
+-- Write: the tests, then the words written.
+use Rattle.store.proofs.Targets.{unwritten, writable, written}
+use borrow.Author.Needs.{needs}
+use Rattle.store.proofs.Control.write.Statement.{statement}
+use Rattle.store.proofs.Control.write.Tie as tie
+
+write-target-requires : tie.Need-write-target-requires
+write-target-requires c κs = search needs
+
+enum-known-n : tie.Need-enum-known-n
+enum-known-n c = search needs
+
+enum-known-v : tie.Need-enum-known-v
+enum-known-v c = search needs
+
+put-plain-requires : tie.Need-put-plain-requires
+put-plain-requires c κs = writable _ _ _ _ (c .before .before .before .before .before .before .before .before .before .before .before .args .value) (c .before .before .before .before .before .write-target .ensures) (c .before .before .before .v .given .1)
+
+same-length : tie.Need-same-length
+same-length c = search needs
+
+same-length-2 : tie.Need-same-length-2
+same-length-2 c = search needs
+
+returns : tie.Need-returns
+returns c = rw (unwritten _ _ _ _ (c .before .before .before .before .before .before .before .before .before .args .value) (c .before .before .before .write-target .ensures) (c .before .n .given .1))
+
+same-length-3 : tie.Need-same-length-3
+same-length-3 c = search needs
+
+same-length-4 : tie.Need-same-length-4
+same-length-4 c = search needs
+
+returns-2 : tie.Need-returns-2
+returns-2 c = written _ _ _ _ (c .before .before .before .before .before .before .before .before .before .before .before .before .before .before .before .before .args .value) (c .before .before .before .before .before .before .before .before .before .before .write-target .ensures) (c .before .before .before .before .before .before .before .before .v .given .1) (c .before .before .before .before .put-plain .ensures _ _)
+
+pub write-spec : {M : Type 1} → statement M
+write-spec =
+    tie.close
+    (tie.spec
+    write-target-requires
+    enum-known-n
+    enum-known-v
+    put-plain-requires
+    same-length
+    same-length-2
+    returns
+    same-length-3
+    same-length-4
+    returns-2)

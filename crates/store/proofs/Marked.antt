@@ -1,0 +1,216 @@
+-- The arms of the phases that mark. A law takes the control record test of its store, by which a proof names the store.
+use Prim.Native.Nat.{ℕ, suc, _+_, _-_, _≤_, _<_}
+use mathlib.Core.Path.{_≡_, _∙_, sym, ap}
+use mathlib.Core.Bool.{Bool, true, false, cond, not, _&&_, false≢true}
+use mathlib.Core.List.{List, map}
+use native.Mathlib.Omega.{arith}
+use native.Mathlib.Numerals.{add-one}
+use lib.Dec.{leb}
+use lib.ListN.{length, length-map, getD, drop, take, drop-of-length-le}
+use lib.Seq.{drop-cons, getD-take, length-take-le}
+use borrow.Author.Tests.{lt-ltb, le-ltb, le-leb, lt-leb, leb-true, leb-false, not-true, not-false}
+use Rattle.rules.specs.Refusals.{refused, passed}
+use Rattle.rules.specs.Memory.{Memory, word, put, refs, sound, follow, followed, colourAt, black}
+use Rattle.rules.specs.Control.{Store, inRange, withMemory, withWalk, withList}
+use Rattle.rules.specs.Phases.{moveOn, lowestUnmarked, sessionAt, withSession, withMark}
+use Rattle.rules.specs.Barriers.{Heap, heapOf, listRoom, shading, shade}
+use Rattle.rules.specs.Collector.{rootMark, scanRecord, scanSession, heapMark, toShadeAll, shadeAll}
+use Rattle.rules.specs.declared.Session.{Session}
+use Rattle.rules.specs.declared.Followed.{Followed}
+use Rattle.rules.specs.declared.Followed.the-variants.{Sound, Damage}
+use Rattle.rules.proofs.Ranges.{InRange, in-range}
+use Rattle.heap.specs.View.{checked, Inside}
+use Rattle.heap.specs.declared.Checked.{Checked}
+use Rattle.heap.specs.declared.Checked.the-variants as check
+use Rattle.heap.proofs.Soundness.{found, lost, header-inside}
+use Rattle.heap.proofs.Fields.{ref-inside}
+use Rattle.heap.proofs.Plans.{shading-known}
+use Rattle.store.specs.Marking.{shadeNext, whites}
+use Rattle.store.specs.declared.scanning.Whites.{Whites}
+use Rattle.store.proofs.Collected.{whites-sound}
+
+-- ---- shading as a step of a walk
+
+tested : (r a : Checked) {z : Heap} (s : Store) (q : ℕ) → checked r ≡ shading z q → z ≡ heapOf s → r ≡ a → shading (heapOf s) q ≡ checked a
+tested r a s q e b d = rw (← b) (sym e ∙ ap checked d)
+
+module _ {r : Checked} {z : Heap} (s : Store) (q : ℕ) (e : checked r ≡ shading z q) (b : z ≡ heapOf s) where
+  pub next-damage : r ≡ check.Damage → (k i : ℕ) → shadeNext s q k i ≡ refused 12
+  unfolding shadeNext
+  next-damage d k i = rw (tested r check.Damage s q e b d)
+
+  module _ {w : ℕ} (d : r ≡ check.Word w) where
+    pub next-shaded : (k i : ℕ) → shadeNext s q k i ≡ passed (withWalk (shade s w) k i)
+    unfolding shadeNext
+    next-shaded k i = rw (tested r (check.Word w) s q e b d)
+
+    -- what shading asks of its caller
+    pub next-allowed : InRange s → (w ≡ 0 → ⊥)
+        → Inside (s .memory .half0) (s .memory .half1) w colourAt × (s .list .tail < length (s .list .words))
+    next-allowed k n =
+        let f = shading-known (heapOf s) q w (tested r (check.Word w) s q e b d) n in
+        (header-inside (s .memory .half0) (s .memory .half1) (s .memory .frontier0) (s .memory .frontier1) w (f .sound) (omega arith) (omega arith) 1 (omega arith), f .room)
+
+-- ---- RootMark
+
+module _ (s : Store) (k : inRange s ≡ true) where
+  pub roots-done : 32 ≤ s .walk .place → rootMark s ≡ passed (moveOn s)
+  unfolding rootMark
+  roots-done h = rw (le-ltb (s .walk .place) 32 h)
+
+  pub root-next : s .walk .place < 32 → rootMark s ≡ shadeNext s (getD (s .globals) (s .walk .place) 0) (s .walk .place + 1) (s .walk .field)
+  unfolding rootMark shadeNext
+  root-next h = rw (lt-ltb (s .walk .place) 32 h)
+
+-- ---- HeapMark: a listed record
+
+module _ {x : Followed} (s : Store) (k : inRange s ≡ true) (v : ℕ) (e : x ≡ follow (s .memory) v) where
+  pub record-damage : x ≡ Damage → scanRecord s v ≡ refused 12
+  unfolding scanRecord followed
+  record-damage d = rw (lost (s .memory) v e d)
+
+  module _ {at r p : ℕ} (f : x ≡ Sound at r p) where
+    pub colour-inside : Inside (s .memory .half0) (s .memory .half1) v colourAt
+    colour-inside =
+        let g = found (s .memory) v e f in
+        let i = in-range s k in
+        header-inside (s .memory .half0) (s .memory .half1) (s .memory .frontier0) (s .memory .frontier1) v (g .sound) (omega arith) (omega arith) 1 (omega arith)
+
+    pub field-inside : s .walk .field < r → Inside (s .memory .half0) (s .memory .half1) v (s .walk .field + 3)
+    field-inside h =
+        let g = found (s .memory) v e f in
+        let i = in-range s k in
+        let c : s .walk .field + 3 ≡ 3 + s .walk .field = omega arith in
+        rw c (ref-inside (s .memory .half0) (s .memory .half1) (s .memory .frontier0) (s .memory .frontier1) v (g .sound) (omega arith) (omega arith) (s .walk .field) (rw (← g .refs) h))
+
+    pub field-next : {q : ℕ} → s .walk .field < r → q ≡ word (s .memory) v (s .walk .field + 3)
+        → scanRecord s v ≡ shadeNext s q (s .walk .place) (s .walk .field + 1)
+    unfolding scanRecord followed shadeNext
+    field-next h w =
+        let g = found (s .memory) v e f in
+        let c : s .walk .field + 3 ≡ 3 + s .walk .field = omega arith in
+        rw (g .sound, ← g .refs, lt-ltb (s .walk .field) r h, w, c)
+
+    pub record-done : {N : Memory} → r ≤ s .walk .field → N ≡ put (s .memory) v colourAt black
+        → scanRecord s v ≡ passed (withWalk (withList (withMemory s N) (s .list .words) (s .list .head + 1) (s .list .tail)) (s .walk .place) 0)
+    unfolding scanRecord followed
+    record-done h w =
+        let g = found (s .memory) v e f in
+        rw (g .sound, ← g .refs, le-ltb (s .walk .field) r h, w)
+
+-- ---- HeapMark: the registers of a session
+
+module _ (s : Store) (n : ℕ) where
+  session-damage : {m : ℕ} → toShadeAll (s .memory) (sessionAt s n .registers) ≡ refused m → scanSession s n ≡ refused m
+  unfolding scanSession
+  session-damage e = rw e
+
+  module _ (vs : List ℕ) (e : toShadeAll (s .memory) (sessionAt s n .registers) ≡ passed vs) where
+    session-full : length (s .list .words) < s .list .tail + length vs → scanSession s n ≡ refused 12
+    unfolding scanSession listRoom
+    session-full h = rw (e, lt-leb (s .list .tail + length vs) (length (s .list .words)) h)
+
+    session-scanned : s .list .tail + length vs ≤ length (s .list .words)
+        → scanSession s n ≡ passed (shadeAll (withSession s n (withMark (sessionAt s n) true)) vs)
+    unfolding scanSession listRoom
+    session-scanned h = rw (e, le-leb (s .list .tail + length vs) (length (s .list .words)) h)
+
+-- by the code's test: the registers are sound, and c entries fit
+module _ (s : Store) (k : InRange s) (n c : ℕ) (vs : List ℕ) (l : length vs ≡ c) where
+  refused-whites : (a : Bool) → cond a (passed vs) (refused 12) ≡ toShadeAll (s .memory) (sessionAt s n .registers)
+      → not (a && leb c (s .lengths .list - s .list .tail)) ≡ true → scanSession s n ≡ refused 12
+  refused-whites true e t =
+      let f = leb-false c (s .lengths .list - s .list .tail) (not-true _ t) in
+      session-full s n vs (sym e) (omega arith)
+  refused-whites false e t = session-damage s n (sym e)
+
+  accepted-whites : (a : Bool) → cond a (passed vs) (refused 12) ≡ toShadeAll (s .memory) (sessionAt s n .registers)
+      → not (a && leb c (s .lengths .list - s .list .tail)) ≡ false
+      → (toShadeAll (s .memory) (sessionAt s n .registers) ≡ passed vs) × (s .list .tail + c ≤ length (s .list .words))
+  accepted-whites true e t =
+      let f = leb-true c (s .lengths .list - s .list .tail) (not-false _ t) in
+      (sym e, omega arith)
+  accepted-whites false e t = absurd (false≢true (sym t))
+
+-- what is known where the registers of session n gave w
+pub record Scanning (s : Store) (n : ℕ) (w : Whites) : Type 0 where
+  pub known : InRange s
+  pub few : w .count ≤ length (w .words)
+  pub answer : whites w ≡ toShadeAll (s .memory) (sessionAt s n .registers)
+
+pub scanning : {z : Heap} (s : Store) (n : ℕ) (w : Whites) (vs : List ℕ) → InRange s → w .count ≤ 8 → length (w .words) ≡ 8
+    → whites w ≡ toShadeAll (z .memory) vs → z ≡ heapOf s → vs ≡ sessionAt s n .registers → Scanning s n w
+scanning s n w vs k c l e b g =
+    record {
+      known = k;
+      few = omega arith;
+      answer = e ∙ ap (λ (y : Heap). toShadeAll (y .memory) vs) b ∙ ap (toShadeAll (s .memory)) g;
+    }
+
+module _ {s : Store} {n : ℕ} {w : Whites} (k : Scanning s n w) where
+  counted : length (take (w .count) (w .words)) ≡ w .count
+  counted = length-take-le (w .count) (w .words) (k .few)
+
+  pub session-refused : not (w .sound && leb (w .count) (s .lengths .list - s .list .tail)) ≡ true → scanSession s n ≡ refused 12
+  session-refused = refused-whites s (k .known) n (w .count) (take (w .count) (w .words)) counted (w .sound) (k .answer)
+
+  module _ (t : not (w .sound && leb (w .count) (s .lengths .list - s .list .tail)) ≡ false) where
+    accepted : (toShadeAll (s .memory) (sessionAt s n .registers) ≡ passed (take (w .count) (w .words)))
+        × (s .list .tail + w .count ≤ length (s .list .words))
+    accepted = accepted-whites s (k .known) n (w .count) (take (w .count) (w .words)) counted (w .sound) (k .answer) t
+
+    pub session-accepted : scanSession s n ≡ passed (shadeAll (withSession s n (withMark (sessionAt s n) true)) (take (w .count) (w .words)))
+    session-accepted = session-scanned s n (take (w .count) (w .words)) (accepted .0) (rw counted (accepted .1))
+
+    pub session-room : s .list .tail + w .count ≤ length (s .list .words)
+    session-room = accepted .1
+
+    pub session-inside : (j : ℕ) → j < w .count → Inside (s .memory .half0) (s .memory .half1) (getD (w .words) j 0) colourAt
+    session-inside j h =
+        let r = k .known in
+        let l : j < length (take (w .count) (w .words)) = rw counted h in
+        let f = whites-sound (s .memory) (sessionAt s n .registers) (take (w .count) (w .words)) (accepted .0) j l in
+        header-inside (s .memory .half0) (s .memory .half1) (s .memory .frontier0) (s .memory .frontier1) (getD (w .words) j 0)
+        (rw (getD-take (w .count) (w .words) j 0 h) at f) (omega arith) (omega arith) 1 (omega arith)
+
+-- ---- the lowest session without a mark
+
+module _ (l : List Session) (i : ℕ) (e : lowestUnmarked l ≡ i + lowestUnmarked (drop i l)) where
+  module _ (d : Session) (h : i < length l) where
+    here : (getD l i d .attached && not (getD l i d .scanned)) ≡ true → lowestUnmarked (drop i l) ≡ 0
+    here b = rw (drop-cons l i d) (simp b)
+
+    later : (getD l i d .attached && not (getD l i d .scanned)) ≡ false → lowestUnmarked (drop i l) ≡ suc (lowestUnmarked (drop (i + 1) l))
+    later b = rw (drop-cons l i d, add-one i) (simp b)
+
+    pub lowest-here : (getD l i d .attached && not (getD l i d .scanned)) ≡ true → i ≡ lowestUnmarked l
+    lowest-here b = let z = here b in omega arith
+
+    pub lowest-later : (getD l i d .attached && not (getD l i d .scanned)) ≡ false → lowestUnmarked l ≡ i + 1 + lowestUnmarked (drop (i + 1) l)
+    lowest-later b = let z = later b in omega arith
+
+  none : length l ≤ i → lowestUnmarked (drop i l) ≡ 0
+  none h = rw (drop-of-length-le l {i = i} h)
+
+  pub lowest-none : length l ≤ i → i ≡ lowestUnmarked l
+  lowest-none h = let z = none h in omega arith
+
+-- the length of an array of structs
+pub unmapped : (A B : Type 0) (f : A → B) (l : List A) (n : ℕ) → length (map f l) ≡ n → length l ≡ n
+unmapped A B f l n e = sym (length-map l f) ∙ e
+
+-- ---- HeapMark
+
+module _ (s : Store) (k : inRange s ≡ true) where
+  pub listed-next : s .list .head < s .list .tail → heapMark s ≡ scanRecord s (getD (s .list .words) (s .list .head) 0)
+  unfolding heapMark
+  listed-next h = rw (lt-ltb (s .list .head) (s .list .tail) h)
+
+  module _ {n : ℕ} (h : s .list .tail ≤ s .list .head) (e : n ≡ lowestUnmarked (s .sessions)) where
+    pub session-next : n < length (s .sessions) → heapMark s ≡ scanSession s n
+    unfolding heapMark
+    session-next l = rw (le-ltb (s .list .head) (s .list .tail) h, ← e, lt-ltb n (length (s .sessions)) l)
+
+    pub marking-done : length (s .sessions) ≤ n → heapMark s ≡ passed (moveOn s)
+    unfolding heapMark
+    marking-done l = rw (le-ltb (s .list .head) (s .list .tail) h, ← e, le-ltb n (length (s .sessions)) l)

@@ -1,0 +1,114 @@
+-- Shells: one put at the other half's frontier, and the arms of the phase.
+use Prim.Native.Nat.{ℕ, _+_, _≤_, _<_}
+use mathlib.Core.Path.{_≡_, _∙_, sym, ap, refl}
+use mathlib.Core.Bool.{Bool, true, false, cond}
+use mathlib.Core.List.{List}
+use native.Mathlib.Omega.{arith}
+use lib.Dec.{eqb}
+use lib.ListN.{length}
+use lib.Seq.{sets}
+use borrow.Author.Tests.{le-leb, lt-leb}
+use Rattle.rules.specs.Refusals.{Outcome, answer}
+use Rattle.rules.specs.Memory.{Memory, half, frontier, withHalf, withFrontier, reference, newRecord, nextReference, append, word, put, refs, plains, size, sound, followed}
+use Rattle.rules.specs.Control.{Store, withMemory, withWalk}
+use Rattle.rules.specs.Phases.{otherHalf}
+use Rattle.rules.specs.Collector.{walked, below, pastRecord, handshake, needsShell, shellOf, withShell, allocateShells}
+use Rattle.rules.specs.declared.Answer.the-variants.{Refused}
+use Rattle.rules.proofs.Ranges.{InRange}
+use Rattle.heap.specs.View.{memory}
+use Rattle.heap.proofs.Soundness.{Found}
+use Rattle.heap.proofs.Written.{appended}
+use Rattle.store.specs.Steps.{went, stepped}
+use Rattle.store.specs.Shells.{Shelled}
+use Rattle.store.proofs.Walks.{header-at, size-found}
+
+-- ---- the shell
+
+fields-any : (h0 h1 : List ℕ) (f0 f1 v : ℕ) → refs (memory h0 h1 0 0) v + plains (memory h0 h1 0 0) v
+    ≡ refs (memory h0 h1 f0 f1) v + plains (memory h0 h1 f0 f1) v
+unfolding refs plains word half
+fields-any h0 h1 f0 f1 v = refl
+
+-- a frontier moved and a word put, in either order
+put-frontier : (N : Memory) (h f v j x : ℕ) → put (withFrontier N h f) v j x ≡ withFrontier (put N v j x) h f
+unfolding put withFrontier withHalf half
+put-frontier N h f v j x = refl
+
+shell-words : {shape shell n at : ℕ} (M : Memory) (other v : ℕ) → shape ≡ word M v 0 → shell ≡ reference other at
+    → n ≡ refs M v + plains M v → frontier M other ≡ at
+    → put (append M other (newRecord shape 0 v n)) v 2 shell ≡ withShell M other v
+unfolding withShell shellOf nextReference
+shell-words M other v w t n e = rw (w, t, n, e)
+
+module _ (h0 h1 : List ℕ) (f0 f1 : ℕ) {N P : Memory} {shape shell : ℕ} (other at v n : ℕ) where
+  pub shell-put : n ≡ refs (memory h0 h1 0 0) v + plains (memory h0 h1 0 0) v
+      → shape ≡ word (memory h0 h1 f0 f1) v 0 → shell ≡ reference other at
+      → N ≡ withHalf (memory h0 h1 f0 f1) other (sets (half (memory h0 h1 f0 f1) other) at (newRecord shape 0 v n))
+      → P ≡ put N v 2 shell → frontier (memory h0 h1 f0 f1) other ≡ at
+      → withFrontier P other (at + (n + 3)) ≡ withShell (memory h0 h1 f0 f1) other v
+  shell-put c w t a p e =
+      let M = memory h0 h1 f0 f1 in
+      let q : withFrontier N other (frontier M other + (n + 3)) ≡ append M other (newRecord shape 0 v n) = appended M other shape 0 v n (rw e a) in
+      ap (λ (X : Memory). withFrontier X other (at + (n + 3))) p
+      ∙ sym (put-frontier N other (at + (n + 3)) v 2 shell)
+      ∙ ap (λ (X : Memory). put X v 2 shell) (rw e at q)
+      ∙ shell-words M other v w t (c ∙ fields-any h0 h1 f0 f1 v) e
+
+-- ---- what making a shell asks for
+
+half-long : (b : Bool) (h0 h1 : List ℕ) {n : ℕ} → n ≡ length h0 → n ≡ length h1 → length (cond b h0 h1) ≡ n
+half-long true h0 h1 x y = sym x
+half-long false h0 h1 x y = sym y
+
+pub other-long : {s : Store} (h f0 f1 : ℕ) → InRange s → length (half (memory (s .memory .half0) (s .memory .half1) f0 f1) h) ≡ s .lengths .half0
+unfolding half
+other-long {s} h f0 f1 k = half-long (eqb h 0) (s .memory .half0) (s .memory .half1) (k .lent0) (k .equal ∙ k .lent1)
+
+pub shell-ready : {s : Store} {other at v k r p : ℕ} → InRange s → Found (s .memory) v k r p → other ≡ otherHalf (s .current)
+    → at + (r + p + 3) ≤ s .lengths .half0 → Shelled (s .memory .half0) (s .memory .half1) other at v (r + p)
+unfolding otherHalf
+shell-ready {s} {other} {at} {v} g f o l =
+    let e = other-long other 0 0 g in
+    record {
+      shape = header-at g f 0 (omega arith);
+      replica = header-at g f 2 (omega arith);
+      fields = sym (fields-any (s .memory .half0) (s .memory .half1) (s .memory .frontier0) (s .memory .frontier1) v ∙ sym (sum (f .refs) (f .plains)));
+      side = omega arith;
+      few = omega arith;
+      room = omega arith;
+    }
+  where
+    sum : {a b c d : ℕ} → a ≡ b → c ≡ d → a + c ≡ b + d
+    sum x y = omega arith
+
+-- ---- the arms of the phase
+
+moved : {o : Outcome Store} {t u : Store} (n : ℕ) → t ≡ u → o ≡ went (withWalk t (t .walk .place + n) 0) → o ≡ went (withWalk u (u .walk .place + n) 0)
+moved n e w = rw (← e) w
+
+module _ (s : Store) where
+  pub shells-done : {o : Outcome Store} → below s ≡ false → o ≡ stepped s (handshake s) → o ≡ stepped s (allocateShells s)
+  unfolding allocateShells
+  shells-done b e = rw b e
+
+  module _ {v : ℕ} (b : below s ≡ true) (w : v ≡ walked s) where
+    pub shells-lost : sound (s .memory) v ≡ false → record { store = s; reply = answer (Refused 12) } ≡ stepped s (allocateShells s)
+    unfolding allocateShells followed
+    shells-lost d = rw (b, ← w, d)
+
+    module _ {k r p : ℕ} (f : Found (s .memory) v k r p) where
+      pub shells-passed : {o : Outcome Store} → needsShell (s .memory) v ≡ false → o ≡ went (withWalk s (s .walk .place + (r + p + 3)) 0) → o ≡ stepped s (allocateShells s)
+      unfolding allocateShells followed pastRecord
+      shells-passed d e = rw (b, ← w, f .sound, d, size-found f) e
+
+      module _ {other at : ℕ} (d : needsShell (s .memory) v ≡ true) (h : other ≡ otherHalf (s .current)) (a : at ≡ frontier (s .memory) other) (g : length (half (s .memory) other) ≡ s .lengths .half0) where
+        pub shells-full : s .lengths .half0 < at + (r + p + 3) → record { store = s; reply = answer (Refused 12) } ≡ stepped s (allocateShells s)
+        unfolding allocateShells followed
+        shells-full l =
+            rw (b, ← w, f .sound, d, size-found f, ← h, ← a, g, lt-leb (at + (r + p + 3)) (s .lengths .half0) l)
+
+        pub shells-made : {o : Outcome Store} {t : Store} {N : Memory} → at + (r + p + 3) ≤ s .lengths .half0 → N ≡ withShell (s .memory) other v
+            → t ≡ withMemory s N → o ≡ went (withWalk t (t .walk .place + (r + p + 3)) 0) → o ≡ stepped s (allocateShells s)
+        unfolding allocateShells followed pastRecord
+        shells-made {o} l n t e =
+            rw (b, ← w, f .sound, d, size-found f, ← h, ← a, g, le-leb (at + (r + p + 3)) (s .lengths .half0) l, ← n) (moved {o = o} (r + p + 3) t e)

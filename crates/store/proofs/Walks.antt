@@ -1,0 +1,63 @@
+-- The units of work that walk over the records of the current half: what their store's ranges give, and the arms of reclaim.
+use Prim.Native.Nat.{ℕ, _+_, _≤_, _<_}
+use mathlib.Core.Path.{_≡_}
+use mathlib.Core.Bool.{Bool, true, false, cond}
+use native.Mathlib.Omega.{arith}
+use lib.Dec.{eqb}
+use lib.ListN.{length}
+use Rattle.rules.specs.Refusals.{Outcome, answer}
+use Rattle.rules.specs.Memory.{Memory, frontier, withFrontier, put, refs, plains, size, sound, followed}
+use Rattle.rules.specs.Control.{Store, withMemory, withWalk}
+use Rattle.rules.specs.Phases.{otherHalf, moveOn}
+use Rattle.rules.specs.Collector.{walked, below, haveLevel, pastRecord, reclaim}
+use Rattle.rules.specs.declared.Answer.the-variants.{Refused}
+use Rattle.rules.proofs.Ranges.{InRange}
+use Rattle.heap.specs.View.{Inside}
+use Rattle.heap.proofs.Soundness.{Found, header-inside}
+use Rattle.store.specs.Steps.{went, stepped}
+
+-- ---- the ranges
+
+-- the frontiers are within the lent halves
+pub fronts : {s : Store} → InRange s → (s .memory .frontier0 ≤ length (s .memory .half0)) × (s .memory .frontier1 ≤ length (s .memory .half1))
+fronts k = (omega arith, omega arith)
+
+either-small : (b : Bool) {f0 f1 n : ℕ} → f0 ≤ n → f1 ≤ n → cond b f0 f1 ≤ n
+either-small true x y = x
+either-small false x y = y
+
+pub front-small : {s : Store} {at : ℕ} (h : ℕ) → InRange s → at ≡ frontier (s .memory) h → at ≤ 1048576
+unfolding frontier
+front-small {s} {at} h k e = let l = either-small (eqb h 0) (k .front0) (k .front1) in omega arith
+
+-- the header of a record found
+pub header-at : {s : Store} {v at r p : ℕ} → InRange s → Found (s .memory) v at r p → (j : ℕ) → j < 3
+    → Inside (s .memory .half0) (s .memory .half1) v j
+header-at {s} {v} k f j l = let b = fronts k in header-inside _ _ _ _ v (f .sound) (b .0) (b .1) j l
+
+-- the words of a record found
+pub size-found : {M : Memory} {v at r p : ℕ} → Found M v at r p → size M v ≡ r + p + 3
+unfolding size
+size-found f = omega arith
+
+-- ---- reclaim
+
+module _ (s : Store) where
+  pub reclaim-waits : {o : Outcome Store} → haveLevel s ≡ false → o ≡ went s → o ≡ stepped s (reclaim s)
+  unfolding reclaim
+  reclaim-waits h e = rw h e
+
+  pub reclaim-ends : {o : Outcome Store} {t : Store} {other : ℕ} → haveLevel s ≡ true → below s ≡ false → other ≡ otherHalf (s .current)
+      → t ≡ withMemory s (withFrontier (s .memory) other 0) → o ≡ went (moveOn t) → o ≡ stepped s (reclaim s)
+  unfolding reclaim
+  reclaim-ends h b x t e = rw (h, b, ← x, ← t) e
+
+  module _ {v : ℕ} (h : haveLevel s ≡ true) (b : below s ≡ true) (w : v ≡ walked s) where
+    pub reclaim-lost : sound (s .memory) v ≡ false → record { store = s; reply = answer (Refused 12) } ≡ stepped s (reclaim s)
+    unfolding reclaim followed
+    reclaim-lost d = rw (h, b, ← w, d)
+
+    pub reclaim-clears : {o : Outcome Store} {N : Memory} {at r p : ℕ} → Found (s .memory) v at r p → N ≡ put (s .memory) v 2 0
+        → o ≡ went (withWalk (withMemory s N) (s .walk .place + (r + p + 3)) 0) → o ≡ stepped s (reclaim s)
+    unfolding reclaim followed pastRecord
+    reclaim-clears f n e = rw (h, b, ← w, f .sound, size-found f, ← n) e

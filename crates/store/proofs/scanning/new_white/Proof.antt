@@ -1,0 +1,60 @@
+-- Invariant: v is among the words exactly where it is among those from i on.
+use Prim.Native.Nat.{_≤_, _-_}
+use mathlib.Core.Path.{_≡_, refl}
+use native.Mathlib.Omega.{arith}
+use lib.ListN.{length, drop, take}
+use borrow.Author.Tests.{eq-eqb}
+use Rattle.store.specs.Marking.{among}
+use Rattle.store.proofs.Collected.{search-found, search-on, search-ended}
+use borrow.Author.Needs.{needs}
+use Rattle.store.proofs.scanning.new_white.Statement.{statement}
+use Rattle.store.proofs.scanning.new_white.Tie as tie
+
+abbrev Inv-loop : tie.InvT-loop
+Inv-loop count v words i₀ i = (length words ≡ 8) × (count ≤ 8) × (i ≤ count) × (among v (take count words) ≡ among v (drop i (take count words)))
+
+abbrev μ-loop : tie.MeasureT-loop
+μ-loop count v words i₀ i = count - i
+
+returns : tie.Need-returns Inv-loop μ-loop
+returns c = rw (eq-eqb _ _ (c .if1 .taken))
+
+loop-holds : tie.Need-loop-holds Inv-loop μ-loop
+loop-holds c = (search needs, search needs, search needs, refl)
+
+mul-if2 : tie.Need-mul-if2 Inv-loop μ-loop
+mul-if2 c = search needs
+
+array-read-if2 : tie.Need-array-read-if2 Inv-loop μ-loop
+array-read-if2 c = search needs
+
+returns-2 : tie.Need-returns-2 Inv-loop μ-loop
+returns-2 c = search-found (c .before .before .before .before .args .v) (c .before .before .before .before .args .t1) (c .before .before .before .before .args .count) (c .before .before .loop .i) (omega arith) (c .before .before .loop .inv .3) (c .before .loop-test .taken) (c .if2 .taken)
+
+add-i : tie.Need-add-i Inv-loop μ-loop
+add-i c = search needs
+
+loop-less : tie.Need-loop-less Inv-loop μ-loop
+loop-less c = search needs
+
+loop-again : tie.Need-loop-again Inv-loop μ-loop
+loop-again c = (search needs, search needs, search needs, search-on (c .before .before .before .before .args .v) (c .before .before .before .before .args .t1) (c .before .before .before .before .args .count) (c .before .before .loop .i) (omega arith) (c .before .before .loop .inv .3) (c .before .loop-test .taken) (c .if2 .left))
+
+returns-3 : tie.Need-returns-3 Inv-loop μ-loop
+returns-3 c = search-ended (c .before .before .before .args .v) (c .before .before .before .args .t1) (c .before .before .before .args .count) (c .before .loop .i) (omega arith) (c .before .loop .inv .3) (c .before .before .if1 .left) (c .loop-test .left)
+
+pub new-white-spec : {M : Type 1} → statement M
+new-white-spec =
+    tie.close
+    (tie.spec
+    Inv-loop
+    μ-loop
+    returns
+    loop-holds
+    mul-if2
+    array-read-if2
+    returns-2
+    add-i
+    loop-less
+    loop-again
+    returns-3)

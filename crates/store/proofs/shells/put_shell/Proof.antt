@@ -1,0 +1,39 @@
+-- The shell appended, and the record's replica word set.
+use Rattle.heap.proofs.Halves.{inside-kept}
+use Rattle.store.proofs.Shelling.{shell-put}
+use borrow.Author.Needs.{needs}
+use Rattle.store.proofs.shells.put_shell.Statement.{statement}
+use Rattle.store.proofs.shells.put_shell.Tie as tie
+
+get-word-requires : tie.Need-get-word-requires
+get-word-requires c κs = search needs
+
+reference-requires : tie.Need-reference-requires
+reference-requires c κs = search needs
+
+append-record-requires : tie.Need-append-record-requires
+append-record-requires c κs = search needs
+
+put-word-requires : tie.Need-put-word-requires
+put-word-requires c κs = inside-kept _ _ _ _ _ _ (c .before .before .before .before .before .before .append-record .kept .0) (c .before .before .before .before .before .before .append-record .kept .1 .0) (c .before .before .before .before .before .before .before .before .before .before .before .before .before .before .before .pre .replica)
+
+same-length : tie.Need-same-length
+same-length c = search needs
+
+same-length-2 : tie.Need-same-length-2
+same-length-2 c = search needs
+
+returns : tie.Need-returns
+returns c = λ f0 f1 e. shell-put _ _ f0 f1 _ _ _ _ (c .before .before .before .before .before .before .before .before .before .before .before .before .before .before .before .before .before .before .before .before .pre .fields) (c .before .before .before .before .before .before .before .before .before .before .before .before .before .before .before .get-word .ensures f0 f1) (c .before .before .before .before .before .before .before .before .before .before .before .before .before .before .reference .ensures) (c .before .before .before .before .before .before .before .before .before .before .before .append-record .ensures f0 f1) (c .before .before .before .before .put-word .ensures f0 f1) e
+
+pub put-shell-spec : {M : Type 1} → statement M
+put-shell-spec =
+    tie.close
+    (tie.spec
+    get-word-requires
+    reference-requires
+    append-record-requires
+    put-word-requires
+    same-length
+    same-length-2
+    returns)

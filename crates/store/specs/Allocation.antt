@@ -1,0 +1,36 @@
+-- What the functions of allocation ask of their callers; the tests 4, 10 and 14 give it.
+use Prim.Native.Nat.{ℕ, _+_, _≤_}
+use mathlib.Core.Path.{_≡_}
+use mathlib.Core.Bool.{true}
+use mathlib.Core.List.{List}
+use lib.ListN.{length}
+use Rattle.rules.specs.Memory.{half, frontier}
+use Rattle.rules.specs.Barriers.{allocationRoom}
+use Rattle.heap.specs.View.{memory}
+use Rattle.store.specs.View.{view}
+use Rattle.store.specs.declared.Control.{Control}
+
+-- the halves are those at making
+pub record Fits (c : Control) (h0 h1 : List ℕ) : Type 0 where
+  pub low : c .length0 ≡ length h0
+  pub high : c .length0 ≡ length h1
+
+-- the current half, the frontiers and the counts are in range
+pub record Small (c : Control) (r p : ℕ) : Type 0 where
+  pub half : c .current ≤ 1
+  pub low : c .frontier0 ≤ 1048576
+  pub high : c .frontier1 ≤ 1048576
+  pub refs : r ≤ 255
+  pub plains : p ≤ 255
+
+-- half h has room above its frontier
+pub record Room (c : Control) (h0 h1 : List ℕ) (h r p : ℕ) : Type 0 where
+  pub above : frontier (memory h0 h1 (c .frontier0) (c .frontier1)) h + (r + p + 3) ≤ length (half (memory h0 h1 (c .frontier0) (c .frontier1)) h)
+  pub short : frontier (memory h0 h1 (c .frontier0) (c .frontier1)) h ≤ 1048576
+  pub refs : r ≤ 255
+  pub plains : p ≤ 255
+
+-- the halves that an allocation at level l writes have room
+pub record Allocatable (c : Control) (h0 h1 : List ℕ) (l r p : ℕ) : Type 0 where
+  pub small : Small c r p
+  pub room : (g : List ℕ) → allocationRoom (view c h0 h1 g) l r p ≡ true

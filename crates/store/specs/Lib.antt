@@ -1,0 +1,22 @@
+-- The code's values as the rules' values.
+pub mod View
+-- The register of the record worked on.
+pub mod Operands
+-- Where a write of a plain field goes.
+pub mod Plain
+-- What a store and a put write.
+pub mod Stores
+-- What a collector step leaves.
+pub mod Steps
+-- Marking: white registers, and shading as a step of a walk.
+pub mod Marking
+-- What making a shell asks for.
+pub mod Shells
+-- What the functions of allocation ask of their callers.
+pub mod Allocation
+-- What making a shell asks for.
+-- Marking: white registers, and shading as a step of a walk.
+-- Copying the fields of a record to its replica.
+pub mod Copies
+-- Registers forwarded.
+pub mod Flips

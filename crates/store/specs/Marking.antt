@@ -1,0 +1,25 @@
+-- Marking: the white records among the registers of a session, and shading as a step of a walk.
+use Prim.Native.Nat.{ℕ}
+use mathlib.Core.Bool.{Bool, false, cond, _||_}
+use mathlib.Core.List.{List, [], _∷_}
+use lib.Dec.{eqb}
+use lib.ListN.{take}
+use Rattle.rules.specs.Refusals.{Tested, refused, passed, _>>=_}
+use Rattle.rules.specs.Control.{Store, withWalk}
+use Rattle.rules.specs.Barriers.{heapOf, shading, shade}
+use Rattle.store.specs.declared.scanning.Whites.{Whites}
+
+-- v is one of the words
+abbrev pub among : ℕ → List ℕ → Bool
+among v [] = false
+among v (w ∷ ws) = eqb v w || among v ws
+
+-- the code's answer as the rules' answer
+abbrev pub whites : Whites → Tested (List ℕ)
+whites w = cond (w .sound) (passed (take (w .count) (w .words))) (refused 12)
+
+-- the record that q names is shaded, and the walk goes on to place k and field i
+unfoldable pub shadeNext : Store → ℕ → ℕ → ℕ → Tested Store
+shadeNext s q k i = do
+  w ← shading (heapOf s) q
+  passed (withWalk (shade s w) k i)

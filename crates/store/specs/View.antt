@@ -1,0 +1,29 @@
+-- The code's values as the rules' values.
+use Prim.Native.Nat.{ℕ}
+use mathlib.Core.List.{List}
+use Rattle.rules.specs.Refusals.{Outcome, answer}
+use Rattle.rules.specs.Control.{Store, Lengths}
+use Rattle.store.specs.declared.Control.{Control}
+use Rattle.store.specs.declared.Reply.{Reply}
+
+-- the control record over the words of half 0, half 1 and the list
+abbrev pub view : Control → List ℕ → List ℕ → List ℕ → Store
+view c h0 h1 l =
+    record {
+      lengths = record { half0 = c .length0; half1 = c .length1; list = c .capacity };
+      memory = record { half0 = h0; half1 = h1; frontier0 = c .frontier0; frontier1 = c .frontier1 };
+      current = c .current;
+      phase = c .phase;
+      walk = record { place = c .place; field = c .field };
+      list = record { words = l; head = c .head; tail = c .tail };
+      globals = c .globals;
+      sessions = c .sessions;
+    }
+
+-- what a call of the code leaves, with the words that it leaves
+abbrev pub outcome : Reply → List ℕ → List ℕ → List ℕ → Outcome Store
+outcome r h0 h1 l = record { store = view (r .control) h0 h1 l; reply = answer (r .answer) }
+
+-- the three lengths
+abbrev pub lengths : ℕ → ℕ → ℕ → Lengths
+lengths n0 n1 n = record { half0 = n0; half1 = n1; list = n }

@@ -1,0 +1,164 @@
+// Allocation: the tests, then a new record in one half or in both.
+ghost use mathlib.Core.Path.{_≡_};
+ghost use Prim.Native.Nat.{ℕ, _≤_};
+ghost use mathlib.Core.List.{List};
+ghost use Rattle.rules.specs.Refusals.{refusalOf};
+ghost use Rattle.rules.specs.Memory.{nextReference};
+ghost use Rattle.rules.specs.Control.{withMemory};
+ghost use Rattle.rules.specs.Barriers.{allocationRoom, placed, allocated, allocatedReference};
+ghost use Rattle.rules.specs.Calls.{allocate};
+ghost use Rattle.rules.specs.Runs.{apply, Allocate};
+ghost use Rattle.store.specs.View.{view, outcome};
+ghost use Rattle.store.specs.Allocation.{Small, Fits, Room, Allocatable};
+use crate::Control;
+use crate::Reply;
+use crate::walking::frontier;
+use crate::walking::reference;
+use heap::forwarding::other_half;
+use heap::records::append_record;
+
+impl Control {
+    // Whether the halves that an allocation at this level writes have room: the current half, from level 3 on both.
+    fn allocation_room(self, level: u32, r: u32, p: u32) -> bool
+        requires { ⌜ Small self r p ⌝ }
+        ensures { λ b. ⌜ ((h0 h1 l : List ℕ) → Fits self h0 h1 → b ≡ allocationRoom (view self h0 h1 l) level r p) ⌝ }
+    {
+        let n = 3 + (r as usize) + (p as usize);
+        let low = self.frontier0 + n <= self.length0;
+        let high = self.frontier1 + n <= self.length0;
+        if 2 < level {
+            return low & high;
+        }
+        if self.current == 0 { low } else { high }
+    }
+
+    // The tests 4, 5, 6, 8, 10 and 14: the number of the first that fails, or 0.
+    fn allocation_tests(
+        self,
+        h0: &[u32],
+        h1: &[u32],
+        list: &[u32],
+        s: u32,
+        register: u32,
+        r: u32,
+        p: u32,
+    ) -> u32
+        ensures { λ n. ⌜ n ≡ refusalOf (allocate (view self (now (h0 .entry)) (now (h1 .entry)) (now (list .entry))) s register r p) ⌝ }
+    {
+        let refusal = self.session_tests(h0, h1, list, s);
+        if refusal != 0 {
+            return refusal;
+        }
+        if Control::LAST_REGISTER < register {
+            return 8;
+        }
+        let shape = (r <= Control::MOST_COUNT) & (p <= Control::MOST_COUNT);
+        if !shape {
+            return 10;
+        }
+        let i = s as usize;
+        let session = self.sessions[i];
+        let room = self.allocation_room(session.level, r, p);
+        if room { 0 } else { 14 }
+    }
+
+    // A record of zero fields at the frontier of half h.
+    fn placed(
+        self,
+        h0: &mut [u32],
+        h1: &mut [u32],
+        h: u32,
+        r: u32,
+        p: u32,
+        colour: u32,
+        replica: u32,
+    ) -> Self
+        requires { ⌜ Room self (now h0) (now h1) h r p ⌝ }
+        ensures { λ c. ⌜ ((l : List ℕ) → view c (now (h0 .exit)) (now (h1 .exit)) l
+            ≡ withMemory (view self (now (h0 .entry)) (now (h1 .entry)) l)
+            (placed (view self (now (h0 .entry)) (now (h1 .entry)) l .memory) h r p colour replica)) ⌝ }
+    {
+        let at = frontier(self.frontier0, self.frontier1, h);
+        let n = (r as usize) + (p as usize);
+        append_record(h0, h1, h, at, 256 * r + p, colour, replica, n);
+        self.with_frontier(h, at + (n + 3))
+    }
+
+    // The new record by the session's level: white or black in the current half, or a black copy in fromspace with a
+    // white one in tospace.
+    fn allocated(self, h0: &mut [u32], h1: &mut [u32], level: u32, r: u32, p: u32) -> Self
+        requires { ⌜ Allocatable self (now h0) (now h1) level r p ⌝ }
+        ensures { λ c. ⌜ ((l : List ℕ) → view c (now (h0 .exit)) (now (h1 .exit)) l
+            ≡ withMemory (view self (now (h0 .entry)) (now (h1 .entry)) l)
+            (allocated (view self (now (h0 .entry)) (now (h1 .entry)) l) level r p)) ⌝ }
+    {
+        if level <= 1 {
+            return self.placed(h0, h1, self.current, r, p, 0, 0);
+        }
+        if level <= 2 {
+            return self.placed(h0, h1, self.current, r, p, 2, 0);
+        }
+        let from = self.fromspace();
+        let to = other_half(from);
+        let old = reference(from, frontier(self.frontier0, self.frontier1, from));
+        let new = reference(to, frontier(self.frontier0, self.frontier1, to));
+        let first = self.placed(h0, h1, from, r, p, 2, new);
+        first.placed(h0, h1, to, r, p, 0, old)
+    }
+
+    // The half whose copy the register gets.
+    fn allocated_half(self, level: u32) -> u32
+        requires { ⌜ self .current ≤ 1 ⌝ }
+        ensures { λ h. ⌜ (h ≤ 1) × ((h0 h1 l : List ℕ) → nextReference (view self h0 h1 l .memory) h ≡ allocatedReference (view self h0 h1 l) level) ⌝ }
+    {
+        if level <= 2 {
+            return self.current;
+        }
+        let from = self.fromspace();
+        if level <= 5 {
+            return from;
+        }
+        other_half(from)
+    }
+
+    // The reference that the register gets.
+    fn allocated_reference(self, level: u32) -> u32
+        requires { ⌜ (self .current ≤ 1) × (self .frontier0 ≤ 1048576) × (self .frontier1 ≤ 1048576) ⌝ }
+        ensures { λ v. ⌜ ((h0 h1 l : List ℕ) → v ≡ allocatedReference (view self h0 h1 l) level) ⌝ }
+    {
+        let h = self.allocated_half(level);
+        reference(h, frontier(self.frontier0, self.frontier1, h))
+    }
+
+    // Allocate: the register gets a record of r null references and p zeros.
+    pub fn allocate(
+        self,
+        h0: &mut [u32],
+        h1: &mut [u32],
+        list: &[u32],
+        s: u32,
+        register: u32,
+        r: u32,
+        p: u32,
+    ) -> Reply
+        ensures { λ a. ⌜ outcome a (now (h0 .exit)) (now (h1 .exit)) (now (list .entry))
+            ≡ apply (view self (now (h0 .entry)) (now (h1 .entry)) (now (list .entry))) (Allocate s register r p) ⌝ }
+    {
+        let refusal = self.allocation_tests(h0, h1, list, s, register, r, p);
+        if refusal != 0 {
+            return Reply {
+                control: self,
+                answer: rules::Answer::Refused(refusal),
+            };
+        }
+        let i = s as usize;
+        let session = self.sessions[i];
+        let v = self.allocated_reference(session.level);
+        let written = self.allocated(h0, h1, session.level, r, p);
+        let next = written.with_register(s, register, v);
+        Reply {
+            control: next,
+            answer: rules::Answer::Done,
+        }
+    }
+}

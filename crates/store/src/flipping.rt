@@ -1,0 +1,107 @@
+// Phases 10 and 11, RootFlip and StackFlip: the globals, then the registers of the sessions, forwarded to tospace.
+ghost use mathlib.Core.Path.{_≡_};
+ghost use Prim.Native.Nat.{ℕ};
+ghost use mathlib.Core.Bool.{true};
+ghost use mathlib.Core.List.{List};
+ghost use Rattle.rules.specs.Control.{inRange};
+ghost use Rattle.rules.specs.Barriers.{to};
+ghost use Rattle.rules.specs.Collector.{rootFlip, forwardAll, stackFlip};
+ghost use Rattle.heap.specs.View.{heap, Within};
+ghost use Rattle.store.specs.View.{view, outcome};
+ghost use Rattle.store.specs.Steps.{stepped, over};
+ghost use Rattle.store.specs.Flips.{forwarded};
+use crate::Control;
+use crate::Reply;
+use heap::Bounds;
+use heap::Checked;
+use heap::forwarding::forward;
+use heap::forwarding::other_half;
+
+// The registers of a session forwarded, where each of them is sound.
+pub struct Registers {
+    pub sound: bool,
+    pub words: [u32; 8],
+}
+
+// All eight registers forwarded, before any is written.
+fn forward_all<'a>(b: Bounds, h0: &'a [u32], h1: &'a [u32], old: [u32; 8]) -> Registers
+    requires { ⌜ Within b (now h0) (now h1) ⌝ }
+    ensures { λ r. ⌜ forwarded r ≡ forwardAll (heap b (now (h0 .entry)) (now (h1 .entry)) .memory) (to (heap b (now (h0 .entry)) (now (h1 .entry)))) old ⌝ }
+{
+    let mut new = old;
+    let mut i: usize = 0;
+    while i < 8 {
+        let v = old[i];
+        let Checked::Word(w) = forward(b, h0, h1, v) else {
+            return Registers {
+                sound: false,
+                words: old,
+            };
+        };
+        new[i] = w;
+        i += 1;
+    }
+    Registers {
+        sound: true,
+        words: new,
+    }
+}
+
+impl Control {
+    // Phase 10: the next global forwarded; after the last one the step moves on.
+    pub(crate) fn root_flip<'a>(mut self, h0: &'a [u32], h1: &'a [u32]) -> Reply
+        requires { ⌜ inRange (over self (now h0) (now h1)) ≡ true ⌝ }
+        ensures { λ r. ⌜ ((l : List ℕ) → outcome r (now (h0 .entry)) (now (h1 .entry)) l
+            ≡ stepped (view self (now (h0 .entry)) (now (h1 .entry)) l)
+            (rootFlip (view self (now (h0 .entry)) (now (h1 .entry)) l))) ⌝ }
+    {
+        let place = self.place;
+        if Control::GLOBALS <= place {
+            let next = self.move_on();
+            return next.stepped();
+        }
+        let v = self.globals[place];
+        let b = self.bounds();
+        let Checked::Word(q) = forward(b, h0, h1, v) else {
+            return Reply {
+                control: self,
+                answer: rules::Answer::Refused(12),
+            };
+        };
+        self.globals[place] = q;
+        self.place = place + 1;
+        self.stepped()
+    }
+
+    // Phase 11: the registers of the lowest attached session without a mark forwarded, and the session marked; with
+    // none left, tospace becomes current and the step moves on.
+    pub(crate) fn stack_flip<'a>(mut self, h0: &'a [u32], h1: &'a [u32]) -> Reply
+        requires { ⌜ inRange (over self (now h0) (now h1)) ≡ true ⌝ }
+        ensures { λ r. ⌜ ((l : List ℕ) → outcome r (now (h0 .entry)) (now (h1 .entry)) l
+            ≡ stepped (view self (now (h0 .entry)) (now (h1 .entry)) l)
+            (stackFlip (view self (now (h0 .entry)) (now (h1 .entry)) l))) ⌝ }
+    {
+        let b = self.bounds();
+        let sessions = self.sessions;
+        let n = Control::lowest_unmarked(sessions);
+        if 16 <= n {
+            let mut next = self.move_on();
+            next.current = other_half(b.from);
+            return next.stepped();
+        }
+        let mut session = self.sessions[n];
+        let registers = session.registers;
+        let moved = forward_all(b, h0, h1, registers);
+        if !moved.sound {
+            return Reply {
+                control: self,
+                answer: rules::Answer::Refused(12),
+            };
+        }
+        let words = moved.words;
+        session.registers = words;
+        session.scanned = true;
+        self.sessions[n] = session;
+        self.stepped()
+    }
+}

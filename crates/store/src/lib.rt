@@ -1,0 +1,142 @@
+// The record store: the control record and its calls. Each call takes the control record by value with the lent
+// halves and grey list, and hands the next control record back with its answer.
+ghost use mathlib.Core.Path.{_≡_};
+ghost use Prim.Native.Nat.{ℕ, _≤_};
+ghost use mathlib.Core.List.{List};
+ghost use Rattle.rules.specs.Control.{newStore};
+ghost use Rattle.rules.specs.Phases.{levelOf};
+ghost use Rattle.store.specs.View.{view, lengths};
+
+mod making; // making.rt: refusals 1 to 3
+mod ranges; // ranges.rt: the control record test, refusal 4
+mod sessions; // sessions.rt: the session tests, refusals 5 and 6; attach, detach, safe point
+mod registers; // registers.rt: move, clear, get
+mod shade; // shade.rt: what a barrier looks at, and shading
+mod stores; // stores.rt: store, put
+mod allocate; // allocate.rt: allocate
+mod operands; // operands.rt: the register of the record worked on, refusals 8 and 11
+mod fields; // fields.rt: load and read
+mod stretch; // stretch.rt: the stretch and its companion
+mod writing; // writing.rt: write
+mod same; // same.rt: same
+mod moving; // moving.rt: moving on to the next phase, and the phases that only wait
+mod scanning; // scanning.rt: the white records among a session's registers, and shading them
+mod marking; // marking.rt: the phases RootMark and HeapMark
+mod walking; // walking.rt: the walk over the records of the current half
+mod shells; // shells.rt: phase 5, Allocate
+mod copying; // copying.rt: phase 7, Copy
+mod flipping; // flipping.rt: phases 10 and 11, RootFlip and StackFlip
+mod reclaiming; // reclaiming.rt: phase 12, Reclaim
+mod step; // step.rt: the collector step
+
+// Document 01's list: the three lent lengths, current half, frontiers, phase, walk place, walk field, the grey list's
+// place (head) and end (tail), 32 global references and the sessions.
+pub struct Control {
+    pub length0: usize,
+    pub length1: usize,
+    pub capacity: usize,
+    pub current: u32,
+    pub frontier0: usize,
+    pub frontier1: usize,
+    pub phase: usize,
+    pub place: usize,
+    pub field: usize,
+    pub head: usize,
+    pub tail: usize,
+    pub globals: [u32; 32],
+    pub sessions: [rules::Session; 16],
+}
+
+// The next control record, and what the call answers.
+pub struct Reply {
+    pub control: Control,
+    pub answer: rules::Answer,
+}
+
+// The phases, the level of each, and the limits of the ranges.
+impl Control {
+    pub const REST: usize = 0;
+
+    pub const PRE_MARK1: usize = 1;
+
+    pub const PRE_MARK2: usize = 2;
+
+    pub const ROOT_MARK: usize = 3;
+
+    pub const HEAP_MARK: usize = 4;
+
+    pub const ALLOCATE: usize = 5;
+
+    pub const PRE_COPY: usize = 6;
+
+    pub const COPY: usize = 7;
+
+    pub const PRE_FLIP1: usize = 8;
+
+    pub const PRE_FLIP2: usize = 9;
+
+    pub const ROOT_FLIP: usize = 10;
+
+    pub const STACK_FLIP: usize = 11;
+
+    pub const RECLAIM: usize = 12;
+
+    pub const LEVELS: [u32; 13] = [0, 1, 2, 2, 2, 3, 4, 4, 5, 6, 6, 6, 0];
+
+    pub const FOLLOWERS: [usize; 13] = [1, 2, 3, 4, 5, 6, 7, 8, 9, 10, 11, 12, 0];
+
+    pub const LEAST_LENGTH: usize = 16;
+
+    pub const MOST_LENGTH: usize = 1048576;
+
+    pub const HEADER: usize = 3;
+
+    pub const GLOBALS: usize = 32;
+
+    pub const MOST_FIELDS: usize = 510;
+
+    pub const MOST_COUNT: u32 = 255;
+
+    pub const LAST_LEVEL: u32 = 6;
+
+    pub const LAST_SESSION: u32 = 15;
+
+    pub const LAST_REGISTER: u32 = 7;
+
+    pub const LAST_GLOBAL: u32 = 31;
+
+    // The fresh control record: every number 0 and nobody attached, the three lengths apart.
+    pub fn fresh(length0: usize, length1: usize, capacity: usize) -> Self
+        ensures { λ r. ⌜ ((h0 h1 l : List ℕ) → view r h0 h1 l ≡ newStore (lengths length0 length1 capacity) h0 h1 l) ⌝ }
+    {
+        let nobody = rules::Session {
+            registers: [0; 8],
+            level: 0,
+            attached: false,
+            scanned: false,
+        };
+        Self {
+            length0,
+            length1,
+            capacity,
+            current: 0,
+            frontier0: 0,
+            frontier1: 0,
+            phase: Control::REST,
+            place: 0,
+            field: 0,
+            head: 0,
+            tail: 0,
+            globals: [0; 32],
+            sessions: [nobody; 16],
+        }
+    }
+
+    // The level of a phase.
+    pub(crate) fn level_of(phase: usize) -> u32
+        requires { ⌜ phase ≤ 12 ⌝ }
+        ensures { λ r. ⌜ r ≡ levelOf phase ⌝ }
+    {
+        Control::LEVELS[phase]
+    }
+}

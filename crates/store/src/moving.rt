@@ -1,0 +1,96 @@
+// Moving on to the next phase, and the phases that only wait.
+ghost use mathlib.Core.Path.{_≡_};
+ghost use Prim.Native.Nat.{ℕ, _≤_};
+ghost use mathlib.Core.List.{List};
+ghost use Rattle.rules.specs.Phases.{nextPhase, allAt, moveOn};
+ghost use Rattle.rules.specs.Collector.{haveLevel, rest, handshake};
+ghost use Rattle.store.specs.View.{view, outcome};
+ghost use Rattle.store.specs.Steps.{went, stepped};
+use crate::Control;
+use crate::Reply;
+
+impl Control {
+    // Whether every attached session is at the level.
+    fn all_at(sessions: [rules::Session; 16], level: u32) -> bool
+        ensures { λ r. ⌜ r ≡ allAt level sessions ⌝ }
+    {
+        let mut i: usize = 0;
+        while i < 16 {
+            let session = sessions[i];
+            if session.attached & (session.level != level) {
+                return false;
+            }
+            i += 1;
+        }
+        true
+    }
+
+    // Whether every attached session has the phase's level.
+    pub(crate) fn have_level(self) -> bool
+        requires { ⌜ self .phase ≤ 12 ⌝ }
+        ensures { λ r. ⌜ ((h0 h1 l : List ℕ) → r ≡ haveLevel (view self h0 h1 l)) ⌝ }
+    {
+        let phase = self.phase;
+        let level = Control::level_of(phase);
+        let sessions = self.sessions;
+        Control::all_at(sessions, level)
+    }
+
+    // The phase after a phase.
+    pub(crate) fn next_phase(phase: usize) -> usize
+        requires { ⌜ phase ≤ 12 ⌝ }
+        ensures { λ r. ⌜ r ≡ nextPhase phase ⌝ }
+    {
+        Control::FOLLOWERS[phase]
+    }
+
+    // The next phase: walk place and field 0, no scanned mark.
+    pub(crate) fn move_on(mut self) -> Self
+        requires { ⌜ self .phase ≤ 12 ⌝ }
+        ensures { λ r. ⌜ ((h0 h1 l : List ℕ) → view r h0 h1 l ≡ moveOn (view self h0 h1 l)) ⌝ }
+    {
+        let phase = self.phase;
+        let sessions = self.sessions;
+        let unscanned = Control::unmarked(sessions);
+        self.phase = Control::next_phase(phase);
+        self.place = 0;
+        self.field = 0;
+        self.sessions = unscanned;
+        self
+    }
+
+    // What a step answers that is done: the phase after it.
+    pub(crate) fn stepped(self) -> Reply
+        ensures { λ r. ⌜ ((h0 h1 l : List ℕ) → outcome r h0 h1 l ≡ went (view self h0 h1 l)) ⌝ }
+    {
+        let phase = self.phase;
+        Reply {
+            control: self,
+            answer: rules::Answer::Phase(phase),
+        }
+    }
+
+    // Phase 0: the grey list emptied, and phase 1 started.
+    pub(crate) fn rest(mut self) -> Reply
+        requires { ⌜ self .phase ≤ 12 ⌝ }
+        ensures { λ r. ⌜ ((h0 h1 l : List ℕ) → outcome r h0 h1 l ≡ stepped (view self h0 h1 l) (rest (view self h0 h1 l))) ⌝ }
+    {
+        self.head = 0;
+        self.tail = 0;
+        let next = self.move_on();
+        next.stepped()
+    }
+
+    // Phases 1, 2, 6, 8 and 9: moves on if every attached session has the level, else changes nothing.
+    pub(crate) fn handshake(self) -> Reply
+        requires { ⌜ self .phase ≤ 12 ⌝ }
+        ensures { λ r. ⌜ ((h0 h1 l : List ℕ) → outcome r h0 h1 l ≡ stepped (view self h0 h1 l) (handshake (view self h0 h1 l))) ⌝ }
+    {
+        let ready = self.have_level();
+        if !ready {
+            return self.stepped();
+        }
+        let next = self.move_on();
+        next.stepped()
+    }
+}

@@ -1,0 +1,42 @@
+// Refusal 4: the lent lengths are those at making, and every number is in its range.
+ghost use mathlib.Core.Path.{_≡_};
+ghost use Rattle.rules.specs.Control.{inRange, levelsInRange};
+ghost use Rattle.store.specs.View.{view};
+use crate::Control;
+
+impl Control {
+    // Whether each session's level is at most 6.
+    fn levels_in_range(sessions: [rules::Session; 16]) -> bool
+        ensures { λ r. ⌜ r ≡ levelsInRange sessions ⌝ }
+    {
+        let mut i: usize = 0;
+        while i < 16 {
+            let session = sessions[i];
+            if Control::LAST_LEVEL < session.level {
+                return false;
+            }
+            i += 1;
+        }
+        true
+    }
+
+    // Whether the control record passes test 4 with these lent words.
+    pub fn valid(self, h0: &[u32], h1: &[u32], list: &[u32]) -> bool
+        ensures { λ r. ⌜ r ≡ inRange (view self (now (h0 .entry)) (now (h1 .entry)) (now (list .entry))) ⌝ }
+    {
+        let n = self.length0;
+        let lent = (n == h0.len()) & (self.length1 == h1.len()) & (self.capacity == list.len());
+        let allowed = (Control::LEAST_LENGTH <= n)
+            & (n <= Control::MOST_LENGTH)
+            & (n == self.length1)
+            & (n / Control::HEADER <= self.capacity);
+        let halves = (self.current <= 1) & (self.frontier0 <= n) & (self.frontier1 <= n);
+        let roots = (self.phase == Control::ROOT_MARK) | (self.phase == Control::ROOT_FLIP);
+        let place = (roots & (self.place <= Control::GLOBALS)) | (!roots & (self.place <= n));
+        let walk = (self.phase <= Control::RECLAIM) & place & (self.field <= Control::MOST_FIELDS);
+        let grey = (self.head <= self.tail) & (self.tail <= self.capacity);
+        let sessions = self.sessions;
+        let levels = Control::levels_in_range(sessions);
+        lent & allowed & halves & walk & grey & levels
+    }
+}

@@ -1,0 +1,158 @@
+// Scanning the registers of a session: the white records among them, and shading them.
+ghost use mathlib.Core.Path.{_≡_};
+ghost use Prim.Native.Nat.{ℕ, _+_, _≤_, _<_};
+ghost use mathlib.Core.Bool.{true, cond, _||_};
+ghost use mathlib.Core.List.{List};
+ghost use lib.Dec.{eqb};
+ghost use lib.ListN.{length, getD, take};
+ghost use Rattle.rules.specs.Memory.{null, colourAt};
+ghost use Rattle.rules.specs.Control.{inRange};
+ghost use Rattle.rules.specs.Phases.{lowestUnmarked, sessionAt, withSession, withMark};
+ghost use Rattle.rules.specs.Collector.{toShadeAll, shadeAll, scanSession};
+ghost use Rattle.heap.specs.View.{heap, Within, Inside};
+ghost use Rattle.store.specs.View.{view, outcome};
+ghost use Rattle.store.specs.Steps.{stepped};
+ghost use Rattle.store.specs.Marking.{among, whites};
+use crate::Control;
+use crate::Reply;
+use heap::Bounds;
+use heap::Checked;
+use heap::shades::to_shade;
+
+// The different white records among the registers of a session, in the order met: the first `count` words. Not
+// sound: one of the registers is damage.
+pub struct Whites {
+    pub sound: bool,
+    pub count: usize,
+    pub words: [u32; 8],
+}
+
+// 1 where v is to shade and isn't among the first `count` words, else 0.
+fn new_white(words: [u32; 8], count: usize, v: u32) -> usize
+    requires { ⌜ count ≤ 8 ⌝ }
+    ensures { λ r. ⌜ r ≡ cond (eqb v null || among v (take count words)) 0 1 ⌝ }
+{
+    if v == 0 {
+        return 0;
+    }
+    let mut i: usize = 0;
+    while i < count {
+        if words[i] == v {
+            return 0;
+        }
+        i += 1;
+    }
+    1
+}
+
+// What the registers give to shade: each word met is put behind the others, and counted where it is a new white one.
+fn white_registers<'a>(b: Bounds, h0: &'a [u32], h1: &'a [u32], registers: [u32; 8]) -> Whites
+    requires { ⌜ Within b (now h0) (now h1) ⌝ }
+    ensures { λ r. ⌜ (r .count ≤ 8) × (whites r ≡ toShadeAll (heap b (now (h0 .entry)) (now (h1 .entry)) .memory) registers) ⌝ }
+{
+    let mut words: [u32; 8] = [0; 8];
+    let mut count: usize = 0;
+    let mut i: usize = 0;
+    while i < 8 {
+        let Checked::Word(w) = to_shade(b, h0, h1, registers[i]) else {
+            return Whites {
+                sound: false,
+                count: 0,
+                words,
+            };
+        };
+        let more = new_white(words, count, w);
+        words[count] = w;
+        count += more;
+        i += 1;
+    }
+    Whites {
+        sound: true,
+        count,
+        words,
+    }
+}
+
+impl Control {
+    // The number of the lowest attached session without a scanned mark, or the number of sessions, 16.
+    pub(crate) fn lowest_unmarked(sessions: [rules::Session; 16]) -> usize
+        ensures { λ r. ⌜ r ≡ lowestUnmarked sessions ⌝ }
+    {
+        let mut i: usize = 0;
+        while i < 16 {
+            let session = sessions[i];
+            if session.attached & !session.scanned {
+                return i;
+            }
+            i += 1;
+        }
+        16
+    }
+
+    // The control record with session n marked scanned.
+    pub(crate) fn with_mark(mut self, n: usize) -> Self
+        requires { ⌜ n < 16 ⌝ }
+        ensures { λ r. ⌜ ((h0 h1 l : List ℕ) → view r h0 h1 l
+            ≡ withSession (view self h0 h1 l) n (withMark (sessionAt (view self h0 h1 l) n) true)) ⌝ }
+    {
+        let mut session = self.sessions[n];
+        session.scanned = true;
+        self.sessions[n] = session;
+        self
+    }
+
+    // The first `count` words shaded, one after another.
+    fn shade_all(
+        self,
+        h0: &mut [u32],
+        h1: &mut [u32],
+        list: &mut [u32],
+        count: usize,
+        words: [u32; 8],
+    ) -> Self
+        requires { ⌜ (count ≤ 8) × (self .tail + count ≤ length (now list))
+            × ((j : ℕ) → j < count → Inside (now h0) (now h1) (getD words j 0) colourAt) ⌝ }
+        ensures { λ r. ⌜ view r (now (h0 .exit)) (now (h1 .exit)) (now (list .exit))
+            ≡ shadeAll (view self (now (h0 .entry)) (now (h1 .entry)) (now (list .entry))) (take count words) ⌝ }
+    {
+        let mut next = self;
+        let mut i: usize = 0;
+        while i < count {
+            next = next.shade(h0, h1, list, words[i]);
+            i += 1;
+        }
+        next
+    }
+
+    // The white records among the registers of session n are shaded, after it is marked scanned.
+    pub(crate) fn scan_session(
+        self,
+        h0: &mut [u32],
+        h1: &mut [u32],
+        list: &mut [u32],
+        n: usize,
+    ) -> Reply
+        requires { ⌜ (n < 16) × (inRange (view self (now h0) (now h1) (now list)) ≡ true) ⌝ }
+        ensures { λ r. ⌜ outcome r (now (h0 .exit)) (now (h1 .exit)) (now (list .exit))
+            ≡ stepped (view self (now (h0 .entry)) (now (h1 .entry)) (now (list .entry)))
+            (scanSession (view self (now (h0 .entry)) (now (h1 .entry)) (now (list .entry))) n) ⌝ }
+    {
+        let b = self.bounds();
+        let session = self.sessions[n];
+        let registers = session.registers;
+        let found = white_registers(b, h0, h1, registers);
+        let count = found.count;
+        let words = found.words;
+        let sound = found.sound;
+        let fits = count <= self.capacity - self.tail;
+        if !(sound & fits) {
+            return Reply {
+                control: self,
+                answer: rules::Answer::Refused(12),
+            };
+        }
+        let marked = self.with_mark(n);
+        let next = marked.shade_all(h0, h1, list, count, words);
+        next.stepped()
+    }
+}

@@ -1,0 +1,109 @@
+// The session tests, and the calls on a session as a whole.
+ghost use mathlib.Core.Path.{_≡_};
+ghost use Rattle.rules.specs.Refusals.{refusalOf};
+ghost use Rattle.rules.specs.Calls.{sessionOf};
+ghost use Rattle.rules.specs.Runs.{apply, Attach, Detach, SafePoint};
+ghost use Rattle.store.specs.View.{view, outcome};
+use crate::Control;
+use crate::Reply;
+
+impl Control {
+    // The tests 4, 5 and 6: the number of the first that fails, or 0.
+    pub(crate) fn session_tests(self, h0: &[u32], h1: &[u32], list: &[u32], s: u32) -> u32
+        ensures { λ r. ⌜ r ≡ refusalOf (sessionOf (view self (now (h0 .entry)) (now (h1 .entry)) (now (list .entry))) s) ⌝ }
+    {
+        let valid = self.valid(h0, h1, list);
+        if !valid {
+            return 4;
+        }
+        if Control::LAST_SESSION < s {
+            return 5;
+        }
+        let i = s as usize;
+        let session = self.sessions[i];
+        if session.attached { 0 } else { 6 }
+    }
+
+    // Attach: level becomes the phase's level, registers null, unscanned.
+    pub fn attach(mut self, h0: &[u32], h1: &[u32], list: &[u32], s: u32) -> Reply
+        ensures { λ r. ⌜ outcome r (now (h0 .entry)) (now (h1 .entry)) (now (list .entry))
+            ≡ apply (view self (now (h0 .entry)) (now (h1 .entry)) (now (list .entry))) (Attach s) ⌝ }
+    {
+        // 6, not attached, is what attach asks for
+        let refusal = self.session_tests(h0, h1, list, s);
+        if refusal == 0 {
+            return Reply {
+                control: self,
+                answer: rules::Answer::Refused(7),
+            };
+        }
+        if refusal != 6 {
+            return Reply {
+                control: self,
+                answer: rules::Answer::Refused(refusal),
+            };
+        }
+        let i = s as usize;
+        let phase = self.phase;
+        let level = Control::level_of(phase);
+        self.sessions[i] = rules::Session {
+            registers: [0; 8],
+            level,
+            attached: true,
+            scanned: false,
+        };
+        Reply {
+            control: self,
+            answer: rules::Answer::Done,
+        }
+    }
+
+    // Detach: registers null, level 0; the scanned mark stays.
+    pub fn detach(mut self, h0: &[u32], h1: &[u32], list: &[u32], s: u32) -> Reply
+        ensures { λ r. ⌜ outcome r (now (h0 .entry)) (now (h1 .entry)) (now (list .entry))
+            ≡ apply (view self (now (h0 .entry)) (now (h1 .entry)) (now (list .entry))) (Detach s) ⌝ }
+    {
+        let refusal = self.session_tests(h0, h1, list, s);
+        if refusal != 0 {
+            return Reply {
+                control: self,
+                answer: rules::Answer::Refused(refusal),
+            };
+        }
+        let i = s as usize;
+        let session = self.sessions[i];
+        self.sessions[i] = rules::Session {
+            registers: [0; 8],
+            level: 0,
+            attached: false,
+            scanned: session.scanned,
+        };
+        Reply {
+            control: self,
+            answer: rules::Answer::Done,
+        }
+    }
+
+    // Safe point: the session takes the phase's level.
+    pub fn safe_point(mut self, h0: &[u32], h1: &[u32], list: &[u32], s: u32) -> Reply
+        ensures { λ r. ⌜ outcome r (now (h0 .entry)) (now (h1 .entry)) (now (list .entry))
+            ≡ apply (view self (now (h0 .entry)) (now (h1 .entry)) (now (list .entry))) (SafePoint s) ⌝ }
+    {
+        let refusal = self.session_tests(h0, h1, list, s);
+        if refusal != 0 {
+            return Reply {
+                control: self,
+                answer: rules::Answer::Refused(refusal),
+            };
+        }
+        let i = s as usize;
+        let phase = self.phase;
+        let mut session = self.sessions[i];
+        session.level = Control::level_of(phase);
+        self.sessions[i] = session;
+        Reply {
+            control: self,
+            answer: rules::Answer::Done,
+        }
+    }
+}

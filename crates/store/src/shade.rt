@@ -1,0 +1,75 @@
+// What a barrier looks at, and shading: the record coloured grey, put on the list, and all scanned marks cleared.
+ghost use mathlib.Core.Path.{_≡_};
+ghost use Prim.Native.Nat.{ℕ, _≤_, _<_};
+ghost use mathlib.Core.List.{List};
+ghost use lib.ListN.{length};
+ghost use Rattle.rules.specs.Memory.{colourAt};
+ghost use Rattle.rules.specs.Phases.{fromspace, unmarked};
+ghost use Rattle.rules.specs.Barriers.{heapOf, shade};
+ghost use Rattle.heap.specs.View.{heap, Inside};
+ghost use Rattle.store.specs.View.{view};
+use crate::Control;
+use heap::Bounds;
+use heap::forwarding::other_half;
+use heap::words::put_word;
+
+impl Control {
+    // Fromspace: the current half until phase 12, and the other one there.
+    pub(crate) fn fromspace(self) -> u32
+        requires { ⌜ self .current ≤ 1 ⌝ }
+        ensures { λ r. ⌜ ((h0 h1 l : List ℕ) → r ≡ fromspace (view self h0 h1 l)) ⌝ }
+    {
+        if self.phase == Control::RECLAIM {
+            return other_half(self.current);
+        }
+        self.current
+    }
+
+    // The bounds that the functions over lent halves ask for.
+    pub(crate) fn bounds(self) -> Bounds
+        requires { ⌜ self .current ≤ 1 ⌝ }
+        ensures { λ r. ⌜ ((h0 h1 l : List ℕ) → self .capacity ≡ length l → heap r h0 h1 ≡ heapOf (view self h0 h1 l)) ⌝ }
+    {
+        let from = self.fromspace();
+        Bounds {
+            frontier0: self.frontier0,
+            frontier1: self.frontier1,
+            from,
+            tail: self.tail,
+            capacity: self.capacity,
+        }
+    }
+
+    // The sessions with no scanned mark.
+    pub(crate) fn unmarked(sessions: [rules::Session; 16]) -> [rules::Session; 16]
+        ensures { λ r. ⌜ r ≡ unmarked sessions ⌝ }
+    {
+        let mut next = sessions;
+        let mut i: usize = 0;
+        while i < 16 {
+            let mut session = sessions[i];
+            session.scanned = false;
+            next[i] = session;
+            i += 1;
+        }
+        next
+    }
+
+    // The record v shaded; nothing where v is null.
+    pub(crate) fn shade(mut self, h0: &mut [u32], h1: &mut [u32], list: &mut [u32], v: u32) -> Self
+        requires { ⌜ ((v ≡ 0 → ⊥) → Inside (now h0) (now h1) v colourAt × (self .tail < length (now list))) ⌝ }
+        ensures { λ r. ⌜ view r (now (h0 .exit)) (now (h1 .exit)) (now (list .exit))
+            ≡ shade (view self (now (h0 .entry)) (now (h1 .entry)) (now (list .entry))) v ⌝ }
+    {
+        if v != 0 {
+            put_word(h0, h1, v, 1, 1);
+            let end = self.tail;
+            list[end] = v;
+            self.tail = end + 1;
+            let sessions = self.sessions;
+            let unscanned = Control::unmarked(sessions);
+            self.sessions = unscanned;
+        }
+        self
+    }
+}

@@ -1,0 +1,83 @@
+// Phase 5, Allocate: a shell in the other half for each record that isn't white and has no replica.
+ghost use mathlib.Core.Path.{_≡_};
+ghost use Prim.Native.Nat.{ℕ, _+_};
+ghost use mathlib.Core.Bool.{true};
+ghost use mathlib.Core.List.{List};
+ghost use Rattle.rules.specs.Memory.{frontier, withFrontier};
+ghost use Rattle.rules.specs.Control.{inRange};
+ghost use Rattle.rules.specs.Collector.{needsShell, withShell, allocateShells};
+ghost use Rattle.heap.specs.View.{memory, Inside};
+ghost use Rattle.store.specs.View.{view, outcome};
+ghost use Rattle.store.specs.Steps.{stepped, over};
+ghost use Rattle.store.specs.Shells.{Shelled};
+use crate::Control;
+use crate::Reply;
+use crate::walking::frontier;
+use crate::walking::reference;
+use heap::following::follow;
+use heap::forwarding::other_half;
+use heap::records::append_record;
+use heap::words::get_word;
+use heap::words::put_word;
+use rules::Followed;
+
+// Whether the record v isn't white and has no replica.
+fn needs_shell<'a>(h0: &'a [u32], h1: &'a [u32], v: u32) -> bool
+    requires { ⌜ Inside (now h0) (now h1) v 1 × Inside (now h0) (now h1) v 2 ⌝ }
+    ensures { λ r. ⌜ ((f0 f1 : ℕ) → r ≡ needsShell (memory (now (h0 .entry)) (now (h1 .entry)) f0 f1) v) ⌝ }
+{
+    let colour = get_word(h0, h1, v, 1);
+    let replica = get_word(h0, h1, v, 2);
+    (colour != 0) & (replica == 0)
+}
+
+// A shell for the record v of n fields at a word of the other half, and the replica words of both.
+fn put_shell(h0: &mut [u32], h1: &mut [u32], other: u32, at: usize, v: u32, n: usize)
+    requires { ⌜ Shelled (now h0) (now h1) other at v n ⌝ }
+    ensures { λ _. ⌜ ((f0 f1 : ℕ) → frontier (memory (now (h0 .entry)) (now (h1 .entry)) f0 f1) other ≡ at
+        → withFrontier (memory (now (h0 .exit)) (now (h1 .exit)) f0 f1) other (at + (n + 3))
+        ≡ withShell (memory (now (h0 .entry)) (now (h1 .entry)) f0 f1) other v) ⌝ }
+{
+    let shape = get_word(h0, h1, v, 0);
+    let shell = reference(other, at);
+    append_record(h0, h1, other, at, shape, 0, v, n);
+    put_word(h0, h1, v, 2, shell);
+}
+
+impl Control {
+    // Phase 5: the next record gets its shell where it needs one; at the frontier the handshake.
+    pub(crate) fn allocate_shells(self, h0: &mut [u32], h1: &mut [u32]) -> Reply
+        requires { ⌜ inRange (over self (now h0) (now h1)) ≡ true ⌝ }
+        ensures { λ r. ⌜ ((l : List ℕ) → outcome r (now (h0 .exit)) (now (h1 .exit)) l
+            ≡ stepped (view self (now (h0 .entry)) (now (h1 .entry)) l)
+            (allocateShells (view self (now (h0 .entry)) (now (h1 .entry)) l))) ⌝ }
+    {
+        let below = self.below();
+        if !below {
+            return self.handshake();
+        }
+        let v = self.walked();
+        let Followed::Sound(_, r, p) = follow(h0, h1, self.frontier0, self.frontier1, v) else {
+            return Reply {
+                control: self,
+                answer: rules::Answer::Refused(12),
+            };
+        };
+        let n = (r as usize) + (p as usize);
+        let needed = needs_shell(h0, h1, v);
+        if !needed {
+            return self.past_record(n + 3);
+        }
+        let other = other_half(self.current);
+        let at = frontier(self.frontier0, self.frontier1, other);
+        if self.length0 < at + (n + 3) {
+            return Reply {
+                control: self,
+                answer: rules::Answer::Refused(12),
+            };
+        }
+        put_shell(h0, h1, other, at, v, n);
+        let next = self.with_frontier(other, at + (n + 3));
+        next.past_record(n + 3)
+    }
+}

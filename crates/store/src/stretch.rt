@@ -1,0 +1,58 @@
+// The plain fields of a record as a stretch of its half, and the companion call with the same tests.
+ghost use mathlib.Core.Path.{_≡_};
+ghost use Rattle.rules.specs.Refusals.{wordsOr, doneOr};
+ghost use Rattle.rules.specs.Calls.{stretch};
+ghost use Rattle.store.specs.View.{view};
+use crate::Control;
+use crate::operands::Held;
+use heap::following::follow;
+use heap::words::half_of;
+use rules::Followed;
+
+impl Control {
+    // The plain fields of the record in a register, as a part of the half that holds it; refused, the empty part.
+    pub fn stretch<'a>(
+        self,
+        h0: &'a [u32],
+        h1: &'a [u32],
+        list: &[u32],
+        s: u32,
+        register: u32,
+    ) -> &'a [u32]
+        ensures { λ r. ⌜ now r ≡ wordsOr (stretch (view self (now (h0 .entry)) (now (h1 .entry)) (now (list .entry))) s register) ⌝ }
+    {
+        let Held::Reference(v) = self.held(h0, h1, list, s, register, register) else {
+            return &h0[..0];
+        };
+        let Followed::Sound(at, r, p) = follow(h0, h1, self.frontier0, self.frontier1, v) else {
+            return &h0[..0];
+        };
+        let half = half_of(h0, h1, v);
+        let start = at + 3 + (r as usize);
+        let end = start + (p as usize);
+        &half[start..end]
+    }
+
+    // The companion of the stretch: the number of its refusal, or 0.
+    pub fn stretch_answer<'a>(
+        self,
+        h0: &'a [u32],
+        h1: &'a [u32],
+        list: &[u32],
+        s: u32,
+        register: u32,
+    ) -> rules::Answer
+        ensures { λ r. ⌜ r ≡ doneOr (stretch (view self (now (h0 .entry)) (now (h1 .entry)) (now (list .entry))) s register) ⌝ }
+    {
+        let v = match self.held(h0, h1, list, s, register, register) {
+            Held::Refusal(n) => {
+                return rules::Answer::Refused(n);
+            }
+            Held::Reference(reference) => reference,
+        };
+        let Followed::Sound(_, _, _) = follow(h0, h1, self.frontier0, self.frontier1, v) else {
+            return rules::Answer::Refused(12);
+        };
+        rules::Answer::Done
+    }
+}
