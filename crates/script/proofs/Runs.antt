@@ -1,0 +1,28 @@
+-- Runs of stores, one after another.
+use Prim.Native.Nat.{ℕ, suc, _+_}
+use mathlib.Core.Path.{_≡_, refl}
+use mathlib.Core.List.{List, [], _∷_, _++_}
+use native.Mathlib.Omega.{arith}
+use native.Mathlib.Nat.{add-zero, add-suc, suc-add}
+use lib.ListN.{length, set, length-append}
+use lib.Seq.{sets}
+
+pub sets-append : (l : List ℕ) (i : ℕ) (xs ys : List ℕ) → sets (sets l i xs) (i + length xs) ys ≡ sets l i (xs ++ ys)
+sets-append l i [] ys = rw add-zero
+sets-append l i (x ∷ xs) ys = rw (add-suc, ← suc-add, sets-append (set l i x) (suc i) xs ys)
+
+-- xs was written into l from place i on, which left m, and the next place is p
+pub record Written (l : List ℕ) (i : ℕ) (xs m : List ℕ) (p : ℕ) : Type 0 where
+  pub text : m ≡ sets l i xs
+  pub end : p ≡ i + length xs
+
+pub written : (l : List ℕ) (i : ℕ) (xs : List ℕ) {m : List ℕ} {p : ℕ} → m ≡ sets l i xs → p ≡ i + length xs → Written l i xs m p
+written l i xs e f = record { text = e; end = f }
+
+pub and-more : {l : List ℕ} {i : ℕ} {xs m : List ℕ} {p : ℕ} → Written l i xs m p → (ys : List ℕ) {m' : List ℕ} {p' : ℕ} →
+    m' ≡ sets m p ys → p' ≡ p + length ys → Written l i (xs ++ ys) m' p'
+and-more {l} {i} {xs} w ys e f =
+    record {
+      text = rw (e, w .text, w .end, sets-append l i xs ys);
+      end = rw (f, w .end, length-append) (omega arith);
+    }

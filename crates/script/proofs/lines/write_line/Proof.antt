@@ -1,0 +1,65 @@
+use mathlib.Core.Path.{refl}
+use mathlib.Core.List.{[], _∷_}
+use Rattle.rules.specs.Script.{decimal, textOf, space, newline}
+use Rattle.script.proofs.Runs.{written, and-more}
+use native.Mathlib.Omega.{arith}
+use borrow.Author.Needs.{needs}
+use lib.ListN.{length-set}
+use Rattle.script.proofs.Digits.{long64, long32}
+use Rattle.script.proofs.lines.write_line.Statement.{statement}
+use Rattle.script.proofs.lines.write_line.Tie as tie
+
+write-decimal-requires : tie.Need-write-decimal-requires
+write-decimal-requires c κs = omega (arith, long64 (c .before .before .args .entry) (search needs), long32 (c .before .before .args .refusal) (search needs), long64 (c .before .before .args .value) (search needs))
+
+slice-write-out : tie.Need-slice-write-out
+slice-write-out c = omega (arith, long64 (c .before .before .before .before .before .args .entry) (search needs), long32 (c .before .before .before .before .before .args .refusal) (search needs), long64 (c .before .before .before .before .before .args .value) (search needs), length-set (c .before .before .write-decimal .last .0) (c .before .before .write-decimal .result) 32)
+
+add-write-decimal : tie.Need-add-write-decimal
+add-write-decimal c = omega (arith, long64 (c .before .before .before .before .before .before .args .entry) (search needs), long32 (c .before .before .before .before .before .before .args .refusal) (search needs), long64 (c .before .before .before .before .before .before .args .value) (search needs), length-set (c .before .before .before .write-decimal .last .0) (c .before .before .before .write-decimal .result) 32)
+
+write-decimal-requires-2 : tie.Need-write-decimal-requires-2
+write-decimal-requires-2 c κs = rw length-set (omega (arith, long64 (c .before .before .before .before .before .before .args .entry) (search needs), long32 (c .before .before .before .before .before .before .args .refusal) (search needs), long64 (c .before .before .before .before .before .before .args .value) (search needs), length-set (c .before .before .before .write-decimal .last .0) (c .before .before .before .write-decimal .result) 32))
+
+slice-write-out-2 : tie.Need-slice-write-out-2
+slice-write-out-2 c = omega (arith, long64 (c .before .before .before .before .before .before .before .before .before .args .entry) (search needs), long32 (c .before .before .before .before .before .before .before .before .before .args .refusal) (search needs), long64 (c .before .before .before .before .before .before .before .before .before .args .value) (search needs), length-set (c .before .before .before .before .before .before .write-decimal .last .0) (c .before .before .before .before .before .before .write-decimal .result) 32, length-set (c .before .before .write-decimal2 .last .0) (c .before .before .write-decimal2 .result) 32)
+
+add-write-decimal-2 : tie.Need-add-write-decimal-2
+add-write-decimal-2 c = omega (arith, long64 (c .before .before .before .before .before .before .before .before .before .before .args .entry) (search needs), long32 (c .before .before .before .before .before .before .before .before .before .before .args .refusal) (search needs), long64 (c .before .before .before .before .before .before .before .before .before .before .args .value) (search needs), length-set (c .before .before .before .before .before .before .before .write-decimal .last .0) (c .before .before .before .before .before .before .before .write-decimal .result) 32, length-set (c .before .before .before .write-decimal2 .last .0) (c .before .before .before .write-decimal2 .result) 32)
+
+write-decimal-requires-3 : tie.Need-write-decimal-requires-3
+write-decimal-requires-3 c κs = rw length-set (omega (arith, long64 (c .before .before .before .before .before .before .before .before .before .before .args .entry) (search needs), long32 (c .before .before .before .before .before .before .before .before .before .before .args .refusal) (search needs), long64 (c .before .before .before .before .before .before .before .before .before .before .args .value) (search needs), length-set (c .before .before .before .before .before .before .before .write-decimal .last .0) (c .before .before .before .before .before .before .before .write-decimal .result) 32, length-set (c .before .before .before .write-decimal2 .last .0) (c .before .before .before .write-decimal2 .result) 32))
+
+slice-write-out-3 : tie.Need-slice-write-out-3
+slice-write-out-3 c = omega (arith, long64 (c .before .before .before .before .before .before .before .before .before .before .before .before .before .args .entry) (search needs), long32 (c .before .before .before .before .before .before .before .before .before .before .before .before .before .args .refusal) (search needs), long64 (c .before .before .before .before .before .before .before .before .before .before .before .before .before .args .value) (search needs), length-set (c .before .before .before .before .before .before .before .before .before .before .write-decimal .last .0) (c .before .before .before .before .before .before .before .before .before .before .write-decimal .result) 32, length-set (c .before .before .before .before .before .before .write-decimal2 .last .0) (c .before .before .before .before .before .before .write-decimal2 .result) 32)
+
+add-result : tie.Need-add-result
+add-result c = omega (arith, long64 (c .before .before .before .before .before .before .before .before .before .before .before .before .before .args .entry) (search needs), long32 (c .before .before .before .before .before .before .before .before .before .before .before .before .before .args .refusal) (search needs), long64 (c .before .before .before .before .before .before .before .before .before .before .before .before .before .args .value) (search needs), length-set (c .before .before .before .before .before .before .before .before .before .before .write-decimal .last .0) (c .before .before .before .before .before .before .before .before .before .before .write-decimal .result) 32, length-set (c .before .before .before .before .before .before .write-decimal2 .last .0) (c .before .before .before .before .before .before .write-decimal2 .result) 32)
+
+same-length : tie.Need-same-length
+same-length c = simp length-set (omega (arith, length-set (c .before .before .before .before .before .before .before .before .before .before .write-decimal .last .0) (c .before .before .before .before .before .before .before .before .before .before .write-decimal .result) 32, length-set (c .before .before .before .before .before .before .write-decimal2 .last .0) (c .before .before .before .before .before .before .write-decimal2 .result) 32))
+
+returns : tie.Need-returns
+unfolding textOf
+returns c =
+    let first = written (c .before .before .before .before .before .before .before .before .before .before .before .before .before .args .out .now) (c .before .before .before .before .before .before .before .before .before .before .before .before .before .args .at) (decimal (c .before .before .before .before .before .before .before .before .before .before .before .before .before .args .entry)) (c .before .before .before .before .before .before .before .before .before .before .write-decimal .ensures .1) (c .before .before .before .before .before .before .before .before .before .before .write-decimal .ensures .0) in
+    let second = and-more (and-more first (space ∷ []) refl refl) (decimal (c .before .before .before .before .before .before .before .before .before .before .before .before .before .args .refusal)) (c .before .before .before .before .before .before .write-decimal2 .ensures .1) (c .before .before .before .before .before .before .write-decimal2 .ensures .0) in
+    let third = and-more (and-more second (space ∷ []) refl refl) (decimal (c .before .before .before .before .before .before .before .before .before .before .before .before .before .args .value)) (c .before .before .write-decimal3 .ensures .1) (c .before .before .write-decimal3 .ensures .0) in
+    let line = and-more third (newline ∷ []) refl refl in
+    (line .end, (line .text, omega (arith, long64 (c .before .before .before .before .before .before .before .before .before .before .before .before .before .args .entry) (search needs), long32 (c .before .before .before .before .before .before .before .before .before .before .before .before .before .args .refusal) (search needs), long64 (c .before .before .before .before .before .before .before .before .before .before .before .before .before .args .value) (search needs), length-set (c .before .before .before .before .before .before .before .before .before .before .write-decimal .last .0) (c .before .before .before .before .before .before .before .before .before .before .write-decimal .result) 32, length-set (c .before .before .before .before .before .before .write-decimal2 .last .0) (c .before .before .before .before .before .before .write-decimal2 .result) 32)))
+
+pub write-line-spec : {M : Type 1} → statement M
+write-line-spec =
+    tie.close
+    (tie.spec
+    write-decimal-requires
+    slice-write-out
+    add-write-decimal
+    write-decimal-requires-2
+    slice-write-out-2
+    add-write-decimal-2
+    write-decimal-requires-3
+    slice-write-out-3
+    add-result
+    same-length
+    returns)
