@@ -1,0 +1,112 @@
+"""The collector-free store of document 01, written from the paper alone.
+
+It is fed the session calls of a run in order and, for each allocation, whether the run answered it with 14. It keeps which
+sessions are attached, their registers, the globals and a list of records; a register, global or reference field holds 0 for
+null or a record's place in the list, from 1.
+"""
+
+ATTACH, DETACH, SAFE, ALLOCATE, LOAD, STORE, READ, WRITE, MOVE, CLEAR, SAME, GET, PUT, STEP = range(1, 15)
+
+
+class Model:
+    def __init__(self):
+        self.attached = [False] * 16
+        self.registers = [[0] * 8 for _ in range(16)]
+        self.globals = [0] * 32
+        self.records = []  # (reference fields, plain fields)
+
+    def _session(self, s):
+        if s > 15:
+            return 5
+        return 0 if self.attached[s] else 6
+
+    def call(self, kind, args, no_room=False):
+        """The refusal number or 0, and the value."""
+        s = args[0]
+        if kind == ATTACH:
+            if s > 15:
+                return 5, 0
+            if self.attached[s]:
+                return 7, 0
+            self.attached[s] = True
+            self.registers[s] = [0] * 8
+            return 0, 0
+        refusal = self._session(s)
+        if refusal:
+            return refusal, 0
+        regs = self.registers[s]
+        if kind == DETACH:
+            self.attached[s] = False
+            self.registers[s] = [0] * 8
+            return 0, 0
+        if kind == ALLOCATE:
+            k, r, p = args[1:]
+            if k > 7:
+                return 8, 0
+            if r > 255 or p > 255:
+                return 10, 0
+            if no_room:
+                return 14, 0
+            self.records.append(([0] * r, [0] * p))
+            regs[k] = len(self.records)
+            return 0, 0
+        if kind in (LOAD, STORE, READ, WRITE):
+            return self._field(kind, regs, args)
+        if kind == MOVE:
+            to, source = args[1:]
+            if to > 7 or source > 7:
+                return 8, 0
+            regs[to] = regs[source]
+            return 0, 0
+        if kind == CLEAR:
+            if args[1] > 7:
+                return 8, 0
+            regs[args[1]] = 0
+            return 0, 0
+        if kind == SAME:
+            a, b = args[1:]
+            if a > 7 or b > 7:
+                return 8, 0
+            return 0, int(regs[a] == regs[b])
+        if kind == GET:
+            to, g = args[1:]
+            if to > 7:
+                return 8, 0
+            if g > 31:
+                return 9, 0
+            regs[to] = self.globals[g]
+            return 0, 0
+        g, source = args[1:]
+        if source > 7:
+            return 8, 0
+        if g > 31:
+            return 9, 0
+        self.globals[g] = regs[source]
+        return 0, 0
+
+    def _field(self, kind, regs, args):
+        if kind == LOAD:
+            to, k, i = args[1:]
+        elif kind == STORE:
+            k, i, to = args[1:]
+        else:
+            k, i, to = args[1], args[2], 0
+        if k > 7 or to > 7:
+            return 8, 0
+        if regs[k] == 0:
+            return 11, 0
+        refs, plains = self.records[regs[k] - 1]
+        if kind in (LOAD, STORE):
+            if i >= len(refs):
+                return 13, 0
+            if kind == LOAD:
+                regs[to] = refs[i]
+            else:
+                refs[i] = regs[to]
+            return 0, 0
+        if i >= len(plains):
+            return 13, 0
+        if kind == READ:
+            return 0, plains[i]
+        plains[i] = args[3]
+        return 0, 0

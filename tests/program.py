@@ -1,0 +1,19 @@
+"""Runs the script program, or the program that the environment names as SCRIPT_PROGRAM."""
+import os
+import subprocess
+
+BUILT = os.path.join(os.path.dirname(os.path.abspath(__file__)), "..", "target", "bin", "script_main")
+PROGRAM = os.environ.get("SCRIPT_PROGRAM", BUILT)
+
+
+def output(data):
+    """What the program writes to standard output on these bytes; it must end well and write nothing to standard error."""
+    done = subprocess.run([PROGRAM], input=data, stdout=subprocess.PIPE, stderr=subprocess.PIPE, timeout=120)
+    if done.returncode != 0 or done.stderr:
+        raise SystemExit(f"the program ended with status {done.returncode} and wrote to standard error: {done.stderr[:200]}")
+    return done.stdout
+
+
+def lines(data):
+    """The lines as (entry, number, value)."""
+    return [tuple(int(word) for word in line.split(b" ")) for line in output(data).split(b"\n")[:-1]]

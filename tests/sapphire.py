@@ -1,0 +1,377 @@
+"""The whole store of document 01 in Python, words and all, written from the paper alone.
+
+It is the second opinion on what the script program must print: on each line, collector steps and allocations without room
+included. `slip` builds in one of the four slips that the paper warns of, so that the tests can show that they would see it.
+"""
+from model import ATTACH, DETACH, SAFE, ALLOCATE, LOAD, STORE, READ, WRITE, MOVE, CLEAR, SAME, GET, PUT, STEP
+
+LEVELS = [0, 1, 2, 2, 2, 3, 4, 4, 5, 6, 6, 6, 0]
+WHITE, GREY, BLACK = 0, 1, 2
+BLACK_EARLY, MARKS_KEPT, WORDS_COMPARED, ALLOCATE_ENDS_EARLY = "black early", "marks kept", "words compared", "allocate ends early"
+SLIPS = [BLACK_EARLY, MARKS_KEPT, WORDS_COMPARED, ALLOCATE_ENDS_EARLY]
+
+
+class Refused(Exception):
+    pass
+
+
+class Sapphire:
+    def __init__(self, length=4096, capacity=1365, slip=None):
+        self.half = [[0] * length, [0] * length]
+        self.list = [0] * capacity
+        self.frontier = [0, 0]
+        self.current = self.phase = self.place = self.field = self.head = self.tail = 0
+        self.globals = [0] * 32
+        self.attached, self.scanned, self.level = [False] * 16, [False] * 16, [0] * 16
+        self.registers = [[0] * 8 for _ in range(16)]
+        self.slip = slip
+        self.collections = 0
+        self.first_frontier = 0
+
+    # ---- memory
+    def at(self, v, j):
+        return self.half[v % 2][(v - 2) // 2 + j]
+
+    def put(self, v, j, x):
+        self.half[v % 2][(v - 2) // 2 + j] = x
+
+    def follow(self, v):
+        """r and p of a sound reference; else refusal 12."""
+        if v < 2:
+            raise Refused(12)
+        k, h = (v - 2) // 2, v % 2
+        if k + 3 > self.frontier[h]:
+            raise Refused(12)
+        shape, colour = self.half[h][k], self.half[h][k + 1]
+        r, p = shape // 256, shape % 256
+        if shape > 65535 or colour > 2 or k + 3 + r + p > self.frontier[h]:
+            raise Refused(12)
+        return r, p
+
+    def fromspace(self):
+        return 1 - self.current if self.phase == 12 else self.current
+
+    def is_in(self, half, v):
+        return v >= 2 and v % 2 == half
+
+    def copy_of(self, v):
+        self.follow(v)
+        return self.at(v, 2) or v
+
+    def forward(self, v):
+        if v == 0 or self.is_in(1 - self.fromspace(), v):
+            return v
+        return self.copy_of(v)
+
+    # ---- shading
+    def white(self, v):
+        if v == 0:
+            return False
+        self.follow(v)
+        return self.at(v, 1) == WHITE
+
+    def room_for(self, n):
+        if self.tail + n > len(self.list):
+            raise Refused(12)
+
+    def shade(self, v):
+        self.put(v, 1, GREY)
+        self.list[self.tail] = v
+        self.tail += 1
+        if self.slip != MARKS_KEPT:
+            self.scanned = [False] * 16
+
+    def shade_all(self, vs):
+        whites = []
+        for v in vs:
+            if self.white(v) and v not in whites:
+                whites.append(v)
+        self.room_for(len(whites))
+        return whites
+
+    # ---- session calls
+    def session(self, s):
+        if s > 15:
+            raise Refused(5)
+        if not self.attached[s]:
+            raise Refused(6)
+
+    def need(self, ok, number):
+        if not ok:
+            raise Refused(number)
+
+    def call(self, kind, args):
+        try:
+            return 0, self._call(kind, args) or 0
+        except Refused as refusal:
+            return refusal.args[0], 0
+
+    def _call(self, kind, args):
+        if kind == STEP:
+            self._step()
+            return self.phase
+        s = args[0]
+        if kind == ATTACH:
+            self.need(s <= 15, 5)
+            self.need(not self.attached[s], 7)
+            self.attached[s], self.scanned[s] = True, False
+            self.level[s], self.registers[s] = LEVELS[self.phase], [0] * 8
+            return 0
+        self.session(s)
+        regs, level = self.registers[s], self.level[s]
+        if kind == DETACH:
+            self.attached[s], self.level[s], self.registers[s] = False, 0, [0] * 8
+        elif kind == SAFE:
+            self.level[s] = LEVELS[self.phase]
+        elif kind == ALLOCATE:
+            self._allocate(regs, level, *args[1:])
+        elif kind == LOAD:
+            to, k, i = args[1:]
+            self.need(to <= 7 and k <= 7, 8)
+            self.need(regs[k], 11)
+            r, _ = self.follow(regs[k])
+            self.need(i < r, 13)
+            regs[to] = self.at(regs[k], 3 + i)
+        elif kind == STORE:
+            self._store(regs, level, *args[1:])
+        elif kind == READ:
+            k, i = args[1:]
+            self.need(k <= 7, 8)
+            self.need(regs[k], 11)
+            r, p = self.follow(regs[k])
+            self.need(i < p, 13)
+            return self.at(regs[k], 3 + r + i)
+        elif kind == WRITE:
+            self._write(regs, level, *args[1:])
+        elif kind == MOVE:
+            to, source = args[1:]
+            self.need(to <= 7 and source <= 7, 8)
+            regs[to] = regs[source]
+        elif kind == CLEAR:
+            self.need(args[1] <= 7, 8)
+            regs[args[1]] = 0
+        elif kind == SAME:
+            a, b = args[1:]
+            self.need(a <= 7 and b <= 7, 8)
+            return int(self._same(level, regs[a], regs[b]))
+        elif kind == GET:
+            to, g = args[1:]
+            self.need(to <= 7, 8)
+            self.need(g <= 31, 9)
+            regs[to] = self.globals[g]
+        elif kind == PUT:
+            self._put(regs, level, *args[1:])
+        return 0
+
+    def _allocate(self, regs, level, k, r, p):
+        self.need(k <= 7, 8)
+        self.need(r <= 255 and p <= 255, 10)
+        size = 3 + r + p
+        halves = [self.current] if level <= 2 else [0, 1]
+        for h in halves:
+            self.need(self.frontier[h] + size <= len(self.half[h]), 14)
+        refs = [2 * self.frontier[h] + 2 + h for h in (0, 1)]
+        black_from = 1 if self.slip == BLACK_EARLY else 2
+        if level <= 2:
+            self._append(self.current, r, p, BLACK if level >= black_from else WHITE, 0)
+            regs[k] = refs[self.current]
+        else:
+            source = self.fromspace()
+            self._append(source, r, p, BLACK, refs[1 - source])
+            self._append(1 - source, r, p, WHITE, refs[source])
+            regs[k] = refs[source] if level <= 5 else refs[1 - source]
+
+    def _append(self, h, r, p, colour, replica):
+        at = self.frontier[h]
+        self.half[h][at:at + 3 + r + p] = [256 * r + p, colour, replica] + [0] * (r + p)
+        self.frontier[h] = at + 3 + r + p
+
+    def _store(self, regs, level, k, i, source):
+        self.need(k <= 7 and source <= 7, 8)
+        v, q = regs[k], regs[source]
+        self.need(v, 11)
+        r, _ = self.follow(v)
+        self.need(i < r, 13)
+        shades = 1 <= level <= 3 and self.white(q)
+        if shades:
+            self.room_for(1)
+        replica = self.at(v, 2) if level >= 4 else 0
+        if replica:
+            self.need(i < self.follow(replica)[0], 12)
+        own = self._own_word(level, v, q)
+        copy = 0
+        if replica:
+            if level == 5:
+                copy = self.copy_of(q) if self.is_in(v % 2, q) else q
+            else:
+                copy = self.forward(q)
+        if shades:
+            self.shade(q)
+        self.put(v, 3 + i, own)
+        if replica:
+            self.put(replica, 3 + i, copy)
+
+    def _own_word(self, level, v, q):
+        if level == 6:
+            return self.forward(q)
+        if level == 5 and self.is_in(1 - self.fromspace(), v) and self.is_in(self.fromspace(), q):
+            return self.copy_of(q)
+        return q
+
+    def _write(self, regs, level, k, i, value):
+        self.need(k <= 7, 8)
+        v = regs[k]
+        self.need(v, 11)
+        r, p = self.follow(v)
+        self.need(i < p, 13)
+        replica = self.at(v, 2) if level >= 4 else 0
+        if replica:
+            rr, rp = self.follow(replica)
+            self.need(i < rp, 12)
+        self.put(v, 3 + r + i, value)
+        if replica:
+            self.put(replica, 3 + rr + i, value)
+
+    def _same(self, level, a, b):
+        if level <= 4 or a == b or self.slip == WORDS_COMPARED:
+            return a == b
+        for p, q in ((a, b), (b, a)):
+            if self.is_in(self.fromspace(), p):
+                self.follow(p)
+                return self.at(p, 2) == q
+        return False
+
+    def _put(self, regs, level, g, source):
+        self.need(source <= 7, 8)
+        self.need(g <= 31, 9)
+        q = regs[source]
+        shades = 1 <= level <= 3 and self.white(q)
+        if shades:
+            self.room_for(1)
+        own = self._own_word(level, 0, q)
+        if shades:
+            self.shade(q)
+        self.globals[g] = own
+
+    # ---- the collector step
+    def have_level(self):
+        return all(not a or l == LEVELS[self.phase] for a, l in zip(self.attached, self.level))
+
+    def move_on(self):
+        self.phase = (self.phase + 1) % 13
+        self.place = self.field = 0
+        self.scanned = [False] * 16
+        self.first_frontier = self.frontier[self.current]
+
+    def unmarked(self):
+        return next((n for n in range(16) if self.attached[n] and not self.scanned[n]), None)
+
+    def walked(self):
+        v = 2 * self.place + 2 + self.current
+        r, p = self.follow(v)
+        return v, r, p
+
+    def past(self, r, p):
+        self.place += 3 + r + p
+        self.field = 0
+
+    def _step(self):
+        work = {0: self._rest, 3: self._root_mark, 4: self._heap_mark, 5: self._shells, 7: self._copy, 10: self._root_flip,
+                11: self._stack_flip, 12: self._reclaim}
+        work.get(self.phase, self._handshake)()
+
+    def _handshake(self):
+        if self.have_level():
+            self.move_on()
+
+    def _rest(self):
+        self.head = self.tail = 0
+        self.move_on()
+
+    def _root_mark(self):
+        if self.place >= 32:
+            return self.move_on()
+        for v in self.shade_all([self.globals[self.place]]):
+            self.shade(v)
+        self.place += 1
+
+    def _heap_mark(self):
+        if self.head < self.tail:
+            v = self.list[self.head]
+            r, _ = self.follow(v)
+            if self.field < r:
+                for w in self.shade_all([self.at(v, 3 + self.field)]):
+                    self.shade(w)
+                self.field += 1
+            else:
+                self.put(v, 1, BLACK)
+                self.head += 1
+                self.field = 0
+            return
+        n = self.unmarked()
+        if n is None:
+            return self.move_on()
+        whites = self.shade_all(self.registers[n])
+        self.scanned[n] = True
+        for v in whites:
+            self.shade(v)
+
+    def _shells(self):
+        end = self.frontier[self.current]
+        if self.slip == ALLOCATE_ENDS_EARLY:
+            end = min(end, self.first_frontier)
+        if self.place >= end:
+            return self._handshake()
+        v, r, p = self.walked()
+        if self.at(v, 1) != WHITE and self.at(v, 2) == 0:
+            other = 1 - self.current
+            at = self.frontier[other]
+            if at + 3 + r + p > len(self.half[other]):
+                raise Refused(12)
+            self._append(other, r, p, WHITE, v)
+            self.put(v, 2, 2 * at + 2 + other)
+        self.past(r, p)
+
+    def _copy(self):
+        if self.place >= self.frontier[self.current]:
+            return self.move_on()
+        v, r, p = self.walked()
+        t = self.at(v, 2)
+        if t == 0 or self.field >= r + p:
+            return self.past(r, p)
+        tr, tp = self.follow(t)
+        if self.field < r:
+            self.need(self.field < tr, 12)
+            self.put(t, 3 + self.field, self.forward(self.at(v, 3 + self.field)))
+        else:
+            i = self.field - r
+            self.need(i < tp, 12)
+            self.put(t, 3 + tr + i, self.at(v, 3 + r + i))
+        self.field += 1
+
+    def _root_flip(self):
+        if self.place >= 32:
+            return self.move_on()
+        self.globals[self.place] = self.forward(self.globals[self.place])
+        self.place += 1
+
+    def _stack_flip(self):
+        n = self.unmarked()
+        if n is None:
+            to = 1 - self.fromspace()
+            self.move_on()
+            self.current = to
+            return
+        self.registers[n] = [self.forward(v) for v in self.registers[n]]
+        self.scanned[n] = True
+
+    def _reclaim(self):
+        if not self.have_level():
+            return
+        if self.place < self.frontier[self.current]:
+            v, r, p = self.walked()
+            self.put(v, 2, 0)
+            return self.past(r, p)
+        self.frontier[1 - self.current] = 0
+        self.move_on()
+        self.collections += 1

@@ -1,0 +1,65 @@
+#!/usr/bin/env python3
+"""The script program on damaged scripts: cut at every byte, every kind with every wrong length, unknown kinds, random bytes. What it
+must print is worked out here from document 01: 15 at the first bad entry, and nothing after it."""
+import random
+import sys
+
+import program
+import sapphire
+from model import STEP, WRITE
+from scripts import ARGUMENTS, encode, random_script
+
+SIZES = {kind: 1 + n + (3 if kind == WRITE else 0) for kind, n in ARGUMENTS.items()}
+
+
+def expected(data):
+    """The text that document 01 gives for these bytes."""
+    if not data or data[0] != 1:
+        return b"0 15 0\n"
+    store, out, at, n = sapphire.Sapphire(), [], 1, 1
+    while at < len(data):
+        body = data[at + 1:at + 1 + data[at]]
+        if len(body) < data[at] or not body or SIZES.get(body[0]) != len(body):
+            out.append(f"{n} 15 0\n")
+            break
+        kind, args = body[0], list(body[1:])
+        if kind == WRITE:
+            args = args[:3] + [int.from_bytes(body[4:8], "big")]
+        number, value = store.call(kind, args)
+        out.append(f"{n} {number} {value}\n")
+        at, n = at + 1 + len(body), n + 1
+    return "".join(out).encode()
+
+
+def inputs():
+    whole = encode(random_script(7, 60))
+    for cut in range(len(whole) + 1):
+        yield f"cut at {cut}", whole[:cut]
+    start = encode([(1, [0]), (4, [0, 0, 2, 2])])
+    for kind in range(256):
+        for length in range(12):
+            if kind in SIZES or length in (0, 1, 5):
+                yield f"kind {kind} length {length}", start + bytes([length]) + (bytes([kind]) + bytes(11))[:length] + b"\x01\x0e"
+    yield "version 2", b"\x02\x01\x0e"
+    yield "version alone", b"\x01"
+    yield "long entry", start + bytes([255]) + bytes(255)
+    rng = random.Random(5)
+    for n in range(200):
+        yield f"random bytes {n}", bytes(rng.randrange(256) for _ in range(rng.randrange(300)))
+        yield f"random bytes after a good start {n}", start + bytes(rng.randrange(16) for _ in range(rng.randrange(200)))
+
+
+def main():
+    count = refused = 0
+    for name, data in inputs():
+        got, want = program.output(data), expected(data)
+        if got != want:
+            sys.exit(f"test_bad_scripts: {name}: wrote {got[-80:]!r}, document 01 gives {want[-80:]!r}")
+        count, refused = count + 1, refused + want.rstrip().endswith(b" 15 0")
+    print(f"test_bad_scripts: {count} inputs, {refused} of them refused with 15")
+    if refused < 500:
+        sys.exit("test_bad_scripts: too few inputs are bad")
+
+
+if __name__ == "__main__":
+    main()
