@@ -1,0 +1,95 @@
+#!/usr/bin/env python3
+"""The benchmark: the script program against the same rules written the usual way in Rust (plain.rs), on the same scripts.
+
+    python3 bench/run.py
+
+Needs `rt check` done, rustc and valgrind. Output must be byte-equal. It prints time, instructions per entry (callgrind), peak memory
+and the share of the Rust program's speed, side by side, and then how the cost of an entry grows with live records and with the
+halves' length.
+"""
+import os
+import re
+import subprocess
+import sys
+import tempfile
+import time
+
+from workloads import WORKLOADS, encode
+
+ROOT = os.path.join(os.path.dirname(os.path.abspath(__file__)), "..")
+OURS = os.path.join(ROOT, "target", "bin", "script_main")
+LARGE = os.path.join(ROOT, "target", "bin", "script_large")
+PLAIN = os.path.join(ROOT, "target", "bench", "plain")
+ENTRIES = 120000
+
+
+def build():
+    os.makedirs(os.path.dirname(PLAIN), exist_ok=True)
+    subprocess.run(["rustc", "-O", "-o", PLAIN, os.path.join(ROOT, "bench", "plain.rs")], check=True)
+
+
+def run(command, data):
+    with tempfile.TemporaryFile() as source:
+        source.write(data)
+        source.seek(0)
+        began = time.perf_counter()
+        done = subprocess.run(command, stdin=source, stdout=subprocess.PIPE, check=True)
+        return done.stdout, time.perf_counter() - began
+
+
+def best_time(command, data, tries=5):
+    return min(run(command, data)[1] for _ in range(tries))
+
+
+def instructions(command, data):
+    with tempfile.NamedTemporaryFile() as out:
+        tool = ["valgrind", "--tool=callgrind", f"--callgrind-out-file={out.name}"]
+        done = subprocess.run(tool + command, input=data, stdout=subprocess.DEVNULL, stderr=subprocess.PIPE, check=True)
+    return int(re.search(rb"Collected : (\d+)", done.stderr).group(1))
+
+
+def peak_kilobytes(command, data):
+    done = subprocess.run(["/usr/bin/time", "-f", "%M"] + command, input=data, stdout=subprocess.DEVNULL, stderr=subprocess.PIPE, check=True)
+    return int(done.stderr.split()[-1])
+
+
+def compare(name, entries):
+    data = encode(entries)
+    if run([OURS], data)[0] != run([PLAIN], data)[0]:
+        sys.exit(f"{name}: the two programs write different lines")
+    times = [best_time([p], data) for p in (OURS, PLAIN)]
+    counts = [instructions([p], data) / len(entries) for p in (OURS, PLAIN)]
+    peaks = [peak_kilobytes([p], data) for p in (OURS, PLAIN)]
+    print(f"{name:28} {len(entries):7} {times[0] * 1000:8.1f} {times[1] * 1000:8.1f} {counts[0]:8.0f} {counts[1]:8.0f} "
+          f"{counts[0] / counts[1]:6.2f} {peaks[0]:7} {peaks[1]:7} {100 * times[1] / times[0]:6.0f}%")
+
+
+def growth():
+    print("\ninstructions per entry, ours / plain, by live records (halves of 4,096 words)")
+    for name, make in WORKLOADS.items():
+        cells = []
+        for live in (10, 100, 250):
+            data, n = encode(make(40000, live)), 40000
+            cells.append(f"{live}: {instructions([OURS], data) / n:.0f} / {instructions([PLAIN], data) / n:.0f}")
+        print(f"{name:28} " + "   ".join(cells))
+    if os.path.exists(LARGE):
+        print("\nthe same with halves of 65,536 words")
+        for name, make in WORKLOADS.items():
+            cells = []
+            for live in (10, 100, 4000):
+                entries = make(40000 + 5 * live, live)
+                data, n = encode(entries), len(entries)
+                cells.append(f"{live}: {instructions([LARGE], data) / n:.0f} / {instructions([PLAIN, '65536'], data) / n:.0f}")
+            print(f"{name:28} " + "   ".join(cells))
+
+
+def main():
+    build()
+    print(f"{'script':28} {'entries':>7} {'ms ours':>8} {'ms plain':>8} {'instr':>8} {'plain':>8} {'ratio':>6} {'KB ours':>7} {'KB':>7} {'speed':>7}")
+    for name, make in WORKLOADS.items():
+        compare(name, make(ENTRIES))
+    growth()
+
+
+if __name__ == "__main__":
+    main()
