@@ -1,13 +1,15 @@
 -- One entry of a script: what is left after it.
 use Prim.Native.Nat.{ℕ, _+_}
-use mathlib.Core.Bool.{Bool, true, false}
+use mathlib.Core.Bool.{Bool, true, false, cond}
 use mathlib.Core.List.{List}
 use lib.ListN.{length}
+use lib.Dec.{leb}
 use lib.Seq.{sets}
 use Rattle.rules.specs.Control.{Store}
 use Rattle.rules.specs.Runs.{apply}
 use Rattle.rules.specs.Script.{entryAt, byEntry, Line, badLine, lineOf, textOf}
 use Rattle.store.specs.View.{view}
+use Rattle.script.specs.Lines.{longest}
 use Rattle.script.specs.declared.turns.Turn.{Turn}
 
 -- the store, the place of the next entry, the output with the end of what was written, and whether there is more to do
@@ -48,3 +50,10 @@ turnAt s bs i n out end =
     (record { store = s; at = i; out = out; end = end; more = false })
     (withLine (badLine n) s i out end false)
     (λ c j. withLine (lineOf n (apply s c .reply)) (apply s c .store) j out end true)
+
+-- the same where the output has room for a line after its end; else nothing is done
+unfoldable pub turnWithin : Store → List ℕ → ℕ → ℕ → List ℕ → ℕ → Left
+turnWithin s bs i n out end =
+    cond (leb (end + longest) (length out))
+    (turnAt s bs i n out end)
+    (record { store = s; at = i; out = out; end = end; more = false })

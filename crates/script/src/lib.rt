@@ -13,6 +13,6 @@ pub use entries::is_version;
 pub use entries::parse;
 pub use lines::number_of;
 pub use lines::value_of;
-pub use lines::write_line;
+pub use lines::write_bad_version;
 pub use turns::Turn;
 pub use turns::take_turn;

@@ -5,7 +5,7 @@ ghost use lib.ListN.{length};
 ghost use lib.Seq.{sets};
 ghost use Rattle.rules.specs.Refusals.{numberOf, valueOf};
 ghost use Rattle.rules.specs.Script.{decimal, textOf};
-ghost use Rattle.script.specs.Lines.{line, longest};
+ghost use Rattle.script.specs.Lines.{line, longest, versionRefused, badVersion};
 
 // Puts a number's decimal digits at a place of the output and answers the place after them.
 fn write_decimal(out: &mut [u8], at: usize, n: u64) -> usize
@@ -49,7 +49,7 @@ pub fn value_of(answer: rules::Answer) -> u64
 }
 
 // Puts a line at a place of the output that has room for the longest one and answers the place after it.
-pub fn write_line(out: &mut [u8], at: usize, entry: u64, refusal: u32, value: u64) -> usize
+pub(crate) fn write_line(out: &mut [u8], at: usize, entry: u64, refusal: u32, value: u64) -> usize
     requires { ⌜ at + longest ≤ length (now out) ⌝ }
     ensures end { λ r. ⌜ r ≡ at + length (textOf (line entry refusal value)) ⌝ }
     ensures text { λ _. ⌜ now (out .exit) ≡ sets (now (out .entry)) at (textOf (line entry refusal value)) ⌝ }
@@ -62,4 +62,16 @@ pub fn write_line(out: &mut [u8], at: usize, entry: u64, refusal: u32, value: u6
     let third = write_decimal(out, second + 1, value);
     out[third] = b'\n';
     third + 1
+}
+
+// The line of an input whose version is bad, or that is empty, at the start of the output; nothing where there is no room
+// for a line. Answers the end of what was written.
+pub fn write_bad_version(out: &mut [u8]) -> usize
+    ensures text { λ r. ⌜ versionRefused r (now (out .exit)) ≡ badVersion (now (out .entry)) ⌝ }
+    ensures within { λ r. ⌜ r ≤ length (now (out .exit)) ⌝ }
+{
+    if out.len() < 53 {
+        return 0;
+    }
+    write_line(out, 0, 0, 15, 0)
 }

@@ -4,13 +4,16 @@ ghost use Prim.Native.Nat.{_+_, _≤_};
 ghost use lib.ListN.{length};
 ghost use Rattle.store.specs.View.{view};
 ghost use Rattle.script.specs.Lines.{longest};
-ghost use Rattle.script.specs.Turns.{turned, turnAt};
+ghost use Rattle.script.specs.Turns.{turned, turnAt, turnWithin};
 use crate::Parsed;
+use crate::lines::write_line;
 use crate::number_of;
 use crate::parse;
 use crate::perform;
 use crate::value_of;
-use crate::write_line;
+
+// No line is longer than this: 20, 10 and 20 digits, two spaces and a newline.
+const LONGEST: usize = 53;
 
 // What is left after an entry: the control record, the place of the next entry, the end of the output so far, and
 // whether there is more to do.
@@ -21,8 +24,8 @@ pub struct Turn {
     pub more: bool,
 }
 
-// Does the entry that stands at a place of the input: its call on the store, and its line at the end of the output.
-pub fn take_turn(
+// The entry that stands at a place of the input, its line having room in the output.
+fn write_turn(
     control: store::Control,
     h0: &mut [u32],
     h1: &mut [u32],
@@ -70,4 +73,41 @@ pub fn take_turn(
             }
         }
     }
+}
+
+// Does the entry that stands at a place of the input: its call on the store, and its line at the end of the output. Where
+// the output has not the room for any line, nothing is done.
+pub fn take_turn(
+    control: store::Control,
+    h0: &mut [u32],
+    h1: &mut [u32],
+    list: &mut [u32],
+    input: &[u8],
+    at: usize,
+    number: u64,
+    out: &mut [u8],
+    end: usize,
+) -> Turn
+    ensures left { λ r. ⌜ turned r (now (h0 .exit)) (now (h1 .exit)) (now (list .exit)) (now (out .exit))
+        ≡ turnWithin (view control (now (h0 .entry)) (now (h1 .entry)) (now (list .entry))) (now (input .entry)) at number (now (out .entry)) end ⌝ }
+    ensures short { λ r. ⌜ r .end ≤ end + longest ⌝ }
+{
+    let size = out.len();
+    if size < LONGEST {
+        return Turn {
+            control,
+            at,
+            end,
+            more: false,
+        };
+    }
+    if size - LONGEST < end {
+        return Turn {
+            control,
+            at,
+            end,
+            more: false,
+        };
+    }
+    write_turn(control, h0, h1, list, input, at, number, out, end)
 }

@@ -180,7 +180,7 @@ fn main() {
             &mut out,
         );
     } else {
-        let end = script::write_line(&mut out, 0, 0, 15, 0);
+        let end = script::write_bad_version(&mut out);
         write_out(&out, end);
     }
 }
