@@ -186,6 +186,12 @@ def allocates_behind_the_walk(steps):
 RECIPES = [new_record_gets_a_white_one, scanned_session_loads_late, both_copies_compared, allocates_behind_the_walk]
 
 
+def long_scripts():
+    """Scripts of a hundred thousand entries and more: several times what the program reads at once."""
+    for seed in (1001, 1002):
+        yield f"long {seed}", random_script(seed, 120000)
+
+
 def all_scripts():
     """The scripts of the test, each with its name: random ones, races at each handshake, and the recipes."""
     for seed in range(300):

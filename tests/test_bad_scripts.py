@@ -35,6 +35,10 @@ def inputs():
     whole = encode(random_script(7, 60))
     for cut in range(len(whole) + 1):
         yield f"cut at {cut}", whole[:cut]
+    # the program reads 65,536 bytes at once: entries across that edge, whole and cut
+    long = encode(random_script(9, 30000))
+    for cut in range(65528, 65548):
+        yield f"long script cut at {cut}", long[:cut]
     start = encode([(1, [0]), (4, [0, 0, 2, 2])])
     for kind in range(256):
         for length in range(12):

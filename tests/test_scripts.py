@@ -1,6 +1,7 @@
 #!/usr/bin/env python3
 """The script program on long scripts: every session line is the collector-free store's, no line has 4 or 12, a step's phase only
 stays or moves on; and every line, room and phases included, is that of the whole store in Python."""
+import itertools
 import sys
 import time
 
@@ -8,15 +9,17 @@ import program
 import sapphire
 from judge import faults
 from model import STEP
-from scripts import all_scripts, encode
+from scripts import all_scripts, encode, long_scripts
 
 
 def main():
     began = time.time()
-    count = entries = collections = 0
+    count = entries = collections = steps = longest = 0
     refusals = {}
-    for name, script in all_scripts():
-        answers = program.lines(encode(script))
+    for name, script in itertools.chain(all_scripts(), long_scripts()):
+        data = encode(script)
+        longest = max(longest, len(data))
+        answers = program.lines(data)
         if [n for n, _, _ in answers] != list(range(1, len(script) + 1)):
             sys.exit(f"test_scripts: {name}: entries are not numbered from 1 to {len(script)}")
         pairs = [(number, value) for _, number, value in answers]
@@ -31,8 +34,8 @@ def main():
         count, entries, collections = count + 1, entries + len(script), collections + store.collections
         for number, _ in pairs:
             refusals[number] = refusals.get(number, 0) + 1
-    steps = sum(1 for _, script in all_scripts() for kind, _ in script if kind == STEP)
-    print(f"test_scripts: {count} scripts, {entries} entries, {steps} of them steps, {collections} collections, "
+        steps += sum(1 for kind, _ in script if kind == STEP)
+    print(f"test_scripts: {count} scripts, the longest {longest} bytes, {entries} entries, {steps} of them steps, {collections} collections, "
           f"refusals {dict(sorted(refusals.items()))}, {time.time() - began:.0f} s")
     if count < 300 or entries < 500000 or collections < 100 or any(n not in refusals for n in (5, 6, 7, 8, 9, 11, 13, 14)):
         sys.exit("test_scripts: the scripts do not show enough")

@@ -12,7 +12,7 @@ use crate::words::get_word;
 use rules::Followed;
 
 // Whether a reference is in half h.
-pub fn in_half(h: u32, v: u32) -> bool
+pub(crate) fn in_half(h: u32, v: u32) -> bool
     ensures { λ r. ⌜ r ≡ inHalf h v ⌝ }
 {
     (2 <= v) & (v % 2 == h)
@@ -27,7 +27,7 @@ pub fn other_half(h: u32) -> u32
 }
 
 // The reference of the other copy of a record, or its own where it has no replica.
-pub fn other_copy<'a>(b: Bounds, h0: &'a [u32], h1: &'a [u32], v: u32) -> Checked
+pub(crate) fn other_copy<'a>(b: Bounds, h0: &'a [u32], h1: &'a [u32], v: u32) -> Checked
     requires { ⌜ Within b (now h0) (now h1) ⌝ }
     ensures { λ r. ⌜ checked r ≡ otherCopy (heap b (now (h0 .entry)) (now (h1 .entry)) .memory) v ⌝ }
 {

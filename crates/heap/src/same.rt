@@ -22,7 +22,7 @@ fn replica_is<'a>(b: Bounds, h0: &'a [u32], h1: &'a [u32], p: u32, q: u32) -> Co
 }
 
 // Algorithm 9(a).
-pub fn pointer_eq<'a>(b: Bounds, h0: &'a [u32], h1: &'a [u32], p: u32, q: u32) -> Compared
+pub(crate) fn pointer_eq<'a>(b: Bounds, h0: &'a [u32], h1: &'a [u32], p: u32, q: u32) -> Compared
     requires { ⌜ Within b (now h0) (now h1) ⌝ }
     ensures { λ r. ⌜ compared r ≡ pointerEQ (heap b (now (h0 .entry)) (now (h1 .entry))) p q ⌝ }
 {

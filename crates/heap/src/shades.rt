@@ -45,7 +45,7 @@ pub fn shading<'a>(b: Bounds, h0: &'a [u32], h1: &'a [u32], v: u32) -> Checked
 }
 
 // What a store or a put of q at level l shades first: levels 1 to 3 shade the stored record.
-pub fn barrier_shade<'a>(b: Bounds, h0: &'a [u32], h1: &'a [u32], l: u32, q: u32) -> Checked
+pub(crate) fn barrier_shade<'a>(b: Bounds, h0: &'a [u32], h1: &'a [u32], l: u32, q: u32) -> Checked
     requires { ⌜ Within b (now h0) (now h1) ⌝ }
     ensures { λ r. ⌜ checked r ≡ barrierShade (heap b (now (h0 .entry)) (now (h1 .entry))) l q ⌝ }
 {

@@ -52,7 +52,14 @@ pub fn replica_for<'a>(
 }
 
 // The word that a store of q at level l writes to the record itself, v, or to a global, where v is null.
-pub fn own_word<'a>(b: Bounds, h0: &'a [u32], h1: &'a [u32], l: u32, v: u32, q: u32) -> Checked
+pub(crate) fn own_word<'a>(
+    b: Bounds,
+    h0: &'a [u32],
+    h1: &'a [u32],
+    l: u32,
+    v: u32,
+    q: u32,
+) -> Checked
     requires { ⌜ Within b (now h0) (now h1) ⌝ }
     ensures { λ r. ⌜ checked r ≡ ownWord (heap b (now (h0 .entry)) (now (h1 .entry))) l v q ⌝ }
 {
@@ -69,7 +76,14 @@ pub fn own_word<'a>(b: Bounds, h0: &'a [u32], h1: &'a [u32], l: u32, v: u32, q: 
 }
 
 // The word that the same store writes to the replica of v.
-pub fn replica_word<'a>(b: Bounds, h0: &'a [u32], h1: &'a [u32], l: u32, v: u32, q: u32) -> Checked
+pub(crate) fn replica_word<'a>(
+    b: Bounds,
+    h0: &'a [u32],
+    h1: &'a [u32],
+    l: u32,
+    v: u32,
+    q: u32,
+) -> Checked
     requires { ⌜ Within b (now h0) (now h1) ⌝ }
     ensures { λ r. ⌜ checked r ≡ replicaWord (heap b (now (h0 .entry)) (now (h1 .entry))) l v q ⌝ }
 {

@@ -13,19 +13,11 @@ pub fn half_of<'a>(h0: &'a [u32], h1: &'a [u32], v: u32) -> &'a [u32]
 }
 
 // The word of its half that a reference names.
-pub fn word_of(v: u32) -> usize
+pub(crate) fn word_of(v: u32) -> usize
     requires { ⌜ 2 ≤ v ⌝ }
     ensures { λ r. ⌜ r ≡ wordOf v ⌝ }
 {
     ((v - 2) / 2) as usize
-}
-
-// The reference of word k of half h.
-pub fn reference_of(h: u32, k: usize) -> u32
-    requires { ⌜ (h ≤ 1) × (k ≤ 1048576) ⌝ }
-    ensures { λ r. ⌜ r ≡ reference h k ⌝ }
-{
-    (2 * k + 2) as u32 + h
 }
 
 // Word j of the record that v names.

@@ -106,7 +106,7 @@ impl Control {
     pub const LAST_GLOBAL: u32 = 31;
 
     // The fresh control record: every number 0 and nobody attached, the three lengths apart.
-    pub fn fresh(length0: usize, length1: usize, capacity: usize) -> Self
+    pub(crate) fn fresh(length0: usize, length1: usize, capacity: usize) -> Self
         ensures { λ r. ⌜ ((h0 h1 l : List ℕ) → view r h0 h1 l ≡ newStore (lengths length0 length1 capacity) h0 h1 l) ⌝ }
     {
         let nobody = rules::Session {

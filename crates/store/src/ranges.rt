@@ -21,7 +21,7 @@ impl Control {
     }
 
     // Whether the control record passes test 4 with these lent words.
-    pub fn valid(self, h0: &[u32], h1: &[u32], list: &[u32]) -> bool
+    pub(crate) fn valid(self, h0: &[u32], h1: &[u32], list: &[u32]) -> bool
         ensures { λ r. ⌜ r ≡ inRange (view self (now (h0 .entry)) (now (h1 .entry)) (now (list .entry))) ⌝ }
     {
         let n = self.length0;
