@@ -1,7 +1,7 @@
 // The words of a record that a reference names.
 ghost use mathlib.Core.Path.{_≡_};
 ghost use Prim.Native.Nat.{ℕ, _≤_};
-ghost use Rattle.rules.specs.Memory.{reference, half, halfOf, wordOf, word, put, refs, plainField};
+ghost use Rattle.rules.specs.Memory.{half, halfOf, wordOf, word, put, refs, plainField};
 ghost use Rattle.rules.specs.Barriers.{putBoth};
 ghost use Rattle.heap.specs.View.{memory, Inside, HasPlain};
 

@@ -110,6 +110,11 @@ pub place-small : {s : Store} → InRange s → s .walk .place ≤ 1048576
 unfolding walkLimit
 place-small {s} k = let l = limit-small (eqb (s .phase) 3 || eqb (s .phase) 10) _ (k .least) (k .most) in omega arith
 
+-- the frontiers are within the lent halves
+pub fronts : {s : Store} → InRange s
+    → (s .memory .frontier0 ≤ length (s .memory .half0)) × (s .memory .frontier1 ≤ length (s .memory .half1))
+fronts k = (omega arith, omega arith)
+
 -- ---- the session tests
 
 -- the attached session x of a call with session number n

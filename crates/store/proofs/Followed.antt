@@ -14,17 +14,12 @@ use Rattle.rules.specs.Phases.{sessionAt}
 use Rattle.rules.specs.Calls.{sessionOf, isRegister, recordIn, withRegister, load, read, stretch}
 use Rattle.rules.specs.declared.Session.{Session}
 use Rattle.rules.specs.declared.Answer.the-variants.{Word}
-use Rattle.rules.proofs.Ranges.{InRange}
+use Rattle.rules.proofs.Ranges.{InRange, fronts}
 use Rattle.heap.proofs.Soundness.{Found}
 use Rattle.heap.proofs.Halves.{frontier-within}
 use Rattle.heap.proofs.Fields.{ref-inside, plain-inside}
 use Rattle.heap.specs.View.{memory, Inside}
 use Rattle.store.proofs.Worked.{Holding}
-
--- the frontiers are within the lent halves
-pub fronts : {s : Store} → InRange s
-    → (s .memory .frontier0 ≤ length (s .memory .half0)) × (s .memory .frontier1 ≤ length (s .memory .half1))
-fronts {s} k = (omega (arith, k .lent0, k .front0), omega (arith, k .lent1, k .equal, k .front1))
 
 -- ---- a rule whose flag of register numbers is b
 

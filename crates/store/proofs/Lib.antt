@@ -14,8 +14,8 @@ pub mod Made
 pub mod Worked
 -- a call by the number that its session tests answer
 pub mod Guards
--- a list replaced by its image, element by element
-pub mod Images
+-- the sessions looked at one after another
+pub mod Searches
 -- shading, and the bounds of the lent halves
 pub mod Shaded
 -- a call on the record in a register, by what following it found

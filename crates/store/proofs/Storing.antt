@@ -3,6 +3,7 @@
 use Prim.Native.Nat.{ℕ, _≤_, _<_}
 use mathlib.Core.Path.{_≡_, _∙_, sym, refl, ap}
 use mathlib.Core.Bool.{true, not, _&&_}
+use mathlib.Core.List.{List}
 use native.Mathlib.Omega.{arith}
 use lib.Dec.{ltb, eqb}
 use lib.ListN.{length, set}
@@ -25,12 +26,15 @@ use Rattle.heap.proofs.Soundness.{found, lost, header-inside}
 use Rattle.heap.proofs.Fields.{ref-inside}
 use Rattle.heap.proofs.Passed.{bind-passed, check-passed, same-passed}
 use Rattle.heap.proofs.Plans.{Shaded, Stored, store-known, put-known}
+use Rattle.store.specs.View.{view}
 use Rattle.store.specs.Operands.{holding}
 use Rattle.store.specs.Stores.{storing, storePlan, putPlan}
+use Rattle.store.specs.declared.Control.{Control}
+use Rattle.store.specs.declared.operands.Operands.{Operands}
 use Rattle.store.specs.declared.stores.Storing.{Storing}
 use Rattle.store.specs.declared.stores.Storing.the-variants.{Refusal, Into}
-use Rattle.store.proofs.Shaded.{shade-globals}
-use Rattle.store.proofs.Worked.{Holding, holding-refused}
+use Rattle.store.proofs.Shaded.{shade-null, shade-globals}
+use Rattle.store.proofs.Worked.{Handed, holding-refused}
 
 -- ---- the arms of a store's plan
 
@@ -38,37 +42,36 @@ pub plan-refused : {g : ℕ} (s : Store) (n k i from : ℕ) → holding s n k fr
 unfolding storePlan
 plan-refused s n k i from e = sym (holding-refused s n k from (isRegister k && isRegister from) _ refl e)
 
-module _ {v : ℕ} (s : Store) (n k i from : ℕ) (h : Holding s n k from v) where
-  plan-found : sound (s .memory) v ≡ true → storePlan s n k i from
-      ≡ (check (ltb i (refs (s .memory) v)) 13 >> (storeWrites (heapOf s) (sessionAt s n .level) v i (register (sessionAt s n) from) >>= λ w. passed (v, w)))
+module _ {o : Operands} (s : Store) (n k i from : ℕ) (h : Handed s n k from o) where
+  plan-found : sound (s .memory) (o .own) ≡ true → storePlan s n k i from
+      ≡ (check (ltb i (refs (s .memory) (o .own))) 13 >> (storeWrites (heapOf s) (o .level) (o .own) i (o .other) >>= λ w. passed (o .own, w)))
   unfolding storePlan followed
-  plan-found e = rw (h .found, h .registers, h .record-in, e)
+  plan-found e = rw (h .holding .found, h .holding .registers, h .holding .record-in, e, h .level, h .other)
 
-  module _ {x : Followed} (e : x ≡ follow (s .memory) v) where
+  module _ {x : Followed} (e : x ≡ follow (s .memory) (o .own)) where
     pub plan-damage : x ≡ Damage → refused 12 ≡ storePlan s n k i from
     unfolding storePlan followed
-    plan-damage d = rw (h .found, h .registers, h .record-in, lost (s .memory) v e d)
+    plan-damage d = rw (h .holding .found, h .holding .registers, h .holding .record-in, lost (s .memory) (o .own) e d)
 
     module _ {at r p : ℕ} (f : x ≡ Sound at r p) where
       pub plan-short : r ≤ i → refused 13 ≡ storePlan s n k i from
       plan-short l =
-          let o = found (s .memory) v e f in
-          rw (plan-found (o .sound), ← o .refs, le-ltb i r l)
+          let q = found (s .memory) (o .own) e f in
+          rw (plan-found (q .sound), ← q .refs, le-ltb i r l)
 
       -- what `store_writes` answered on the bounds of the store
-      module _ {z : Heap} {y : Planned} (l : i < r) (c : z ≡ heapOf s)
-          (u : planned y ≡ storeWrites z (sessionAt s n .level) v i (register (sessionAt s n) from)) where
+      module _ {z : Heap} {y : Planned} (l : i < r) (c : z ≡ heapOf s) (u : planned y ≡ storeWrites z (o .level) (o .own) i (o .other)) where
         pub plan-unwritable : y ≡ plan.Damage → refused 12 ≡ storePlan s n k i from
         plan-unwritable d =
-            let o = found (s .memory) v e f in
-            let t : storeWrites (heapOf s) (sessionAt s n .level) v i (register (sessionAt s n) from) ≡ refused 12 = rw (← c) (sym u ∙ ap planned d) in
-            rw (plan-found (o .sound), ← o .refs, lt-ltb i r l, t)
+            let q = found (s .memory) (o .own) e f in
+            let t : storeWrites (heapOf s) (o .level) (o .own) i (o .other) ≡ refused 12 = rw (← c) (sym u ∙ ap planned d) in
+            rw (plan-found (q .sound), ← q .refs, lt-ltb i r l, t)
 
-        pub plan-made : {w : Writes} → y ≡ plan.Plan w → passed (v, w) ≡ storePlan s n k i from
+        pub plan-made : {w : Writes} → y ≡ plan.Plan w → passed (o .own, w) ≡ storePlan s n k i from
         plan-made {w} d =
-            let o = found (s .memory) v e f in
-            let t : storeWrites (heapOf s) (sessionAt s n .level) v i (register (sessionAt s n) from) ≡ passed w = rw (← c) (sym u ∙ ap planned d) in
-            rw (plan-found (o .sound), ← o .refs, lt-ltb i r l, t)
+            let q = found (s .memory) (o .own) e f in
+            let t : storeWrites (heapOf s) (o .level) (o .own) i (o .other) ≡ passed w = rw (← c) (sym u ∙ ap planned d) in
+            rw (plan-found (q .sound), ← q .refs, lt-ltb i r l, t)
 
 -- ---- the arms of a put's plan
 
@@ -156,6 +159,22 @@ putable {v} {w} s n g from e =
     let p = same-passed (f .2) in
     let kn = in-session s n (a .1) .known in
     (leb-true g 31 (c .0), λ m. ready s kn (put-known (heapOf s) (x .level) (register x from) w (f .1 ∙ ap (λ (q : ℕ × Writes). passed (q .1)) p) m))
+
+-- ---- the record shaded, where there is one
+
+-- what stands before the words are written, with lists as long as they were
+pub record Next (s : Store) (v : ℕ) (c : Control) (h0 h1 l : List ℕ) : Type 0 where
+  pub shaded : view c h0 h1 l ≡ shade s v
+  pub low : length h0 ≡ length (s .memory .half0)
+  pub high : length h1 ≡ length (s .memory .half1)
+  pub listed : length l ≡ length (s .list .words)
+
+pub unshaded : (c : Control) (h0 h1 l : List ℕ) (v : ℕ) → v ≡ 0 → Next (view c h0 h1 l) v c h0 h1 l
+unshaded c h0 h1 l v z = record { shaded = shade-null (view c h0 h1 l) v z; low = refl; high = refl; listed = refl }
+
+-- the same by equal values
+pub met : {s : Store} {v : ℕ} {c d : Control} {h0 h1 l k0 k1 m : List ℕ} → Next s v d k0 k1 m → h0 ≡ k0 → h1 ≡ k1 → l ≡ m → c ≡ d → Next s v c h0 h1 l
+met n a b e f = rw (a, b, e, f) n
 
 -- ---- the rules as the plan with what it writes
 

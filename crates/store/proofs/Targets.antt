@@ -12,7 +12,7 @@ use Rattle.rules.specs.Barriers.{Heap, heapOf, replicaFor, putBoth}
 use Rattle.rules.specs.Calls.{sessionOf, isRegister, recordIn, write}
 use Rattle.rules.specs.declared.Session.{Session}
 use Rattle.rules.specs.declared.Answer.the-variants.{Done}
-use Rattle.rules.proofs.Ranges.{InRange, in-session}
+use Rattle.rules.proofs.Ranges.{InRange, in-session, fronts}
 use Rattle.heap.proofs.Passed.{bind-passed, check-passed, same-passed}
 use Rattle.heap.proofs.Soundness.{Found}
 use Rattle.heap.proofs.Fields.{plain-inside, has-plain}
@@ -20,10 +20,11 @@ use Rattle.heap.proofs.Plans.{Copied, replica-known}
 use Rattle.heap.specs.View.{Inside, HasPlain}
 use Rattle.store.specs.Operands.{holding}
 use Rattle.store.specs.Plain.{Written, targeted, writing}
+use Rattle.store.specs.declared.operands.Operands.{Operands}
 use Rattle.store.specs.declared.writing.Target.{Target}
 use Rattle.store.specs.declared.writing.Target.the-variants.{Refusal, Copies}
-use Rattle.store.proofs.Worked.{Holding, holding-refused}
-use Rattle.store.proofs.Followed.{rule-lost, rule-found, fronts}
+use Rattle.store.proofs.Worked.{Handed, holding-refused}
+use Rattle.store.proofs.Followed.{rule-lost, rule-found}
 
 -- ---- the tests
 
@@ -31,31 +32,36 @@ pub writing-refused : {g : ℕ} (s : Store) (n k i : ℕ) → holding s n k k �
 unfolding writing
 writing-refused s n k i = holding-refused s n k k (isRegister k) _ (and-self (isRegister k))
 
-module _ {v : ℕ} (s : Store) (n k i : ℕ) (h : Holding s n k k v) where
-  pub writing-lost : sound (s .memory) v ≡ false → writing s n k i ≡ refused 12
+module _ {o : Operands} (s : Store) (n k i : ℕ) (h : Handed s n k k o) where
+  pub writing-lost : sound (s .memory) (o .own) ≡ false → writing s n k i ≡ refused 12
   unfolding writing
-  writing-lost = rule-lost s n k k (isRegister k) _ (and-self (isRegister k)) h
+  writing-lost = rule-lost s n k k (isRegister k) _ (and-self (isRegister k)) (h .holding)
 
-  writing-found : sound (s .memory) v ≡ true
-      → writing s n k i ≡ (check (ltb i (plains (s .memory) v)) 13
-      >> (replicaFor (s .memory) plains (sessionAt s n .level) v i >>= λ t. passed (record { own = v; refs = refs (s .memory) v; replica = t })))
+  on-session : sound (s .memory) (o .own) ≡ true
+      → writing s n k i ≡ (check (ltb i (plains (s .memory) (o .own))) 13
+      >> (replicaFor (s .memory) plains (sessionAt s n .level) (o .own) i >>= λ t. passed (record { own = o .own; refs = refs (s .memory) (o .own); replica = t })))
   unfolding writing
-  writing-found = rule-found s n k k (isRegister k) _ (and-self (isRegister k)) h
+  on-session = rule-found s n k k (isRegister k) _ (and-self (isRegister k)) (h .holding)
 
-  module _ {at r p : ℕ} (d : Found (s .memory) v at r p) where
+  writing-found : sound (s .memory) (o .own) ≡ true
+      → writing s n k i ≡ (check (ltb i (plains (s .memory) (o .own))) 13
+      >> (replicaFor (s .memory) plains (o .level) (o .own) i >>= λ t. passed (record { own = o .own; refs = refs (s .memory) (o .own); replica = t })))
+  writing-found e = rw (h .level) (on-session e)
+
+  module _ {at r p : ℕ} (d : Found (s .memory) (o .own) at r p) where
     pub writing-beyond : p ≤ i → writing s n k i ≡ refused 13
     writing-beyond l = rw (writing-found (d .sound), ← d .plains, le-ltb i p l)
 
     -- the replica's tests, on a heap that is the store's
     module _ {z : Heap} (l : i < p) (e : z ≡ heapOf s) where
-      on-store : {q : Tested ℕ} → replicaFor (z .memory) plains (sessionAt s n .level) v i ≡ q → replicaFor (s .memory) plains (sessionAt s n .level) v i ≡ q
-      on-store m = ap (λ (y : Heap). replicaFor (y .memory) plains (sessionAt s n .level) v i) (sym e) ∙ m
+      on-store : {q : Tested ℕ} → replicaFor (z .memory) plains (o .level) (o .own) i ≡ q → replicaFor (s .memory) plains (o .level) (o .own) i ≡ q
+      on-store m = ap (λ (y : Heap). replicaFor (y .memory) plains (o .level) (o .own) i) (sym e) ∙ m
 
-      pub writing-astray : replicaFor (z .memory) plains (sessionAt s n .level) v i ≡ refused 12 → writing s n k i ≡ refused 12
+      pub writing-astray : replicaFor (z .memory) plains (o .level) (o .own) i ≡ refused 12 → writing s n k i ≡ refused 12
       writing-astray m = rw (writing-found (d .sound), on-store m, ← d .plains, lt-ltb i p l)
 
-      pub writing-passed : {t : ℕ} → replicaFor (z .memory) plains (sessionAt s n .level) v i ≡ passed t
-          → writing s n k i ≡ passed (record { own = v; refs = r; replica = t })
+      pub writing-passed : {t : ℕ} → replicaFor (z .memory) plains (o .level) (o .own) i ≡ passed t
+          → writing s n k i ≡ passed (record { own = o .own; refs = r; replica = t })
       writing-passed m = rw (writing-found (d .sound), on-store m, ← d .plains, lt-ltb i p l, ← d .refs)
 
 -- ---- what is known of the records written

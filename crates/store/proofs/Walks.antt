@@ -11,16 +11,12 @@ use Rattle.rules.specs.Control.{Store, withMemory, withWalk}
 use Rattle.rules.specs.Phases.{otherHalf, moveOn}
 use Rattle.rules.specs.Collector.{walked, below, haveLevel, pastRecord, reclaim}
 use Rattle.rules.specs.declared.Answer.the-variants.{Refused}
-use Rattle.rules.proofs.Ranges.{InRange}
+use Rattle.rules.proofs.Ranges.{InRange, fronts}
 use Rattle.heap.specs.View.{Inside}
 use Rattle.heap.proofs.Soundness.{Found, header-inside}
 use Rattle.store.specs.Steps.{went, stepped}
 
 -- ---- the ranges
-
--- the frontiers are within the lent halves
-pub fronts : {s : Store} → InRange s → (s .memory .frontier0 ≤ length (s .memory .half0)) × (s .memory .frontier1 ≤ length (s .memory .half1))
-fronts k = (omega arith, omega arith)
 
 either-small : (b : Bool) {f0 f1 n : ℕ} → f0 ≤ n → f1 ≤ n → cond b f0 f1 ≤ n
 either-small true x y = x

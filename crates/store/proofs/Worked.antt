@@ -14,11 +14,12 @@ use Rattle.rules.specs.declared.Session.{Session}
 use Rattle.rules.proofs.Ranges.{both, InSession, in-session, after-check}
 use Rattle.store.specs.Operands.{tested, holding}
 use Rattle.store.specs.declared.operands.Held.{Held}
-use Rattle.store.specs.declared.operands.Held.the-variants.{Refusal, Reference}
+use Rattle.store.specs.declared.operands.Held.the-variants as held
+use Rattle.store.specs.declared.operands.Operands.{Operands}
 
 -- ---- the tests passed
 
--- what holds where `held` answered the reference v
+-- what holds where `held` answered with the reference v of the record worked on
 pub record Holding (s : Store) (n k o v : ℕ) : Type 0 where
   pub within : InSession s n (sessionAt s n)
   pub found : sessionOf s n ≡ passed (sessionAt s n)
@@ -42,38 +43,53 @@ worked-on : (s : Store) (x : Session) (k : ℕ) {v : ℕ} → register x k ≡ v
 unfolding recordIn
 worked-on s x k e t = rw (t, e)
 
-pub holding-passed : {v : ℕ} (s : Store) (n k o : ℕ) → holding s n k o ≡ passed v → Holding s n k o v
+-- what `held` hands out of session x
+abbrev given : Session → ℕ → ℕ → Operands
+given x k o = record { level = x .level; own = register x k; other = register x o }
+
+-- what holds where `held` answered w
+pub record Handed (s : Store) (n k o : ℕ) (w : Operands) : Type 0 where
+  pub holding : Holding s n k o (w .own)
+  pub level : w .level ≡ sessionAt s n .level
+  pub other : w .other ≡ register (sessionAt s n) o
+
+pub holding-passed : {w : Operands} (s : Store) (n k o : ℕ) → holding s n k o ≡ passed w → Handed s n k o w
 unfolding holding
-holding-passed {v} s n k o e =
+holding-passed {w} s n k o e =
     let p = bound (sessionOf s n) _ e in
     let x = sessionAt s n in
     let f : sessionOf s n ≡ passed x = p .1 ∙ ap passed (in-session s n (p .1) .session) in
     let q = after-check (isRegister k && isRegister o) 8 _ (rw f at e) in
     let r = after-check (not (eqb (register x k) null)) 11 _ (q .1) in
     let b = both (leb k 7) (leb o 7) (q .0) in
-    let h : register x k ≡ v = same-passed (r .1) in
+    let g : given x k o ≡ w = same-passed (r .1) in
+    let h : register x k ≡ w .own = ap (λ (y : Operands). y .own) g in
     record {
-      within = in-session s n f;
-      found = f;
-      registers = q .0;
-      first = leb-true _ _ (b .0);
-      second = leb-true _ _ (b .1);
-      held = h;
-      there = λ z. eqb-false _ _ (not-true (eqb (register x k) null) (r .0)) (h ∙ z);
-      record-in = worked-on s x k h (r .0);
+      holding = record {
+        within = in-session s n f;
+        found = f;
+        registers = q .0;
+        first = leb-true _ _ (b .0);
+        second = leb-true _ _ (b .1);
+        held = h;
+        there = λ z. eqb-false _ _ (not-true (eqb (register x k) null) (r .0)) (h ∙ z);
+        record-in = worked-on s x k h (r .0);
+      };
+      level = ap (λ (y : Operands). y .level) (sym g);
+      other = ap (λ (y : Operands). y .other) (sym g);
     }
 
 -- ---- a test failed
 
 -- the tests on one session x: register numbers, then a null register
-stopped : {B : Type 0} {g : ℕ} (s : Store) (x : Session) (k : ℕ) (f : Session → ℕ → Tested B) (b : Bool)
-    → (check b 8 >> (check (not (eqb (register x k) null)) 11 >> passed (register x k))) ≡ refused g
+stopped : {A B : Type 0} {g : ℕ} (s : Store) (x : Session) (k : ℕ) (a : A) (f : Session → ℕ → Tested B) (b : Bool)
+    → (check b 8 >> (check (not (eqb (register x k) null)) 11 >> passed a)) ≡ refused g
     → (check b 8 >> (recordIn s x k >>= f x)) ≡ refused g
 unfolding recordIn
-stopped {g = g} s x k f false e = cc
-stopped {g = g} s x k f true e = null-case (not (eqb (register x k) null)) e
+stopped {g = g} s x k a f false e = cc
+stopped {g = g} s x k a f true e = null-case (not (eqb (register x k) null)) e
   where
-    null-case : (n : Bool) → (check n 11 >> passed (register x k)) ≡ refused g
+    null-case : (n : Bool) → (check n 11 >> passed a) ≡ refused g
         → ((check n 11 >> (followed (s .memory) (register x k) >> passed (register x k))) >>= f x) ≡ refused g
     null-case true e = absurd (let z : _≡_ {A = ℕ} 0 1 = cc in omega arith)
     null-case false e = cc
@@ -86,10 +102,10 @@ unfolding holding
 holding-refused {g = g} s n k o b f i e = by-session (sessionOf s n) (rw i at e)
   where
     by-session : (t : Tested Session)
-        → (t >>= λ x. check b 8 >> (check (not (eqb (register x k) null)) 11 >> passed (register x k))) ≡ refused g
+        → (t >>= λ x. check b 8 >> (check (not (eqb (register x k) null)) 11 >> passed (given x k o))) ≡ refused g
         → (t >>= λ x. check b 8 >> (recordIn s x k >>= f x)) ≡ refused g
     by-session (refused m) e = cc
-    by-session (passed x) e = stopped s x k f b e
+    by-session (passed x) e = stopped s x k (given x k o) f b e
 
 module _ {g : ℕ} (s : Store) (n k : ℕ) where
   pub load-refused : (to i : ℕ) → holding s n k to ≡ refused g → load s n to k i ≡ refused g
@@ -115,8 +131,11 @@ module _ {g : ℕ} (s : Store) (n k : ℕ) where
 -- ---- what the code's answer says
 
 module _ {r : Held} (s : Store) (n k o : ℕ) (e : tested r ≡ holding s n k o) where
-  pub away : {g : ℕ} → r ≡ Refusal g → holding s n k o ≡ refused g
+  pub away : {g : ℕ} → r ≡ held.Refusal g → holding s n k o ≡ refused g
   away m = sym e ∙ ap tested m
 
-  pub holds : {v : ℕ} → r ≡ Reference v → Holding s n k o v
-  holds m = holding-passed s n k o (sym e ∙ ap tested m)
+  pub handed : {w : Operands} → r ≡ held.Operands w → Handed s n k o w
+  handed m = holding-passed s n k o (sym e ∙ ap tested m)
+
+  pub holds : {w : Operands} → r ≡ held.Operands w → Holding s n k o (w .own)
+  holds m = handed m .holding

@@ -24,15 +24,16 @@ impl Control {
         ensures { λ r. ⌜ outcome r (now (h0 .entry)) (now (h1 .entry)) (now (list .entry))
             ≡ apply (view self (now (h0 .entry)) (now (h1 .entry)) (now (list .entry))) (Load s to register field) ⌝ }
     {
-        let v = match self.held(h0, h1, list, s, register, to) {
+        let operands = match self.held(h0, h1, list, s, register, to) {
             Held::Refusal(n) => {
                 return Reply {
                     control: self,
                     answer: rules::Answer::Refused(n),
                 };
             }
-            Held::Reference(reference) => reference,
+            Held::Operands(operands) => operands,
         };
+        let v = operands.own;
         let Followed::Sound(_, r, _) = follow(h0, h1, self.frontier0, self.frontier1, v) else {
             return Reply {
                 control: self,
@@ -52,6 +53,36 @@ impl Control {
         }
     }
 
+    // What a read answers: the tests in order, then the word of the plain field.
+    fn read_answer<'a>(
+        self,
+        h0: &'a [u32],
+        h1: &'a [u32],
+        list: &[u32],
+        s: u32,
+        register: u32,
+        field: u32,
+    ) -> rules::Answer
+        ensures { λ r. ⌜ outcome (record { control = self; answer = r }) (now (h0 .entry)) (now (h1 .entry)) (now (list .entry))
+            ≡ apply (view self (now (h0 .entry)) (now (h1 .entry)) (now (list .entry))) (Read s register field) ⌝ }
+    {
+        let operands = match self.held(h0, h1, list, s, register, register) {
+            Held::Refusal(n) => {
+                return rules::Answer::Refused(n);
+            }
+            Held::Operands(operands) => operands,
+        };
+        let v = operands.own;
+        let Followed::Sound(_, r, p) = follow(h0, h1, self.frontier0, self.frontier1, v) else {
+            return rules::Answer::Refused(12);
+        };
+        if p <= field {
+            return rules::Answer::Refused(13);
+        }
+        let word = get_word(h0, h1, v, 3 + (r as usize) + (field as usize));
+        rules::Answer::Word(word)
+    }
+
     // Read: the word of a plain field.
     pub fn read<'a>(
         self,
@@ -65,31 +96,10 @@ impl Control {
         ensures { λ r. ⌜ outcome r (now (h0 .entry)) (now (h1 .entry)) (now (list .entry))
             ≡ apply (view self (now (h0 .entry)) (now (h1 .entry)) (now (list .entry))) (Read s register field) ⌝ }
     {
-        let v = match self.held(h0, h1, list, s, register, register) {
-            Held::Refusal(n) => {
-                return Reply {
-                    control: self,
-                    answer: rules::Answer::Refused(n),
-                };
-            }
-            Held::Reference(reference) => reference,
-        };
-        let Followed::Sound(_, r, p) = follow(h0, h1, self.frontier0, self.frontier1, v) else {
-            return Reply {
-                control: self,
-                answer: rules::Answer::Refused(12),
-            };
-        };
-        if p <= field {
-            return Reply {
-                control: self,
-                answer: rules::Answer::Refused(13),
-            };
-        }
-        let word = get_word(h0, h1, v, 3 + (r as usize) + (field as usize));
+        let answer = self.read_answer(h0, h1, list, s, register, field);
         Reply {
             control: self,
-            answer: rules::Answer::Word(word),
+            answer,
         }
     }
 }

@@ -1,18 +1,26 @@
-// The register of the record worked on, for load, store, read, write and the stretch.
+// What a call on the record in a register needs of its session, for load, store, read, write and the stretch.
 ghost use mathlib.Core.Path.{_≡_};
 ghost use Rattle.store.specs.View.{view};
 ghost use Rattle.store.specs.Operands.{tested, holding};
 use crate::Control;
 
-// The reference that the register holds, or the number of the first test that fails.
+// The session's level, the reference in the register of the record worked on, and what the other register holds. They
+// are handed out at once: each further read of a session would copy the control record.
+pub struct Operands {
+    pub level: u32,
+    pub own: u32,
+    pub other: u32,
+}
+
+// What the call needs of its session, or the number of the first test that fails.
 pub enum Held {
     Refusal(u32),
-    Reference(u32),
+    Operands(Operands),
 }
 
 impl Control {
-    // What the register of the record worked on holds, after the tests 4, 5, 6, 8 (of both registers) and 11. A call
-    // with one register argument gives it twice.
+    // What the call needs of its session, after the tests 4, 5, 6, 8 (of both registers) and 11. A call with one
+    // register argument gives it twice.
     pub(crate) fn held(
         self,
         h0: &[u32],
@@ -34,11 +42,17 @@ impl Control {
         }
         let i = s as usize;
         let k = register as usize;
+        let j = other as usize;
         let session = self.sessions[i];
         let reference = session.registers[k];
+        let word = session.registers[j];
         if reference == 0 {
             return Held::Refusal(11);
         }
-        Held::Reference(reference)
+        Held::Operands(Operands {
+            level: session.level,
+            own: reference,
+            other: word,
+        })
     }
 }

@@ -1,6 +1,8 @@
 // The session tests, and the calls on a session as a whole.
 ghost use mathlib.Core.Path.{_≡_};
+ghost use lib.ListN.{getD};
 ghost use Rattle.rules.specs.Refusals.{refusalOf};
+ghost use Rattle.rules.specs.Phases.{absent};
 ghost use Rattle.rules.specs.Calls.{sessionOf};
 ghost use Rattle.rules.specs.Runs.{apply, Attach, Detach, SafePoint};
 ghost use Rattle.store.specs.View.{view, outcome};
@@ -8,6 +10,22 @@ use crate::Control;
 use crate::Reply;
 
 impl Control {
+    // Whether session s is attached; not so past the last session. It looks at each session in turn, since reading
+    // one at a place that isn't known beforehand would copy the whole control record.
+    fn attached_at(sessions: [rules::Session; 16], s: u32) -> bool
+        ensures { λ r. ⌜ r ≡ getD sessions s absent .attached ⌝ }
+    {
+        let mut attached = false;
+        let mut i: usize = 0;
+        let k = s as usize;
+        while i < 16 {
+            let session = sessions[i];
+            attached = attached | ((i == k) & session.attached);
+            i += 1;
+        }
+        attached
+    }
+
     // The tests 4, 5 and 6: the number of the first that fails, or 0.
     pub(crate) fn session_tests(self, h0: &[u32], h1: &[u32], list: &[u32], s: u32) -> u32
         ensures { λ r. ⌜ r ≡ refusalOf (sessionOf (view self (now (h0 .entry)) (now (h1 .entry)) (now (list .entry))) s) ⌝ }
@@ -19,9 +37,9 @@ impl Control {
         if Control::LAST_SESSION < s {
             return 5;
         }
-        let i = s as usize;
-        let session = self.sessions[i];
-        if session.attached { 0 } else { 6 }
+        let sessions = self.sessions;
+        let attached = Control::attached_at(sessions, s);
+        if attached { 0 } else { 6 }
     }
 
     // Attach: level becomes the phase's level, registers null, unscanned.

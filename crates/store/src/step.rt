@@ -35,8 +35,9 @@ impl Control {
         ensures { λ r. ⌜ outcome r (now (h0 .exit)) (now (h1 .exit)) (now (list .exit))
             ≡ apply (view self (now (h0 .entry)) (now (h1 .entry)) (now (list .entry))) Step ⌝ }
     {
-        let valid = self.valid(h0, h1, list);
-        if !valid {
+        // test 4 is the first of the session tests, whatever the session
+        let refusal = self.session_tests(h0, h1, list, 0);
+        if refusal == 4 {
             return Reply {
                 control: self,
                 answer: rules::Answer::Refused(4),

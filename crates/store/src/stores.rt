@@ -34,11 +34,11 @@ impl Control {
     ) -> Storing
         ensures { λ r. ⌜ storing r ≡ storePlan (view self (now (h0 .entry)) (now (h1 .entry)) (now (list .entry))) s register field from ⌝ }
     {
-        let held = self.held(h0, h1, list, s, register, from);
-        let v = match held {
+        let operands = match self.held(h0, h1, list, s, register, from) {
             Held::Refusal(n) => return Storing::Refusal(n),
-            Held::Reference(reference) => reference,
+            Held::Operands(operands) => operands,
         };
+        let v = operands.own;
         let f0 = self.frontier0;
         let f1 = self.frontier1;
         let Followed::Sound(_, r, _) = follow(h0, h1, f0, f1, v) else {
@@ -47,12 +47,9 @@ impl Control {
         if r <= field {
             return Storing::Refusal(13);
         }
-        let i = s as usize;
-        let j = from as usize;
-        let session = self.sessions[i];
-        let q = session.registers[j];
         let b = self.bounds();
-        let Planned::Plan(w) = store_writes(b, h0, h1, session.level, v, field, q) else {
+        let Planned::Plan(w) = store_writes(b, h0, h1, operands.level, v, field, operands.other)
+        else {
             return Storing::Refusal(12);
         };
         Storing::Into(v, w)
@@ -80,7 +77,12 @@ impl Control {
             },
             Storing::Into(v, w) => {
                 let j = 3 + (field as usize);
-                let next = self.shade(h0, h1, list, w.shade);
+                // With nothing to shade the control record stays where it is.
+                let next = if w.shade == 0 {
+                    self
+                } else {
+                    self.shade(h0, h1, list, w.shade)
+                };
                 put_both(h0, h1, v, j, w.own, w.replica, j, w.copy);
                 Reply {
                     control: next,
@@ -144,7 +146,12 @@ impl Control {
             },
             Storing::Into(_, w) => {
                 let g = global as usize;
-                let mut next = self.shade(h0, h1, list, w.shade);
+                // With nothing to shade the control record stays where it is.
+                let mut next = if w.shade == 0 {
+                    self
+                } else {
+                    self.shade(h0, h1, list, w.shade)
+                };
                 next.globals[g] = w.own;
                 Reply {
                     control: next,

@@ -21,9 +21,10 @@ impl Control {
     ) -> &'a [u32]
         ensures { λ r. ⌜ now r ≡ wordsOr (stretch (view self (now (h0 .entry)) (now (h1 .entry)) (now (list .entry))) s register) ⌝ }
     {
-        let Held::Reference(v) = self.held(h0, h1, list, s, register, register) else {
+        let Held::Operands(operands) = self.held(h0, h1, list, s, register, register) else {
             return &h0[..0];
         };
+        let v = operands.own;
         let Followed::Sound(at, r, p) = follow(h0, h1, self.frontier0, self.frontier1, v) else {
             return &h0[..0];
         };
@@ -44,12 +45,13 @@ impl Control {
     ) -> rules::Answer
         ensures { λ r. ⌜ r ≡ doneOr (stretch (view self (now (h0 .entry)) (now (h1 .entry)) (now (list .entry))) s register) ⌝ }
     {
-        let v = match self.held(h0, h1, list, s, register, register) {
+        let operands = match self.held(h0, h1, list, s, register, register) {
             Held::Refusal(n) => {
                 return rules::Answer::Refused(n);
             }
-            Held::Reference(reference) => reference,
+            Held::Operands(operands) => operands,
         };
+        let v = operands.own;
         let Followed::Sound(_, _, _) = follow(h0, h1, self.frontier0, self.frontier1, v) else {
             return rules::Answer::Refused(12);
         };

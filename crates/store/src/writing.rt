@@ -32,22 +32,21 @@ impl Control {
     ) -> Target
         ensures { λ r. ⌜ targeted r ≡ writing (view self (now (h0 .entry)) (now (h1 .entry)) (now (list .entry))) s register field ⌝ }
     {
-        let v = match self.held(h0, h1, list, s, register, register) {
+        let operands = match self.held(h0, h1, list, s, register, register) {
             Held::Refusal(n) => {
                 return Target::Refusal(n);
             }
-            Held::Reference(reference) => reference,
+            Held::Operands(operands) => operands,
         };
+        let v = operands.own;
         let Followed::Sound(_, r, p) = follow(h0, h1, self.frontier0, self.frontier1, v) else {
             return Target::Refusal(12);
         };
         if p <= field {
             return Target::Refusal(13);
         }
-        let i = s as usize;
-        let session = self.sessions[i];
         let bounds = self.bounds();
-        let Checked::Word(t) = replica_for(bounds, h0, h1, true, session.level, v, field) else {
+        let Checked::Word(t) = replica_for(bounds, h0, h1, true, operands.level, v, field) else {
             return Target::Refusal(12);
         };
         Target::Copies(v, r, t)
@@ -67,18 +66,16 @@ impl Control {
         ensures { λ r. ⌜ outcome r (now (h0 .exit)) (now (h1 .exit)) (now (list .entry))
             ≡ apply (view self (now (h0 .entry)) (now (h1 .entry)) (now (list .entry))) (Write s register field value) ⌝ }
     {
-        match self.write_target(h0, h1, list, s, register, field) {
-            Target::Refusal(n) => Reply {
-                control: self,
-                answer: rules::Answer::Refused(n),
-            },
+        let answer = match self.write_target(h0, h1, list, s, register, field) {
+            Target::Refusal(n) => rules::Answer::Refused(n),
             Target::Copies(v, r, t) => {
                 put_plain(h0, h1, v, r, field, value, t);
-                Reply {
-                    control: self,
-                    answer: rules::Answer::Done,
-                }
+                rules::Answer::Done
             }
+        };
+        Reply {
+            control: self,
+            answer,
         }
     }
 }

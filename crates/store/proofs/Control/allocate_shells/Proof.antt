@@ -2,10 +2,10 @@
 use mathlib.Core.Path.{sym, ap}
 use native.Mathlib.Omega.{arith}
 use Rattle.rules.specs.Control.{Store}
-use Rattle.rules.proofs.Ranges.{in-range, place-small}
+use Rattle.rules.proofs.Ranges.{in-range, place-small, fronts}
 use Rattle.heap.proofs.Soundness.{found, lost}
 use Rattle.store.proofs.Flags.{no, yes}
-use Rattle.store.proofs.Walks.{fronts, front-small, header-at}
+use Rattle.store.proofs.Walks.{front-small, header-at}
 use Rattle.store.proofs.Shelling.{other-long, shell-ready, shells-done, shells-lost, shells-passed, shells-full, shells-made}
 use borrow.Author.Needs.{needs}
 use Rattle.store.proofs.Control.allocate_shells.Statement.{statement}

@@ -1,11 +1,11 @@
 -- At the frontier the step moves on; below it damage, the record passed over, or its next field copied.
 use mathlib.Core.Path.{_∙_, ap}
 use native.Mathlib.Omega.{arith}
-use Rattle.rules.proofs.Ranges.{in-range, place-small}
+use Rattle.rules.proofs.Ranges.{in-range, place-small, fronts}
 use Rattle.heap.proofs.Soundness.{found, lost}
 use Rattle.store.specs.Steps.{went}
 use Rattle.store.proofs.Flags.{no, yes}
-use Rattle.store.proofs.Walks.{fronts, header-at}
+use Rattle.store.proofs.Walks.{header-at}
 use Rattle.store.proofs.FieldCopies.{replica-word, field-left, copy-ends, copy-lost, copy-passes, copy-copies}
 use borrow.Author.Needs.{needs}
 use Rattle.store.proofs.Control.copy.Statement.{statement}

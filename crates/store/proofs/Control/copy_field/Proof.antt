@@ -1,8 +1,7 @@
 -- The replica followed, then a reference field or a plain one.
 use native.Mathlib.Omega.{arith}
-use Rattle.rules.proofs.Ranges.{in-range}
+use Rattle.rules.proofs.Ranges.{in-range, fronts}
 use Rattle.heap.proofs.Soundness.{found, lost}
-use Rattle.store.proofs.Walks.{fronts}
 use Rattle.store.proofs.FieldCopies.{field-lost, field-ref, field-plain}
 use borrow.Author.Needs.{needs}
 use Rattle.store.proofs.Control.copy_field.Statement.{statement}

@@ -1,10 +1,9 @@
 -- A replica without the field, or the field written.
 use native.Mathlib.Omega.{arith}
-use Rattle.rules.proofs.Ranges.{in-range}
+use Rattle.rules.proofs.Ranges.{in-range, fronts}
 use Rattle.heap.proofs.Soundness.{header-inside}
 use Rattle.heap.proofs.Fields.{plain-inside}
 use Rattle.store.specs.View.{view}
-use Rattle.store.proofs.Walks.{fronts}
 use Rattle.store.proofs.FieldCopies.{plain-short, plain-copied}
 use borrow.Author.Needs.{needs}
 use Rattle.store.proofs.Control.copy_plain.Statement.{statement}

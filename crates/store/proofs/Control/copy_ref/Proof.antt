@@ -1,13 +1,12 @@
 -- A replica without the field, damage, or the field forwarded and written.
 use mathlib.Core.Path.{ap}
 use native.Mathlib.Omega.{arith}
-use Rattle.rules.proofs.Ranges.{in-range}
+use Rattle.rules.proofs.Ranges.{in-range, fronts}
 use Rattle.heap.specs.View.{checked}
 use Rattle.heap.proofs.Soundness.{header-inside}
 use Rattle.heap.proofs.Fields.{ref-inside}
 use Rattle.store.specs.View.{view}
 use Rattle.store.proofs.Shaded.{within}
-use Rattle.store.proofs.Walks.{fronts}
 use Rattle.store.proofs.Forwards.{bounds-over, forward-told}
 use Rattle.store.proofs.FieldCopies.{ref-short, ref-lost, ref-copied}
 use borrow.Author.Needs.{needs}

@@ -1,4 +1,4 @@
--- The tests 4, 5, 6, 8 and 11 in order, then the register's word.
+-- The tests 4, 5, 6, 8 and 11 in order, then the level and the two registers' words.
 use native.Mathlib.Omega.{arith}
 use lib.ListN.{getD}
 use borrow.Author.Tests.{eq-eqb, ne-eqb}
@@ -42,25 +42,34 @@ element-copy-out-reference c =
     let k = registers-known (a .register) (a .other) (c .before .if2 .left) in
     omega arith
 
+mul-word : tie.Need-mul-word
+mul-word c = search needs
+
+element-copy-out-word : tie.Need-element-copy-out-word
+element-copy-out-word c =
+    let a = c .before .before .before .before .before .before .before .before .args in
+    let k = registers-known (a .register) (a .other) (c .before .before .if2 .left) in
+    omega arith
+
 returns-3 : tie.Need-returns-3
 unfolding holding register sessionAt
 returns-3 c =
-    let a = c .before .before .before .before .before .before .before .before .before .args in
+    let a = c .before .before .before .before .before .before .before .before .before .before .args in
     let v = getD (getD (a .t1 .sessions) (a .s) absent .registers) (a .register) 0 in
     rw (
-      let-in _ _ (c .before .before .before .before .before .session-tests .ensures) (c .before .before .before .before .if1 .left),
-      registers-in (a .register) (a .other) (c .before .before .before .if2 .left),
+      let-in _ _ (c .before .before .before .before .before .before .session-tests .ensures) (c .before .before .before .before .before .if1 .left),
+      registers-in (a .register) (a .other) (c .before .before .before .before .if2 .left),
       eq-eqb v 0 (c .if3 .taken),
     )
 
 returns-4 : tie.Need-returns-4
 unfolding holding register sessionAt
 returns-4 c =
-    let a = c .before .before .before .before .before .before .before .before .before .args in
+    let a = c .before .before .before .before .before .before .before .before .before .before .args in
     let v = getD (getD (a .t1 .sessions) (a .s) absent .registers) (a .register) 0 in
     rw (
-      let-in _ _ (c .before .before .before .before .before .session-tests .ensures) (c .before .before .before .before .if1 .left),
-      registers-in (a .register) (a .other) (c .before .before .before .if2 .left),
+      let-in _ _ (c .before .before .before .before .before .before .session-tests .ensures) (c .before .before .before .before .before .if1 .left),
+      registers-in (a .register) (a .other) (c .before .before .before .before .if2 .left),
       ne-eqb v 0 (c .if3 .left),
     )
 
@@ -75,5 +84,7 @@ held-spec =
     element-copy-out-session
     mul-reference
     element-copy-out-reference
+    mul-word
+    element-copy-out-word
     returns-3
     returns-4)

@@ -1,7 +1,8 @@
 -- Load: the tests in order, then the register set to the field's word.
+use Rattle.rules.proofs.Ranges.{fronts}
 use Rattle.heap.proofs.Soundness.{found, lost}
 use Rattle.store.proofs.Worked.{away, holds, load-refused}
-use Rattle.store.proofs.Followed.{fronts, load-lost, load-beyond, loaded, load-inside}
+use Rattle.store.proofs.Followed.{load-lost, load-beyond, loaded, load-inside}
 use borrow.Author.Needs.{needs}
 use Rattle.store.proofs.Control.load.Statement.{statement}
 use Rattle.store.proofs.Control.load.Tie as tie
@@ -15,12 +16,12 @@ enum-known-n c = search needs
 returns : tie.Need-returns
 returns c = rw (load-refused _ _ _ _ (c .before .before .before .before .before .before .before .args .field) (away _ _ _ _ (c .before .before .before .held .ensures) (c .before .n .given .1)))
 
-enum-known-reference : tie.Need-enum-known-reference
-enum-known-reference c = search needs
+enum-known-operands : tie.Need-enum-known-operands
+enum-known-operands c = search needs
 
 follow-requires : tie.Need-follow-requires
 follow-requires c κs =
-    let h = holds _ _ _ _ (c .before .before .before .held .ensures) (c .before .reference .given .1) in
+    let h = holds _ _ _ _ (c .before .before .before .held .ensures) (c .before .operands .given .1) in
     fronts (h .within .known)
 
 enum-known-r : tie.Need-enum-known-r
@@ -31,12 +32,12 @@ enum-told c = search needs
 
 returns-2 : tie.Need-returns-2
 returns-2 c =
-    let h = holds _ _ _ _ (c .before .before .before .before .before .before .held .ensures) (c .before .before .before .before .reference .given .1) in
+    let h = holds _ _ _ _ (c .before .before .before .before .before .before .held .ensures) (c .before .before .before .before .operands .given .1) in
     rw (load-lost _ _ _ _ (c .before .before .before .before .before .before .before .before .before .before .args .field) h (lost _ _ (c .before .before .follow .ensures) (c .enum-told .given .1)))
 
 returns-3 : tie.Need-returns-3
 returns-3 c =
-    let h = holds _ _ _ _ (c .before .before .before .before .before .before .before .before .held .ensures) (c .before .before .before .before .before .before .reference .given .1) in
+    let h = holds _ _ _ _ (c .before .before .before .before .before .before .before .before .held .ensures) (c .before .before .before .before .before .before .operands .given .1) in
     let d = found _ _ (c .before .before .before .before .follow .ensures) (c .before .before .r .given .1) in
     rw (load-beyond _ _ _ _ (c .before .before .before .before .before .before .before .before .before .before .before .before .args .field) h d (c .if1 .taken))
 
@@ -45,18 +46,18 @@ add-get-word c = search needs
 
 get-word-requires : tie.Need-get-word-requires
 get-word-requires c κs =
-    let h = holds _ _ _ _ (c .before .before .before .before .before .before .before .before .held .ensures) (c .before .before .before .before .before .before .reference .given .1) in
+    let h = holds _ _ _ _ (c .before .before .before .before .before .before .before .before .held .ensures) (c .before .before .before .before .before .before .operands .given .1) in
     let d = found _ _ (c .before .before .before .before .follow .ensures) (c .before .before .r .given .1) in
     load-inside _ _ _ _ (c .before .before .before .before .before .before .before .before .before .before .before .before .args .field) h d (c .if1 .left)
 
 with-register-requires : tie.Need-with-register-requires
 with-register-requires c κs =
-    let h = holds _ _ _ _ (c .before .before .before .before .before .before .before .before .before .held .ensures) (c .before .before .before .before .before .before .before .reference .given .1) in
+    let h = holds _ _ _ _ (c .before .before .before .before .before .before .before .before .before .held .ensures) (c .before .before .before .before .before .before .before .operands .given .1) in
     (h .within .number, h .second)
 
 returns-4 : tie.Need-returns-4
 returns-4 c =
-    let h = holds _ _ _ _ (c .before .before .before .before .before .before .before .before .before .before .held .ensures) (c .before .before .before .before .before .before .before .before .reference .given .1) in
+    let h = holds _ _ _ _ (c .before .before .before .before .before .before .before .before .before .before .held .ensures) (c .before .before .before .before .before .before .before .before .operands .given .1) in
     let d = found _ _ (c .before .before .before .before .before .before .follow .ensures) (c .before .before .before .before .r .given .1) in
     rw (loaded _ _ _ _ (c .before .before .before .before .before .before .before .before .before .before .before .before .before .before .args .field) h d (c .before .get-word .ensures _ _) (c .before .before .if1 .left), c .with-register .ensures _ _ _)
 
@@ -67,7 +68,7 @@ load-spec =
     held-requires
     enum-known-n
     returns
-    enum-known-reference
+    enum-known-operands
     follow-requires
     enum-known-r
     enum-told

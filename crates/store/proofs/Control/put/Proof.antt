@@ -1,6 +1,10 @@
 -- The plan's refusal, or what it says written: the record shaded, then the global.
+use mathlib.Core.Logic.{⊎-elim}
 use native.Mathlib.Omega.{arith}
-use Rattle.store.proofs.Storing.{put-away, put-known-by, put-done}
+use Rattle.rules.specs.Control.{Store}
+use Rattle.rules.specs.declared.Writes.{Writes}
+use Rattle.store.specs.View.{view}
+use Rattle.store.proofs.Storing.{Next, unshaded, met, put-away, put-known-by, put-done}
 use borrow.Author.Needs.{needs}
 use Rattle.store.proofs.Control.put.Statement.{statement}
 use Rattle.store.proofs.Control.put.Tie as tie
@@ -15,13 +19,30 @@ enum-known-plan-2 : tie.Need-enum-known-plan-2
 enum-known-plan-2 c = search needs
 
 shade-requires : tie.Need-shade-requires
-shade-requires c κs = λ n. let r = put-known-by _ _ _ _ (c .before .before .before .before .before .before .put-plan .ensures) (c .before .before .before .before .plan2 .given .1) .1 n in (r .coloured, r .listed)
+shade-requires c κs = λ n. let r = put-known-by _ _ _ _ (c .before .before .before .before .before .before .before .before .put-plan .ensures) (c .before .before .before .before .before .before .plan2 .given .1) .1 n in (r .coloured, r .listed)
+
+-- the call where the ways meet: the store that it came with, and what the plan says
+abbrev entered : tie.Joined1 → Store
+entered j =
+    let a = j .before .before .before .before .before .before .before .before .before .before .before .before .args in
+    view (a .self) (a .h0 .now) (a .h1 .now) (a .list .now)
+
+abbrev plan : tie.Joined1 → Writes
+plan j = j .before .before .before .plan2 .given .0 .1 .0
+
+-- there the record is shaded, or there was none to shade
+shaded : (j : tie.Joined1) → Next (entered j) (plan j .shade) (j .if1 .next) (j .if1 .h0) (j .if1 .h1) (j .if1 .list)
+shaded j =
+    ⊎-elim
+    (λ w. met (unshaded _ _ _ _ _ (w .0 .taken)) (w .1) (w .2) (w .3) (w .4))
+    (λ w. met (record { shaded = w .4 .ensures; low = w .4 .kept .1 .0; high = w .4 .kept .1 .1 .0; listed = w .4 .kept .1 .1 .1 .0 }) (w .11) (w .12) (w .13) (w .14))
+    (j .if1 .came)
 
 mul-next : tie.Need-mul-next
-mul-next c = omega (arith, put-known-by _ _ _ _ (c .before .before .before .before .before .before .before .before .before .before .before .before .before .put-plan .ensures) (c .before .before .before .before .before .before .before .before .before .before .before .plan2 .given .1) .0)
+mul-next c = omega (arith, put-known-by _ _ _ _ (c .before .before .before .before .before .put-plan .ensures) (c .before .before .before .plan2 .given .1) .0)
 
 element-write-next : tie.Need-element-write-next
-element-write-next c = omega (arith, put-known-by _ _ _ _ (c .before .before .before .before .before .before .before .before .before .before .before .before .before .put-plan .ensures) (c .before .before .before .before .before .before .before .before .before .before .before .plan2 .given .1) .0)
+element-write-next c = omega (arith, put-known-by _ _ _ _ (c .before .before .before .before .before .put-plan .ensures) (c .before .before .before .plan2 .given .1) .0)
 
 same-length : tie.Need-same-length
 same-length c = search needs
@@ -36,16 +57,16 @@ returns : tie.Need-returns
 returns c = rw (put-away _ _ _ _ (c .before .before .before .put-plan .ensures) (c .before .plan .given .1))
 
 same-length-4 : tie.Need-same-length-4
-same-length-4 c = search needs
+same-length-4 c = shaded c .low
 
 same-length-5 : tie.Need-same-length-5
-same-length-5 c = search needs
+same-length-5 c = shaded c .high
 
 same-length-6 : tie.Need-same-length-6
-same-length-6 c = search needs
+same-length-6 c = shaded c .listed
 
 returns-2 : tie.Need-returns-2
-returns-2 c = rw (put-done _ _ _ _ (c .before .before .before .before .before .before .before .before .before .before .before .before .before .put-plan .ensures) (c .before .before .before .before .before .before .before .before .before .before .before .plan2 .given .1) (c .before .before .before .before .before .before .shade .ensures))
+returns-2 c = rw (put-done _ _ _ _ (c .before .before .before .before .before .put-plan .ensures) (c .before .before .before .plan2 .given .1) (shaded c .shaded))
 
 pub put-spec : {M : Type 1} → statement M
 put-spec =

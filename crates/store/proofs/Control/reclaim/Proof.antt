@@ -3,11 +3,11 @@ use mathlib.Core.Path.{_∙_, ap}
 use native.Mathlib.Omega.{arith}
 use Rattle.rules.specs.Phases.{moveOn}
 use Rattle.rules.specs.Control.{Store}
-use Rattle.rules.proofs.Ranges.{in-range, place-small}
+use Rattle.rules.proofs.Ranges.{in-range, place-small, fronts}
 use Rattle.heap.proofs.Soundness.{found, lost}
 use Rattle.store.specs.Steps.{went}
 use Rattle.store.proofs.Flags.{no, yes}
-use Rattle.store.proofs.Walks.{fronts, header-at, reclaim-waits, reclaim-ends, reclaim-lost, reclaim-clears}
+use Rattle.store.proofs.Walks.{header-at, reclaim-waits, reclaim-ends, reclaim-lost, reclaim-clears}
 use borrow.Author.Needs.{needs}
 use Rattle.store.proofs.Control.reclaim.Statement.{statement}
 use Rattle.store.proofs.Control.reclaim.Tie as tie

@@ -1,9 +1,7 @@
 -- The session tests: each path answers the number of the first that fails.
-use mathlib.Core.Path.{_≡_}
-use mathlib.Core.Bool.{true, false}
-use lib.ListN.{getD}
+use mathlib.Core.Path.{_∙_, sym}
 use borrow.Author.Tests.{lt-leb, le-leb}
-use Rattle.rules.specs.Phases.{sessionAt, absent}
+use Rattle.rules.specs.Phases.{sessionAt}
 use Rattle.rules.specs.Calls.{sessionOf}
 use Rattle.store.proofs.Flags.{yes, no}
 use borrow.Author.Needs.{needs}
@@ -21,32 +19,25 @@ returns-2 : tie.Need-returns-2
 unfolding sessionOf sessionAt
 returns-2 c = simp (yes (c .before .before .valid .ensures) (c .before .if1 .left), lt-leb _ _ (c .if2 .taken))
 
-mul-session : tie.Need-mul-session
-mul-session c = search needs
-
-element-copy-out-session : tie.Need-element-copy-out-session
-element-copy-out-session c = search needs
+attached-at-requires : tie.Need-attached-at-requires
+attached-at-requires c κs = search needs
 
 returns-3 : tie.Need-returns-3
 unfolding sessionOf sessionAt
 returns-3 c =
-    let a = c .before .before .before .before .before .before .before .before .args in
-    let x : getD (a .t1 .sessions) (a .s) absent .attached ≡ true = c .if3 .taken in
     simp (
-      yes (c .before .before .before .before .valid .ensures) (c .before .before .before .if1 .left),
-      le-leb _ _ (c .before .before .if2 .left),
-      x,
+      yes (c .before .before .before .before .before .valid .ensures) (c .before .before .before .before .if1 .left),
+      le-leb _ _ (c .before .before .before .if2 .left),
+      sym (c .before .attached-at .ensures) ∙ c .if3 .taken,
     )
 
 returns-4 : tie.Need-returns-4
 unfolding sessionOf sessionAt
 returns-4 c =
-    let a = c .before .before .before .before .before .before .before .before .args in
-    let x : getD (a .t1 .sessions) (a .s) absent .attached ≡ false = c .if3 .left in
     simp (
-      yes (c .before .before .before .before .valid .ensures) (c .before .before .before .if1 .left),
-      le-leb _ _ (c .before .before .if2 .left),
-      x,
+      yes (c .before .before .before .before .before .valid .ensures) (c .before .before .before .before .if1 .left),
+      le-leb _ _ (c .before .before .before .if2 .left),
+      sym (c .before .attached-at .ensures) ∙ c .if3 .left,
     )
 
 pub session-tests-spec : {M : Type 1} → statement M
@@ -56,7 +47,6 @@ session-tests-spec =
     valid-requires
     returns
     returns-2
-    mul-session
-    element-copy-out-session
+    attached-at-requires
     returns-3
     returns-4)

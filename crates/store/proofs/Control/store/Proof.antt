@@ -1,6 +1,11 @@
 -- The plan's refusal, or what it says written: the record shaded, then the field of the two copies.
+use mathlib.Core.Path.{_∙_}
+use mathlib.Core.Logic.{⊎-elim}
+use Rattle.rules.specs.Control.{Store}
+use Rattle.rules.specs.declared.Writes.{Writes}
 use Rattle.heap.proofs.Halves.{inside-kept}
-use Rattle.store.proofs.Storing.{store-away, store-known-by, store-done}
+use Rattle.store.specs.View.{view}
+use Rattle.store.proofs.Storing.{Next, unshaded, met, store-away, store-known-by, store-done}
 use borrow.Author.Needs.{needs}
 use Rattle.store.proofs.Control.store.Statement.{statement}
 use Rattle.store.proofs.Control.store.Tie as tie
@@ -18,14 +23,30 @@ add-j : tie.Need-add-j
 add-j c = search needs
 
 shade-requires : tie.Need-shade-requires
-shade-requires c κs = λ n. let r = store-known-by _ _ _ _ _ (c .before .before .before .before .before .before .store-plan .ensures) (c .before .before .before .before .plan2 .given .1) .shaded n in (r .coloured, r .listed)
+shade-requires c κs = λ n. let r = store-known-by _ _ _ _ _ (c .before .before .before .before .before .before .before .before .store-plan .ensures) (c .before .before .before .before .before .before .plan2 .given .1) .shaded n in (r .coloured, r .listed)
+
+-- the call where the ways meet: the store that it came with, and what the plan says
+abbrev entered : tie.Joined1 → Store
+entered j =
+    let a = j .before .before .before .before .before .before .before .before .before .before .before .before .args in
+    view (a .self) (a .h0 .now) (a .h1 .now) (a .list .now)
+
+abbrev plan : tie.Joined1 → Writes
+plan j = j .before .before .before .plan2 .given .0 .1 .0
+
+-- there the record is shaded, or there was none to shade
+shaded : (j : tie.Joined1) → Next (entered j) (plan j .shade) (j .if1 .next) (j .if1 .h0) (j .if1 .h1) (j .if1 .list)
+shaded j =
+    ⊎-elim
+    (λ w. met (unshaded _ _ _ _ _ (w .0 .taken)) (w .1) (w .2) (w .3) (w .4))
+    (λ w. met (record { shaded = w .4 .ensures; low = w .4 .kept .1 .0; high = w .4 .kept .1 .1 .0; listed = w .4 .kept .1 .1 .1 .0 }) (w .11) (w .12) (w .13) (w .14))
+    (j .if1 .came)
 
 put-both-requires : tie.Need-put-both-requires
 put-both-requires c κs =
-    let k = store-known-by _ _ _ _ _ (c .before .before .before .before .before .before .before .before .before .before .before .before .before .before .before .store-plan .ensures) (c .before .before .before .before .before .before .before .before .before .before .before .before .before .plan2 .given .1) in
-    let a = c .before .before .before .before .before .before .before .before .shade .kept .1 .0 in
-    let b = c .before .before .before .before .before .before .before .before .shade .kept .1 .1 .0 in
-    (inside-kept _ _ _ _ _ _ a b (k .own), λ n. inside-kept _ _ _ _ _ _ a b (k .copy n))
+    let k = store-known-by _ _ _ _ _ (c .before .before .before .before .before .before .before .store-plan .ensures) (c .before .before .before .before .before .plan2 .given .1) in
+    let n = shaded (c .before .before) in
+    (inside-kept _ _ _ _ _ _ (n .low) (n .high) (k .own), λ z. inside-kept _ _ _ _ _ _ (n .low) (n .high) (k .copy z))
 
 same-length : tie.Need-same-length
 same-length c = search needs
@@ -40,16 +61,16 @@ returns : tie.Need-returns
 returns c = rw (store-away _ _ _ _ _ (c .before .before .before .store-plan .ensures) (c .before .plan .given .1))
 
 same-length-4 : tie.Need-same-length-4
-same-length-4 c = search needs
+same-length-4 c = c .before .before .before .before .put-both .kept .0 ∙ shaded (c .before .before .before .before .before .before .before) .low
 
 same-length-5 : tie.Need-same-length-5
-same-length-5 c = search needs
+same-length-5 c = c .before .before .before .before .put-both .kept .1 .0 ∙ shaded (c .before .before .before .before .before .before .before) .high
 
 same-length-6 : tie.Need-same-length-6
-same-length-6 c = search needs
+same-length-6 c = shaded (c .before .before .before .before .before .before .before) .listed
 
 returns-2 : tie.Need-returns-2
-returns-2 c = rw (store-done _ _ _ _ _ (c .before .before .before .before .before .before .before .before .before .before .before .before .before .before .before .before .before .before .before .before .store-plan .ensures) (c .before .before .before .before .before .before .before .before .before .before .before .before .before .before .before .before .before .before .plan2 .given .1) (c .before .before .before .before .before .before .before .before .before .before .before .before .before .shade .ensures) (c .before .before .before .before .put-both .ensures _ _))
+returns-2 c = rw (store-done _ _ _ _ _ (c .before .before .before .before .before .before .before .before .before .before .before .before .store-plan .ensures) (c .before .before .before .before .before .before .before .before .before .before .plan2 .given .1) (shaded (c .before .before .before .before .before .before .before) .shaded) (c .before .before .before .before .put-both .ensures _ _))
 
 pub store-spec : {M : Type 1} → statement M
 store-spec =

@@ -1,9 +1,8 @@
 -- The tests of a store in order, then what it writes.
 use native.Mathlib.Omega.{arith}
-use Rattle.rules.specs.Phases.{register, sessionAt}
 use Rattle.heap.proofs.Soundness.{found, header-inside}
 use Rattle.store.proofs.Shaded.{within}
-use Rattle.store.proofs.Worked.{away, holds}
+use Rattle.store.proofs.Worked.{away, handed}
 use Rattle.store.proofs.Storing.{plan-refused, plan-damage, plan-short, plan-unwritable, plan-made}
 use borrow.Author.Needs.{needs}
 use Rattle.store.proofs.Control.store_plan.Statement.{statement}
@@ -12,18 +11,18 @@ use Rattle.store.proofs.Control.store_plan.Tie as tie
 held-requires : tie.Need-held-requires
 held-requires c κs = search needs
 
-enum-known-held : tie.Need-enum-known-held
-enum-known-held c = search needs
+enum-known-n : tie.Need-enum-known-n
+enum-known-n c = search needs
 
 returns : tie.Need-returns
-returns c = plan-refused _ _ _ _ _ (away _ _ _ _ (c .before .before .before .held .ensures) (c .before .held2 .given .1))
+returns c = plan-refused _ _ _ _ _ (away _ _ _ _ (c .before .before .before .held .ensures) (c .before .n .given .1))
 
-enum-known-held-2 : tie.Need-enum-known-held-2
-enum-known-held-2 c = search needs
+enum-known-operands : tie.Need-enum-known-operands
+enum-known-operands c = search needs
 
 follow-requires : tie.Need-follow-requires
 follow-requires c κs =
-    let k = holds _ _ _ _ (c .before .before .before .held .ensures) (c .before .held3 .given .1) .within .known in
+    let k = handed _ _ _ _ (c .before .before .before .held .ensures) (c .before .operands .given .1) .holding .within .known in
     (omega (arith, k), omega (arith, k))
 
 enum-known-r : tie.Need-enum-known-r
@@ -33,34 +32,18 @@ enum-told : tie.Need-enum-told
 enum-told c = search needs
 
 returns-2 : tie.Need-returns-2
-returns-2 c = plan-damage _ _ _ _ _ (holds _ _ _ _ (c .before .before .before .before .before .before .held .ensures) (c .before .before .before .before .held3 .given .1)) (c .before .before .follow .ensures) (c .enum-told .given .1)
+returns-2 c = plan-damage _ _ _ _ _ (handed _ _ _ _ (c .before .before .before .before .before .before .held .ensures) (c .before .before .before .before .operands .given .1)) (c .before .before .follow .ensures) (c .enum-told .given .1)
 
 returns-3 : tie.Need-returns-3
-returns-3 c = plan-short _ _ _ _ _ (holds _ _ _ _ (c .before .before .before .before .before .before .before .before .held .ensures) (c .before .before .before .before .before .before .held3 .given .1)) (c .before .before .before .before .follow .ensures) (c .before .before .r .given .1) (c .if1 .taken)
-
-mul-session : tie.Need-mul-session
-mul-session c = search needs
-
-element-copy-out-session : tie.Need-element-copy-out-session
-element-copy-out-session c =
-    let k = holds _ _ _ _ (c .before .before .before .before .before .before .before .before .held .ensures) (c .before .before .before .before .before .before .held3 .given .1) .within in
-    omega (arith, k)
-
-mul-q : tie.Need-mul-q
-mul-q c = search needs
-
-element-copy-out-q : tie.Need-element-copy-out-q
-element-copy-out-q c =
-    let k = holds _ _ _ _ (c .before .before .before .before .before .before .before .before .before .held .ensures) (c .before .before .before .before .before .before .before .held3 .given .1) in
-    omega (arith, k)
+returns-3 c = plan-short _ _ _ _ _ (handed _ _ _ _ (c .before .before .before .before .before .before .before .before .held .ensures) (c .before .before .before .before .before .before .operands .given .1)) (c .before .before .before .before .follow .ensures) (c .before .before .r .given .1) (c .if1 .taken)
 
 bounds-requires : tie.Need-bounds-requires
-bounds-requires c κs = holds _ _ _ _ (c .before .before .before .before .before .before .before .before .before .before .held .ensures) (c .before .before .before .before .before .before .before .before .held3 .given .1) .within .known .half
+bounds-requires c κs = handed _ _ _ _ (c .before .before .before .before .before .before .before .before .held .ensures) (c .before .before .before .before .before .before .operands .given .1) .holding .within .known .half
 
 store-writes-requires : tie.Need-store-writes-requires
 store-writes-requires c κs =
-    let k = holds _ _ _ _ (c .before .before .before .before .before .before .before .before .before .before .before .held .ensures) (c .before .before .before .before .before .before .before .before .before .held3 .given .1) .within .known in
-    let f = found _ _ (c .before .before .before .before .before .before .before .follow .ensures) (c .before .before .before .before .before .r .given .1) in
+    let k = handed _ _ _ _ (c .before .before .before .before .before .before .before .before .before .held .ensures) (c .before .before .before .before .before .before .before .operands .given .1) .holding .within .known in
+    let f = found _ _ (c .before .before .before .before .before .follow .ensures) (c .before .before .before .r .given .1) in
     (within _ _ (c .bounds .ensures _ _ _ (k .lent2)) k, header-inside _ _ _ _ _ (f .sound) (omega (arith, k)) (omega (arith, k)) 2 (omega arith))
 
 enum-known-w : tie.Need-enum-known-w
@@ -70,34 +53,28 @@ enum-told-2 : tie.Need-enum-told-2
 enum-told-2 c = search needs
 
 returns-4 : tie.Need-returns-4
-unfolding register sessionAt
 returns-4 c =
-    let h = holds _ _ _ _ (c .before .before .before .before .before .before .before .before .before .before .before .before .before .before .held .ensures) (c .before .before .before .before .before .before .before .before .before .before .before .before .held3 .given .1) in
-    plan-unwritable _ _ _ _ _ h (c .before .before .before .before .before .before .before .before .before .before .follow .ensures) (c .before .before .before .before .before .before .before .before .r .given .1) (c .before .before .before .before .before .before .if1 .left) (c .before .before .before .bounds .ensures _ _ _ (h .within .known .lent2)) (c .before .before .store-writes .ensures) (c .enum-told2 .given .1)
+    let h = handed _ _ _ _ (c .before .before .before .before .before .before .before .before .before .before .before .before .held .ensures) (c .before .before .before .before .before .before .before .before .before .before .operands .given .1) in
+    plan-unwritable _ _ _ _ _ h (c .before .before .before .before .before .before .before .before .follow .ensures) (c .before .before .before .before .before .before .r .given .1) (c .before .before .before .before .if1 .left) (c .before .before .before .bounds .ensures _ _ _ (h .holding .within .known .lent2)) (c .before .before .store-writes .ensures) (c .enum-told2 .given .1)
 
 returns-5 : tie.Need-returns-5
-unfolding register sessionAt
 returns-5 c =
-    let h = holds _ _ _ _ (c .before .before .before .before .before .before .before .before .before .before .before .before .before .before .before .held .ensures) (c .before .before .before .before .before .before .before .before .before .before .before .before .before .held3 .given .1) in
-    plan-made _ _ _ _ _ h (c .before .before .before .before .before .before .before .before .before .before .before .follow .ensures) (c .before .before .before .before .before .before .before .before .before .r .given .1) (c .before .before .before .before .before .before .before .if1 .left) (c .before .before .before .before .bounds .ensures _ _ _ (h .within .known .lent2)) (c .before .before .before .store-writes .ensures) (c .before .w .given .1)
+    let h = handed _ _ _ _ (c .before .before .before .before .before .before .before .before .before .before .before .before .before .held .ensures) (c .before .before .before .before .before .before .before .before .before .before .before .operands .given .1) in
+    plan-made _ _ _ _ _ h (c .before .before .before .before .before .before .before .before .before .follow .ensures) (c .before .before .before .before .before .before .before .r .given .1) (c .before .before .before .before .before .if1 .left) (c .before .before .before .before .bounds .ensures _ _ _ (h .holding .within .known .lent2)) (c .before .before .before .store-writes .ensures) (c .before .w .given .1)
 
 pub store-plan-spec : {M : Type 1} → statement M
 store-plan-spec =
     tie.close
     (tie.spec
     held-requires
-    enum-known-held
+    enum-known-n
     returns
-    enum-known-held-2
+    enum-known-operands
     follow-requires
     enum-known-r
     enum-told
     returns-2
     returns-3
-    mul-session
-    element-copy-out-session
-    mul-q
-    element-copy-out-q
     bounds-requires
     store-writes-requires
     enum-known-w

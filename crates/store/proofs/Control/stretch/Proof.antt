@@ -1,8 +1,9 @@
 -- The stretch: the tests in order, then the plain fields as a part of the half.
 use native.Mathlib.Omega.{arith}
+use Rattle.rules.proofs.Ranges.{fronts}
 use Rattle.heap.proofs.Soundness.{found, lost}
 use Rattle.store.proofs.Worked.{away, holds, stretch-refused}
-use Rattle.store.proofs.Followed.{fronts, span, stretch-lost, stretch-within, stretch-small, stretched}
+use Rattle.store.proofs.Followed.{span, stretch-lost, stretch-within, stretch-small, stretched}
 use borrow.Author.Needs.{needs}
 use Rattle.store.proofs.Control.stretch.Statement.{statement}
 use Rattle.store.proofs.Control.stretch.Tie as tie
@@ -10,8 +11,8 @@ use Rattle.store.proofs.Control.stretch.Tie as tie
 held-requires : tie.Need-held-requires
 held-requires c κs = search needs
 
-enum-known-v : tie.Need-enum-known-v
-enum-known-v c = search needs
+enum-known-operands : tie.Need-enum-known-operands
+enum-known-operands c = search needs
 
 enum-told : tie.Need-enum-told
 enum-told c = search needs
@@ -24,7 +25,7 @@ returns c = simp (stretch-refused _ _ _ (away _ _ _ _ (c .before .before .before
 
 follow-requires : tie.Need-follow-requires
 follow-requires c κs =
-    let h = holds _ _ _ _ (c .before .before .before .held .ensures) (c .before .v .given .1) in
+    let h = holds _ _ _ _ (c .before .before .before .held .ensures) (c .before .operands .given .1) in
     fronts (h .within .known)
 
 enum-known-at : tie.Need-enum-known-at
@@ -38,7 +39,7 @@ slice-aggregate-result-2 c = search needs
 
 returns-2 : tie.Need-returns-2
 returns-2 c =
-    let h = holds _ _ _ _ (c .before .before .before .before .before .before .before .held .ensures) (c .before .before .before .before .before .v .given .1) in
+    let h = holds _ _ _ _ (c .before .before .before .before .before .before .before .held .ensures) (c .before .before .before .before .before .operands .given .1) in
     simp (stretch-lost _ _ _ h (lost _ _ (c .before .before .before .follow .ensures) (c .before .enum-told2 .given .1)))
 
 half-of-requires : tie.Need-half-of-requires
@@ -46,7 +47,7 @@ half-of-requires c κs = search needs
 
 add-start : tie.Need-add-start
 add-start c =
-    let h = holds _ _ _ _ (c .before .before .before .before .before .before .before .before .held .ensures) (c .before .before .before .before .before .before .v .given .1) in
+    let h = holds _ _ _ _ (c .before .before .before .before .before .before .before .before .held .ensures) (c .before .before .before .before .before .before .operands .given .1) in
     let d = found _ _ (c .before .before .before .before .follow .ensures) (c .before .before .at .given .1) in
     omega (arith, stretch-small _ (h .within .known) d (c .half-of .ensures))
 
@@ -55,7 +56,7 @@ cast-start c = search needs
 
 add-start-2 : tie.Need-add-start-2
 add-start-2 c =
-    let h = holds _ _ _ _ (c .before .before .before .before .before .before .before .before .held .ensures) (c .before .before .before .before .before .before .v .given .1) in
+    let h = holds _ _ _ _ (c .before .before .before .before .before .before .before .before .held .ensures) (c .before .before .before .before .before .before .operands .given .1) in
     let d = found _ _ (c .before .before .before .before .follow .ensures) (c .before .before .at .given .1) in
     omega (arith, stretch-small _ (h .within .known) d (c .half-of .ensures))
 
@@ -64,13 +65,13 @@ cast-end c = search needs
 
 add-end : tie.Need-add-end
 add-end c =
-    let h = holds _ _ _ _ (c .before .before .before .before .before .before .before .before .held .ensures) (c .before .before .before .before .before .before .v .given .1) in
+    let h = holds _ _ _ _ (c .before .before .before .before .before .before .before .before .held .ensures) (c .before .before .before .before .before .before .operands .given .1) in
     let d = found _ _ (c .before .before .before .before .follow .ensures) (c .before .before .at .given .1) in
     omega (arith, stretch-small _ (h .within .known) d (c .half-of .ensures))
 
 mul-result : tie.Need-mul-result
 mul-result c =
-    let h = holds _ _ _ _ (c .before .before .before .before .before .before .before .before .held .ensures) (c .before .before .before .before .before .before .v .given .1) in
+    let h = holds _ _ _ _ (c .before .before .before .before .before .before .before .before .held .ensures) (c .before .before .before .before .before .before .operands .given .1) in
     let d = found _ _ (c .before .before .before .before .follow .ensures) (c .before .before .at .given .1) in
     omega (arith, stretch-small _ (h .within .known) d (c .half-of .ensures))
 
@@ -82,13 +83,13 @@ part-result-start c = search needs
 
 part-result-end : tie.Need-part-result-end
 part-result-end c =
-    let h = holds _ _ _ _ (c .before .before .before .before .before .before .before .before .held .ensures) (c .before .before .before .before .before .before .v .given .1) in
+    let h = holds _ _ _ _ (c .before .before .before .before .before .before .before .before .held .ensures) (c .before .before .before .before .before .before .operands .given .1) in
     let d = found _ _ (c .before .before .before .before .follow .ensures) (c .before .before .at .given .1) in
     omega (arith, stretch-within _ (h .within .known) d (c .half-of .ensures))
 
 returns-3 : tie.Need-returns-3
 returns-3 c =
-    let h = holds _ _ _ _ (c .before .before .before .before .before .before .before .before .before .held .ensures) (c .before .before .before .before .before .before .before .v .given .1) in
+    let h = holds _ _ _ _ (c .before .before .before .before .before .before .before .before .before .held .ensures) (c .before .before .before .before .before .before .before .operands .given .1) in
     let d = found _ _ (c .before .before .before .before .before .follow .ensures) (c .before .before .before .at .given .1) in
     rw span (stretched _ (h .within .known) d (c .before .half-of .ensures) _ _ h)
 
@@ -97,7 +98,7 @@ stretch-spec =
     tie.close
     (tie.spec
     held-requires
-    enum-known-v
+    enum-known-operands
     enum-told
     slice-aggregate-result
     returns

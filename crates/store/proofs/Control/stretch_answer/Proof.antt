@@ -1,7 +1,8 @@
 -- The companion of the stretch: the same tests.
+use Rattle.rules.proofs.Ranges.{fronts}
 use Rattle.heap.proofs.Soundness.{found, lost}
 use Rattle.store.proofs.Worked.{away, holds, stretch-refused}
-use Rattle.store.proofs.Followed.{fronts, stretch-lost, stretch-found}
+use Rattle.store.proofs.Followed.{stretch-lost, stretch-found}
 use borrow.Author.Needs.{needs}
 use Rattle.store.proofs.Control.stretch_answer.Statement.{statement}
 use Rattle.store.proofs.Control.stretch_answer.Tie as tie
@@ -15,12 +16,12 @@ enum-known-n c = search needs
 returns : tie.Need-returns
 returns c = rw (stretch-refused _ _ _ (away _ _ _ _ (c .before .before .before .held .ensures) (c .before .n .given .1)))
 
-enum-known-reference : tie.Need-enum-known-reference
-enum-known-reference c = search needs
+enum-known-operands : tie.Need-enum-known-operands
+enum-known-operands c = search needs
 
 follow-requires : tie.Need-follow-requires
 follow-requires c κs =
-    let h = holds _ _ _ _ (c .before .before .before .held .ensures) (c .before .reference .given .1) in
+    let h = holds _ _ _ _ (c .before .before .before .held .ensures) (c .before .operands .given .1) in
     fronts (h .within .known)
 
 enum-told : tie.Need-enum-told
@@ -31,12 +32,12 @@ enum-told-2 c = search needs
 
 returns-2 : tie.Need-returns-2
 returns-2 c =
-    let h = holds _ _ _ _ (c .before .before .before .before .before .before .held .ensures) (c .before .before .before .before .reference .given .1) in
+    let h = holds _ _ _ _ (c .before .before .before .before .before .before .held .ensures) (c .before .before .before .before .operands .given .1) in
     rw (stretch-lost _ _ _ h (lost _ _ (c .before .before .follow .ensures) (c .enum-told2 .given .1)))
 
 returns-3 : tie.Need-returns-3
 returns-3 c =
-    let h = holds _ _ _ _ (c .before .before .before .before .before .before .held .ensures) (c .before .before .before .before .reference .given .1) in
+    let h = holds _ _ _ _ (c .before .before .before .before .before .before .held .ensures) (c .before .before .before .before .operands .given .1) in
     rw (stretch-found _ _ _ h (found _ _ (c .before .before .follow .ensures) (c .enum-told .given .1) .sound))
 
 pub stretch-answer-spec : {M : Type 1} → statement M
@@ -46,7 +47,7 @@ stretch-answer-spec =
     held-requires
     enum-known-n
     returns
-    enum-known-reference
+    enum-known-operands
     follow-requires
     enum-told
     enum-told-2

@@ -1,29 +1,29 @@
--- Invariant: the sessions below i are without mark, the others as they were.
-use Prim.Native.Nat.{_≤_, _-_}
-use mathlib.Core.Path.{_≡_, _∙_, refl}
+-- Invariant: no session below i has a mark, and with all marks cleared the sessions are those at entry.
+use Prim.Native.Nat.{ℕ, _≤_, _<_, _-_}
+use mathlib.Core.Path.{_≡_, _∙_, refl, sym}
 use mathlib.Core.Bool.{false}
-use mathlib.Core.List.{map, _++_}
 use native.Mathlib.Omega.{arith}
-use lib.ListN.{length, take, drop}
-use Rattle.rules.specs.Phases.{absent, withMark, unmarked}
-use Rattle.rules.specs.declared.Session.{Session}
-use Rattle.store.proofs.Images.{image-more, image-all}
+use lib.ListN.{length, getD}
+use Rattle.rules.specs.Phases.{absent, unmarked}
+use Rattle.store.proofs.Searches.{cleared-length, cleared-same, found-later, none-before, none-marked}
 use borrow.Author.Needs.{needs}
 use Rattle.store.proofs.Control.unmarked.Statement.{statement}
 use Rattle.store.proofs.Control.unmarked.Tie as tie
 
--- a session without its mark
-abbrev plain : Session → Session
-plain x = withMark x false
-
 abbrev Inv-loop : tie.InvT-loop
-Inv-loop old₀ next₀ i₀ old next i = (old ≡ old₀) × (length old₀ ≡ 16) × (i ≤ 16) × (next ≡ map plain (take i old₀) ++ drop i old₀)
+Inv-loop old i₀ next i =
+    (length next ≡ 16) × (i ≤ 16) × (unmarked next ≡ unmarked old) × ((j : ℕ) → j < i → getD next j absent .scanned ≡ false)
 
 abbrev μ-loop : tie.MeasureT-loop
-μ-loop old₀ next₀ i₀ old next i = 16 - i
+μ-loop old i₀ next i = 16 - i
+
+marked-from-requires : tie.Need-marked-from-requires Inv-loop μ-loop
+marked-from-requires c κs = search needs
 
 loop-holds : tie.Need-loop-holds Inv-loop μ-loop
-loop-holds c = (refl, search needs, search needs, refl)
+loop-holds c =
+    let found = c .marked-from .ensures in
+    (search needs, found .1, refl, λ j h. found .3 j (omega arith) h)
 
 mul-session : tie.Need-mul-session Inv-loop μ-loop
 mul-session c = search needs
@@ -37,20 +37,29 @@ mul-next c = search needs
 array-set-from-next : tie.Need-array-set-from-next Inv-loop μ-loop
 array-set-from-next c = search needs
 
-add-i : tie.Need-add-i Inv-loop μ-loop
-add-i c = search needs
+marked-from-requires-2 : tie.Need-marked-from-requires-2 Inv-loop μ-loop
+marked-from-requires-2 c κs = search needs
 
 loop-less : tie.Need-loop-less Inv-loop μ-loop
-loop-less c = search needs
+loop-less c =
+    let loop = c .before .before .before .loop in
+    let found = c .marked-from2 .ensures in
+    omega (arith, found-later (loop .next) (loop .i) _ (omega arith) (found .0) (λ h. found .2 (omega arith)))
 
 loop-again : tie.Need-loop-again Inv-loop μ-loop
 loop-again c =
-    let loop = c .before .before .loop in
-    (loop .inv .0, search needs, search needs, rw (loop .inv .0, loop .inv .3) (image-more plain absent (c .before .before .before .args .t1) (loop .i) (omega arith)))
+    let loop = c .before .before .before .loop in
+    let found = c .marked-from2 .ensures in (
+      cleared-length (loop .next) (loop .i) ∙ loop .inv .0,
+      found .1,
+      cleared-same (loop .next) (loop .i) ∙ loop .inv .2,
+      none-before (loop .next) (loop .i) _ (loop .inv .3) (found .3),
+    )
 
 returns : tie.Need-returns Inv-loop μ-loop
-unfolding unmarked
-returns c = let loop = c .before .loop in loop .inv .3 ∙ image-all plain absent (c .before .before .args .t1) (loop .i) (omega arith)
+returns c =
+    let loop = c .before .loop in
+    sym (none-marked (loop .next) (λ j h. loop .inv .3 j (omega arith))) ∙ loop .inv .2
 
 pub unmarked-spec : {M : Type 1} → statement M
 unmarked-spec =
@@ -58,12 +67,13 @@ unmarked-spec =
     (tie.spec
     Inv-loop
     μ-loop
+    marked-from-requires
     loop-holds
     mul-session
     array-copy-out-session
     mul-next
     array-set-from-next
-    add-i
+    marked-from-requires-2
     loop-less
     loop-again
     returns)

@@ -1,11 +1,10 @@
 -- Where a write goes: the tests of a write in order.
 use mathlib.Core.Path.{_∙_, sym, ap}
 use native.Mathlib.Omega.{arith}
-use Rattle.rules.specs.Phases.{sessionAt}
+use Rattle.rules.proofs.Ranges.{fronts}
 use Rattle.heap.specs.View.{checked}
 use Rattle.heap.proofs.Soundness.{found, lost, header-inside}
-use Rattle.store.proofs.Worked.{away, holds}
-use Rattle.store.proofs.Followed.{fronts}
+use Rattle.store.proofs.Worked.{away, handed}
 use Rattle.store.proofs.Shaded.{within}
 use Rattle.store.proofs.Targets.{writing-refused, writing-lost, writing-beyond, writing-astray, writing-passed}
 use borrow.Author.Needs.{needs}
@@ -21,13 +20,13 @@ enum-known-n c = search needs
 returns : tie.Need-returns
 returns c = rw (writing-refused _ _ _ (c .before .before .before .before .before .before .before .args .field) (away _ _ _ _ (c .before .before .before .held .ensures) (c .before .n .given .1)))
 
-enum-known-reference : tie.Need-enum-known-reference
-enum-known-reference c = search needs
+enum-known-operands : tie.Need-enum-known-operands
+enum-known-operands c = search needs
 
 follow-requires : tie.Need-follow-requires
 follow-requires c κs =
-    let h = holds _ _ _ _ (c .before .before .before .held .ensures) (c .before .reference .given .1) in
-    fronts (h .within .known)
+    let h = handed _ _ _ _ (c .before .before .before .held .ensures) (c .before .operands .given .1) in
+    fronts (h .holding .within .known)
 
 enum-known-r : tie.Need-enum-known-r
 enum-known-r c = search needs
@@ -37,34 +36,26 @@ enum-told c = search needs
 
 returns-2 : tie.Need-returns-2
 returns-2 c =
-    let h = holds _ _ _ _ (c .before .before .before .before .before .before .held .ensures) (c .before .before .before .before .reference .given .1) in
+    let h = handed _ _ _ _ (c .before .before .before .before .before .before .held .ensures) (c .before .before .before .before .operands .given .1) in
     rw (writing-lost _ _ _ (c .before .before .before .before .before .before .before .before .before .before .args .field) h (lost _ _ (c .before .before .follow .ensures) (c .enum-told .given .1)))
 
 returns-3 : tie.Need-returns-3
 returns-3 c =
-    let h = holds _ _ _ _ (c .before .before .before .before .before .before .before .before .held .ensures) (c .before .before .before .before .before .before .reference .given .1) in
+    let h = handed _ _ _ _ (c .before .before .before .before .before .before .before .before .held .ensures) (c .before .before .before .before .before .before .operands .given .1) in
     let d = found _ _ (c .before .before .before .before .follow .ensures) (c .before .before .r .given .1) in
     rw (writing-beyond _ _ _ (c .before .before .before .before .before .before .before .before .before .before .before .before .args .field) h d (c .if1 .taken))
 
-mul-session : tie.Need-mul-session
-mul-session c = search needs
-
-element-copy-out-session : tie.Need-element-copy-out-session
-element-copy-out-session c =
-    let h = holds _ _ _ _ (c .before .before .before .before .before .before .before .before .held .ensures) (c .before .before .before .before .before .before .reference .given .1) in
-    omega (arith, h .within .number)
-
 bounds-requires : tie.Need-bounds-requires
 bounds-requires c κs =
-    let h = holds _ _ _ _ (c .before .before .before .before .before .before .before .before .before .held .ensures) (c .before .before .before .before .before .before .before .reference .given .1) in
-    h .within .known .half
+    let h = handed _ _ _ _ (c .before .before .before .before .before .before .before .before .held .ensures) (c .before .before .before .before .before .before .operands .given .1) in
+    h .holding .within .known .half
 
 replica-for-requires : tie.Need-replica-for-requires
 replica-for-requires c κs =
-    let h = holds _ _ _ _ (c .before .before .before .before .before .before .before .before .before .before .held .ensures) (c .before .before .before .before .before .before .before .before .reference .given .1) in
-    let d = found _ _ (c .before .before .before .before .before .before .follow .ensures) (c .before .before .before .before .r .given .1) in
-    let q = fronts (h .within .known) in
-    (within _ _ (c .bounds .ensures _ _ _ (h .within .known .lent2)) (h .within .known), header-inside _ _ _ _ _ (d .sound) (q .0) (q .1) 2 (omega arith))
+    let h = handed _ _ _ _ (c .before .before .before .before .before .before .before .before .before .held .ensures) (c .before .before .before .before .before .before .before .operands .given .1) in
+    let d = found _ _ (c .before .before .before .before .before .follow .ensures) (c .before .before .before .r .given .1) in
+    let q = fronts (h .holding .within .known) in
+    (within _ _ (c .bounds .ensures _ _ _ (h .holding .within .known .lent2)) (h .holding .within .known), header-inside _ _ _ _ _ (d .sound) (q .0) (q .1) 2 (omega arith))
 
 enum-known-t : tie.Need-enum-known-t
 enum-known-t c = search needs
@@ -73,18 +64,16 @@ enum-told-2 : tie.Need-enum-told-2
 enum-told-2 c = search needs
 
 returns-4 : tie.Need-returns-4
-unfolding sessionAt
 returns-4 c =
-    let h = holds _ _ _ _ (c .before .before .before .before .before .before .before .before .before .before .before .before .before .held .ensures) (c .before .before .before .before .before .before .before .before .before .before .before .reference .given .1) in
-    let d = found _ _ (c .before .before .before .before .before .before .before .before .before .follow .ensures) (c .before .before .before .before .before .before .before .r .given .1) in
-    rw (writing-astray _ _ _ (c .before .before .before .before .before .before .before .before .before .before .before .before .before .before .before .before .before .args .field) h d (c .before .before .before .before .before .if1 .left) (c .before .before .before .bounds .ensures _ _ _ (h .within .known .lent2)) (sym (c .before .before .replica-for .ensures) ∙ ap checked (c .enum-told2 .given .1)))
+    let h = handed _ _ _ _ (c .before .before .before .before .before .before .before .before .before .before .before .before .held .ensures) (c .before .before .before .before .before .before .before .before .before .before .operands .given .1) in
+    let d = found _ _ (c .before .before .before .before .before .before .before .before .follow .ensures) (c .before .before .before .before .before .before .r .given .1) in
+    rw (writing-astray _ _ _ (c .before .before .before .before .before .before .before .before .before .before .before .before .before .before .before .before .args .field) h d (c .before .before .before .before .if1 .left) (c .before .before .before .bounds .ensures _ _ _ (h .holding .within .known .lent2)) (sym (c .before .before .replica-for .ensures) ∙ ap checked (c .enum-told2 .given .1)))
 
 returns-5 : tie.Need-returns-5
-unfolding sessionAt
 returns-5 c =
-    let h = holds _ _ _ _ (c .before .before .before .before .before .before .before .before .before .before .before .before .before .before .held .ensures) (c .before .before .before .before .before .before .before .before .before .before .before .before .reference .given .1) in
-    let d = found _ _ (c .before .before .before .before .before .before .before .before .before .before .follow .ensures) (c .before .before .before .before .before .before .before .before .r .given .1) in
-    rw (writing-passed _ _ _ (c .before .before .before .before .before .before .before .before .before .before .before .before .before .before .before .before .before .before .args .field) h d (c .before .before .before .before .before .before .if1 .left) (c .before .before .before .before .bounds .ensures _ _ _ (h .within .known .lent2)) (sym (c .before .before .before .replica-for .ensures) ∙ ap checked (c .before .t .given .1)))
+    let h = handed _ _ _ _ (c .before .before .before .before .before .before .before .before .before .before .before .before .before .held .ensures) (c .before .before .before .before .before .before .before .before .before .before .before .operands .given .1) in
+    let d = found _ _ (c .before .before .before .before .before .before .before .before .before .follow .ensures) (c .before .before .before .before .before .before .before .r .given .1) in
+    rw (writing-passed _ _ _ (c .before .before .before .before .before .before .before .before .before .before .before .before .before .before .before .before .before .args .field) h d (c .before .before .before .before .before .if1 .left) (c .before .before .before .before .bounds .ensures _ _ _ (h .holding .within .known .lent2)) (sym (c .before .before .before .replica-for .ensures) ∙ ap checked (c .before .t .given .1)))
 
 pub write-target-spec : {M : Type 1} → statement M
 write-target-spec =
@@ -93,14 +82,12 @@ write-target-spec =
     held-requires
     enum-known-n
     returns
-    enum-known-reference
+    enum-known-operands
     follow-requires
     enum-known-r
     enum-told
     returns-2
     returns-3
-    mul-session
-    element-copy-out-session
     bounds-requires
     replica-for-requires
     enum-known-t

@@ -1,0 +1,82 @@
+-- What a read answers: the tests in order, then the field's word.
+use Rattle.rules.proofs.Ranges.{fronts}
+use Rattle.heap.proofs.Soundness.{found, lost}
+use Rattle.store.proofs.Worked.{away, holds, read-refused}
+use Rattle.store.proofs.Followed.{read-lost, read-beyond, have-read, read-inside}
+use borrow.Author.Needs.{needs}
+use Rattle.store.proofs.Control.read_answer.Statement.{statement}
+use Rattle.store.proofs.Control.read_answer.Tie as tie
+
+held-requires : tie.Need-held-requires
+held-requires c κs = search needs
+
+enum-known-n : tie.Need-enum-known-n
+enum-known-n c = search needs
+
+returns : tie.Need-returns
+returns c = rw (read-refused _ _ _ (c .before .before .before .before .before .before .before .args .field) (away _ _ _ _ (c .before .before .before .held .ensures) (c .before .n .given .1)))
+
+enum-known-operands : tie.Need-enum-known-operands
+enum-known-operands c = search needs
+
+follow-requires : tie.Need-follow-requires
+follow-requires c κs =
+    let h = holds _ _ _ _ (c .before .before .before .held .ensures) (c .before .operands .given .1) in
+    fronts (h .within .known)
+
+enum-known-r : tie.Need-enum-known-r
+enum-known-r c = search needs
+
+enum-told : tie.Need-enum-told
+enum-told c = search needs
+
+returns-2 : tie.Need-returns-2
+returns-2 c =
+    let h = holds _ _ _ _ (c .before .before .before .before .before .before .held .ensures) (c .before .before .before .before .operands .given .1) in
+    rw (read-lost _ _ _ h (c .before .before .before .before .before .before .before .before .before .before .args .field) (lost _ _ (c .before .before .follow .ensures) (c .enum-told .given .1)))
+
+returns-3 : tie.Need-returns-3
+returns-3 c =
+    let h = holds _ _ _ _ (c .before .before .before .before .before .before .before .before .held .ensures) (c .before .before .before .before .before .before .operands .given .1) in
+    let d = found _ _ (c .before .before .before .before .follow .ensures) (c .before .before .r .given .1) in
+    rw (read-beyond _ _ _ h (c .before .before .before .before .before .before .before .before .before .before .before .before .args .field) d (c .if1 .taken))
+
+cast-get-word : tie.Need-cast-get-word
+cast-get-word c = search needs
+
+add-get-word : tie.Need-add-get-word
+add-get-word c = search needs
+
+add-get-word-2 : tie.Need-add-get-word-2
+add-get-word-2 c = search needs
+
+get-word-requires : tie.Need-get-word-requires
+get-word-requires c κs =
+    let h = holds _ _ _ _ (c .before .before .before .before .before .before .before .before .held .ensures) (c .before .before .before .before .before .before .operands .given .1) in
+    let d = found _ _ (c .before .before .before .before .follow .ensures) (c .before .before .r .given .1) in
+    read-inside _ _ _ h (c .before .before .before .before .before .before .before .before .before .before .before .before .args .field) d (c .if1 .left)
+
+returns-4 : tie.Need-returns-4
+returns-4 c =
+    let h = holds _ _ _ _ (c .before .before .before .before .before .before .before .before .before .held .ensures) (c .before .before .before .before .before .before .before .operands .given .1) in
+    let d = found _ _ (c .before .before .before .before .before .follow .ensures) (c .before .before .before .r .given .1) in
+    rw (have-read _ _ _ h (c .before .before .before .before .before .before .before .before .before .before .before .before .before .args .field) d (c .get-word .ensures _ _) (c .before .if1 .left))
+
+pub read-answer-spec : {M : Type 1} → statement M
+read-answer-spec =
+    tie.close
+    (tie.spec
+    held-requires
+    enum-known-n
+    returns
+    enum-known-operands
+    follow-requires
+    enum-known-r
+    enum-told
+    returns-2
+    returns-3
+    cast-get-word
+    add-get-word
+    add-get-word-2
+    get-word-requires
+    returns-4)
