@@ -8,5 +8,15 @@ pub mod Bodies
 pub mod Digits
 -- runs of stores
 pub mod Runs
--- one entry
+-- which bytes decide an entry, and where the next one begins
+pub mod Places
+-- that the turns come to a stop
+pub mod Stopping
+-- what one turn leaves, and how far the turns have come
 pub mod Turning
+-- that the turns write the lines of the script
+pub mod Writing
+-- turns over a part of the input are turns over the whole of it
+pub mod Buffer
+-- the output of turn after turn: the text of the script's lines
+pub mod Output

@@ -2,5 +2,5 @@
 pub mod Commands
 -- The lines of the output.
 pub mod Lines
--- One entry, and what is left after it.
+-- The entries one after another, and what is left after them.
 pub mod Turns

@@ -6,20 +6,25 @@ ghost use lib.ListN.{getD};
 ghost use Rattle.rules.specs.Script.{callOf, kindOf, bigEndian, entryAt};
 ghost use Rattle.script.specs.Commands.{calling, tested, found};
 
-// The call of an entry, a variant for each kind, with its arguments in the script's order.
-pub enum Command {
+// A call that touches no record, a variant for each kind, with its arguments in the script's order.
+pub enum SessionCall {
     Attach(u32),
     Detach(u32),
     SafePoint(u32),
+    Move(u32, u32, u32),
+    Clear(u32, u32),
+    Get(u32, u32, u32),
+}
+
+// The call of an entry: one that touches no record, or a variant for each other kind.
+pub enum Command {
+    Session(SessionCall),
     Allocate(u32, u32, u32, u32),
     Load(u32, u32, u32, u32),
     Store(u32, u32, u32, u32),
     Read(u32, u32, u32),
     Write(u32, u32, u32, u32),
-    Move(u32, u32, u32),
-    Clear(u32, u32),
     Same(u32, u32, u32),
-    Get(u32, u32, u32),
     Put(u32, u32, u32),
     Step,
 }
@@ -87,18 +92,18 @@ fn command_of(kind: u32, body: &[u8]) -> Command
     let b = byte(body, 3);
     let c = byte(body, 4);
     match kind {
-        1 => Command::Attach(s),
-        2 => Command::Detach(s),
-        3 => Command::SafePoint(s),
+        1 => Command::Session(SessionCall::Attach(s)),
+        2 => Command::Session(SessionCall::Detach(s)),
+        3 => Command::Session(SessionCall::SafePoint(s)),
         4 => Command::Allocate(s, a, b, c),
         5 => Command::Load(s, a, b, c),
         6 => Command::Store(s, a, b, c),
         7 => Command::Read(s, a, b),
         8 => Command::Write(s, a, b, value(body)),
-        9 => Command::Move(s, a, b),
-        10 => Command::Clear(s, a),
+        9 => Command::Session(SessionCall::Move(s, a, b)),
+        10 => Command::Session(SessionCall::Clear(s, a)),
         11 => Command::Same(s, a, b),
-        12 => Command::Get(s, a, b),
+        12 => Command::Session(SessionCall::Get(s, a, b)),
         13 => Command::Put(s, a, b),
         _ => Command::Step,
     }

@@ -1,13 +1,13 @@
 // The script: the entries of an input, the call of each, and the line that it gives.
 mod entries; // entries.rt: what stands at a place of the input
-mod calls; // calls.rt: the call of a command on the store
+mod calls; // calls.rt: the calls that touch no record
 mod lines; // lines.rt: the text of a line
-mod turns; // turns.rt: one entry, its call and its line
+mod turns; // turns.rt: the entries one after another, their calls and their lines
 
-pub use calls::perform;
 pub use entries::Command;
 pub use entries::Decoded;
 pub use entries::Parsed;
+pub use entries::SessionCall;
 pub use entries::decode;
 pub use entries::is_version;
 pub use entries::parse;
@@ -15,4 +15,4 @@ pub use lines::number_of;
 pub use lines::value_of;
 pub use lines::write_bad_version;
 pub use turns::Turn;
-pub use turns::take_turn;
+pub use turns::take_turns;

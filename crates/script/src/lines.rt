@@ -7,7 +7,7 @@ ghost use Rattle.rules.specs.Refusals.{numberOf, valueOf};
 ghost use Rattle.rules.specs.Script.{decimal, textOf};
 ghost use Rattle.script.specs.Lines.{line, longest, versionRefused, badVersion};
 
-// Puts a number's decimal digits at a place of the output and answers the place after them.
+// Puts a number's decimal digits at a place of the output, two at a time, and answers the place after them.
 fn write_decimal(out: &mut [u8], at: usize, n: u64) -> usize
     requires { ⌜ at + length (decimal n) ≤ length (now out) ⌝ }
     ensures end { λ r. ⌜ r ≡ at + length (decimal n) ⌝ }
@@ -17,9 +17,16 @@ fn write_decimal(out: &mut [u8], at: usize, n: u64) -> usize
         out[at] = 48 + n as u8;
         return at + 1;
     }
-    let last = write_decimal(out, at, n / 10);
-    out[last] = 48 + (n % 10) as u8;
-    last + 1
+    if n < 100 {
+        out[at] = 48 + (n / 10) as u8;
+        out[at + 1] = 48 + (n % 10) as u8;
+        return at + 2;
+    }
+    let last = write_decimal(out, at, n / 100);
+    let rest = n % 100;
+    out[last] = 48 + (rest / 10) as u8;
+    out[last + 1] = 48 + (rest % 10) as u8;
+    last + 2
 }
 
 // The refusal number of an answer, or 0.

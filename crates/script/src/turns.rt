@@ -1,113 +1,115 @@
-// One entry of a script: its call and its line.
+// The entries of a script, one after another: the call of each, and its line.
 ghost use mathlib.Core.Path.{_≡_};
-ghost use Prim.Native.Nat.{_+_, _≤_};
+ghost use Prim.Native.Nat.{_≤_};
 ghost use lib.ListN.{length};
 ghost use Rattle.store.specs.View.{view};
-ghost use Rattle.script.specs.Lines.{longest};
-ghost use Rattle.script.specs.Turns.{turned, turnAt, turnWithin};
+ghost use Rattle.script.specs.Turns.{turned, turns, begun};
+use crate::Command;
 use crate::Parsed;
+use crate::calls::call_session;
 use crate::lines::write_line;
 use crate::number_of;
 use crate::parse;
-use crate::perform;
 use crate::value_of;
 
 // No line is longer than this: 20, 10 and 20 digits, two spaces and a newline.
 const LONGEST: usize = 53;
 
-// What is left after an entry: the control record, the place of the next entry, the end of the output so far, and
-// whether there is more to do.
+// What is left after some entries: the control record, the place and the number of the next entry, the end of the output
+// so far, and whether there may be more to do.
 pub struct Turn {
     pub control: store::Control,
     pub at: usize,
+    pub number: u64,
     pub end: usize,
     pub more: bool,
 }
 
-// The entry that stands at a place of the input, its line having room in the output.
-fn write_turn(
-    control: store::Control,
+// Does the entries from a place of the input on, the first of them being entry number count: the call of each on the
+// store, and its line at the end of the output. Goes on until none begins before stop, one is 15, the input ends, the
+// output has not the room for any line, or the entry number can't be counted.
+pub fn take_turns(
+    mut control: store::Control,
     h0: &mut [u32],
     h1: &mut [u32],
     list: &mut [u32],
     input: &[u8],
-    at: usize,
-    number: u64,
+    first: usize,
+    stop: usize,
+    count: u64,
     out: &mut [u8],
-    end: usize,
-) -> Turn
-    requires { ⌜ end + longest ≤ length (now out) ⌝ }
-    ensures left { λ r. ⌜ turned r (now (h0 .exit)) (now (h1 .exit)) (now (list .exit)) (now (out .exit))
-        ≡ turnAt (view control (now (h0 .entry)) (now (h1 .entry)) (now (list .entry))) (now (input .entry)) at number (now (out .entry)) end ⌝ }
-    ensures short { λ r. ⌜ r .end ≤ end + longest ⌝ }
-{
-    let parsed = parse(input, at);
-    match parsed {
-        Parsed::Ended => Turn {
-            control,
-            at,
-            end,
-            more: false,
-        },
-        Parsed::Bad => {
-            let after = write_line(out, end, number, 15, 0);
-            Turn {
-                control,
-                at,
-                end: after,
-                more: false,
-            }
-        }
-        Parsed::Call(command, next) => {
-            let reply = perform(control, h0, h1, list, command);
-            let answer = reply.answer;
-            let refusal = number_of(answer);
-            let value = value_of(answer);
-            let after = write_line(out, end, number, refusal, value);
-            let left = reply.control;
-            Turn {
-                control: left,
-                at: next,
-                end: after,
-                more: true,
-            }
-        }
-    }
-}
-
-// Does the entry that stands at a place of the input: its call on the store, and its line at the end of the output. Where
-// the output has not the room for any line, nothing is done.
-pub fn take_turn(
-    control: store::Control,
-    h0: &mut [u32],
-    h1: &mut [u32],
-    list: &mut [u32],
-    input: &[u8],
-    at: usize,
-    number: u64,
-    out: &mut [u8],
-    end: usize,
+    start: usize,
 ) -> Turn
     ensures left { λ r. ⌜ turned r (now (h0 .exit)) (now (h1 .exit)) (now (list .exit)) (now (out .exit))
-        ≡ turnWithin (view control (now (h0 .entry)) (now (h1 .entry)) (now (list .entry))) (now (input .entry)) at number (now (out .entry)) end ⌝ }
-    ensures short { λ r. ⌜ r .end ≤ end + longest ⌝ }
+        ≡ turns stop stop (now (input .entry)) (begun (view control (now (h0 .entry)) (now (h1 .entry)) (now (list .entry))) first count (now (out .entry)) start) ⌝ }
+    ensures counted { λ r. ⌜ count ≤ r .number ⌝ }
+    ensures within { λ r. ⌜ (start ≤ length (now (out .entry)) → r .end ≤ length (now (out .exit))) ⌝ }
 {
+    let mut at = first;
+    let mut number = count;
+    let mut end = start;
     let size = out.len();
     if size < LONGEST {
         return Turn {
             control,
             at,
+            number,
             end,
-            more: false,
+            more: true,
         };
     }
-    if size - LONGEST < end {
-        return Turn {
-            control,
-            at,
-            end,
-            more: false,
-        };
+    let limit = size - LONGEST;
+    while (at < stop) & (end <= limit) & (number < u64::MAX) {
+        let parsed = parse(input, at);
+        match parsed {
+            Parsed::Ended => {
+                return Turn {
+                    control,
+                    at,
+                    number,
+                    end,
+                    more: false,
+                };
+            }
+            Parsed::Bad => {
+                let after = write_line(out, end, number, 15, 0);
+                return Turn {
+                    control,
+                    at,
+                    number,
+                    end: after,
+                    more: false,
+                };
+            }
+            Parsed::Call(command, next) => {
+                // The calls stand here since the control record is copied for each call of a function of ours.
+                let reply = match command {
+                    Command::Session(c) => call_session(control, h0, h1, list, c),
+                    Command::Allocate(s, k, r, p) => control.allocate(h0, h1, list, s, k, r, p),
+                    Command::Load(s, to, k, i) => control.load(h0, h1, list, s, to, k, i),
+                    Command::Store(s, k, i, from) => control.store(h0, h1, list, s, k, i, from),
+                    Command::Read(s, k, i) => control.read(h0, h1, list, s, k, i),
+                    Command::Write(s, k, i, a) => control.write(h0, h1, list, s, k, i, a),
+                    Command::Same(s, a, b) => control.same(h0, h1, list, s, a, b),
+                    Command::Put(s, g, from) => control.put(h0, h1, list, s, g, from),
+                    Command::Step => control.step(h0, h1, list),
+                };
+                let left = reply.control;
+                control = left;
+                let answer = reply.answer;
+                let refusal = number_of(answer);
+                let value = value_of(answer);
+                end = write_line(out, end, number, refusal, value);
+                at = next;
+                number += 1;
+            }
+        }
     }
-    write_turn(control, h0, h1, list, input, at, number, out, end)
+    Turn {
+        control,
+        at,
+        number,
+        end,
+        more: true,
+    }
 }

@@ -79,55 +79,16 @@ fn flush(out: &[u8], end: usize) -> usize
     0
 }
 
-// What is left after an entry: the control record, the window of the input, the end of the output, and whether there is
-// more to do.
-struct Progress {
-    control: store::Control,
-    at: usize,
-    filled: usize,
-    end: usize,
-    more: bool,
-}
-
-// One entry, with the input that it needs and room for its line.
-fn advance(
-    control: store::Control,
-    h0: &mut [u32],
-    h1: &mut [u32],
-    list: &mut [u32],
-    input: &mut [u8],
-    at: usize,
-    filled: usize,
-    number: u64,
-    out: &mut [u8],
-    end: usize,
-) -> Progress
-    requires { ⌜ (filled ≤ length (now input)) × (end ≤ length (now out)) × (53 ≤ length (now out)) ⌝ }
-    ensures { λ r. ⌜ (r .filled ≤ length (now (input .exit))) × (r .end ≤ length (now (out .exit))) ⌝ }
-{
-    let window = fetch(input, at, filled);
-    let start = window.at;
-    let full = window.filled;
-    let room = flush(out, end);
-    let turn = script::take_turn(
-        control,
-        h0,
-        h1,
-        list,
-        &input[..full],
-        start,
-        number,
-        out,
-        room,
-    );
-    let left = turn.control;
-    Progress {
-        control: left,
-        at: turn.at,
-        filled: full,
-        end: turn.end,
-        more: turn.more,
+// Where the entries that are wholly in the buffer stop: an entry that begins before this place has all its bytes there,
+// as far as the input has them.
+fn stop_of(filled: usize, size: usize) -> usize {
+    if filled < size {
+        return filled;
     }
+    if filled < LONGEST_ENTRY {
+        return filled;
+    }
+    filled - LONGEST_ENTRY + 1
 }
 
 // The entries of the input, from the first on, until the input ends or an entry is 15.
@@ -148,17 +109,26 @@ fn run(
     let mut end: usize = 0;
     let mut number: u64 = 1;
     while number < u64::MAX {
-        let left = advance(control, h0, h1, list, input, at, filled, number, out, end);
-        let next = left.control;
+        let window = fetch(input, at, filled);
+        let start = window.at;
+        filled = window.filled;
+        let room = flush(out, end);
+        let stop = stop_of(filled, input.len());
+        let part = &input[..filled];
+        let turn = script::take_turns(control, h0, h1, list, part, start, stop, number, out, room);
+        let next = turn.control;
         control = next;
-        at = left.at;
-        filled = left.filled;
-        end = left.end;
-        if !left.more {
+        at = turn.at;
+        end = turn.end;
+        if !turn.more {
             write_out(out, end);
             return;
         }
-        number += 1;
+        if turn.number == number {
+            write_out(out, end);
+            return;
+        }
+        number = turn.number;
     }
     write_out(out, end);
 }

@@ -1,35 +1,11 @@
 // The collector step.
 ghost use mathlib.Core.Path.{_≡_};
-ghost use mathlib.Core.Bool.{true};
-ghost use Rattle.rules.specs.Control.{inRange};
 ghost use Rattle.rules.specs.Runs.{apply, Step};
 ghost use Rattle.store.specs.View.{view, outcome};
-ghost use Rattle.store.specs.Steps.{stepped, unit};
 use crate::Control;
 use crate::Reply;
 
 impl Control {
-    // One unit of the phase's work.
-    fn unit(self, h0: &mut [u32], h1: &mut [u32], list: &mut [u32]) -> Reply
-        requires { ⌜ inRange (view self (now h0) (now h1) (now list)) ≡ true ⌝ }
-        ensures { λ r. ⌜ outcome r (now (h0 .exit)) (now (h1 .exit)) (now (list .exit))
-            ≡ stepped (view self (now (h0 .entry)) (now (h1 .entry)) (now (list .entry)))
-            (unit (view self (now (h0 .entry)) (now (h1 .entry)) (now (list .entry)))) ⌝ }
-    {
-        let phase = self.phase;
-        match phase {
-            0 => self.rest(),
-            3 => self.root_mark(h0, h1, list),
-            4 => self.heap_mark(h0, h1, list),
-            5 => self.allocate_shells(h0, h1),
-            7 => self.copy(h0, h1),
-            10 => self.root_flip(h0, h1),
-            11 => self.stack_flip(h0, h1),
-            12 => self.reclaim(h0, h1),
-            _ => self.handshake(),
-        }
-    }
-
     // Collector step: one unit of its phase, after the control record test.
     pub fn step(self, h0: &mut [u32], h1: &mut [u32], list: &mut [u32]) -> Reply
         ensures { λ r. ⌜ outcome r (now (h0 .exit)) (now (h1 .exit)) (now (list .exit))
@@ -43,6 +19,17 @@ impl Control {
                 answer: rules::Answer::Refused(4),
             };
         }
-        self.unit(h0, h1, list)
+        let phase = self.phase;
+        match phase {
+            0 => self.rest(),
+            3 => self.root_mark(h0, h1, list),
+            4 => self.heap_mark(h0, h1, list),
+            5 => self.allocate_shells(h0, h1),
+            7 => self.copy(h0, h1),
+            10 => self.root_flip(h0, h1),
+            11 => self.stack_flip(h0, h1),
+            12 => self.reclaim(h0, h1),
+            _ => self.handshake(),
+        }
     }
 }

@@ -1,9 +1,10 @@
--- The measure is the number: its tenth is less.
+-- The measure is the number: its hundredth is less.
 use native.Mathlib.Omega.{arith}
-use native.Mathlib.Nat.{div-lt-self}
+use native.Mathlib.Nat.{add-suc, add-zero}
 use borrow.Author.Needs.{needs}
-use Rattle.script.proofs.Digits.{decimal-one, one-long, one-longer, more-written, digit-small}
-use Prim.Native.Nat.{ℕ, _/_, _<_}
+use lib.ListN.{length-set}
+use Rattle.script.proofs.Digits.{decimal-one, decimal-two, one-long, two-long, two-longer, pair-written, digit-small, tenth-small, rest-small, hundredth-less}
+use Prim.Native.Nat.{ℕ, _%_, _<_}
 use borrow.Fn.Kinds.{In}
 use borrow.Fn.PlainCycle.{Measures, is, falls, and}
 use Rattle.script.proofs.lines.write_decimal.Reads as write-decimal
@@ -63,50 +64,133 @@ write-decimal-returns : (t : ℕ) → write-decimal-lts.Need-returns (
 ) (write-decimal-at t) write-decimal.Post
 write-decimal-returns t c = (omega (arith, one-long (c .if1 .taken)), rw (decimal-one (c .if1 .taken)))
 
-write-decimal-write-decimal-requires : (t : ℕ) → write-decimal-lts.Need-write-decimal-requires (
-  write-decimal-below t,
-  write-decimal.Post,
-) (write-decimal-at t) write-decimal.Post
-write-decimal-write-decimal-requires t c κs =
-    let less : c .before .before .before .args .n / 10 < c .before .before .before .args .n = div-lt-self (omega arith) (omega arith) in
-    (omega arith, omega (arith, one-longer (c .before .if1 .left)))
-
 write-decimal-cast-out-2 : (t : ℕ) → write-decimal-lts.Need-cast-out-2 (
   write-decimal-below t,
   write-decimal.Post,
 ) (write-decimal-at t) write-decimal.Post
-write-decimal-cast-out-2 t c = omega (arith, digit-small (c .before .before .before .before .before .before .args .n))
+write-decimal-cast-out-2 t c = omega (arith, tenth-small (c .if2 .taken))
 
 write-decimal-add-out-2 : (t : ℕ) → write-decimal-lts.Need-add-out-2 (
   write-decimal-below t,
   write-decimal.Post,
 ) (write-decimal-at t) write-decimal.Post
-write-decimal-add-out-2 t c = omega (arith, digit-small (c .before .before .before .before .before .before .args .n))
+write-decimal-add-out-2 t c = omega (arith, tenth-small (c .if2 .taken))
 
 write-decimal-slice-write-out-2 : (t : ℕ) → write-decimal-lts.Need-slice-write-out-2 (
   write-decimal-below t,
   write-decimal.Post,
 ) (write-decimal-at t) write-decimal.Post
-write-decimal-slice-write-out-2 t c = omega (arith, one-longer (c .before .before .before .before .if1 .left))
+write-decimal-slice-write-out-2 t c = omega (arith, two-long (c .before .if1 .left) (c .if2 .taken))
+
+write-decimal-cast-out-3 : (t : ℕ) → write-decimal-lts.Need-cast-out-3 (
+  write-decimal-below t,
+  write-decimal.Post,
+) (write-decimal-at t) write-decimal.Post
+write-decimal-cast-out-3 t c = omega (arith, digit-small (c .before .before .before .args .n))
+
+write-decimal-add-out-3 : (t : ℕ) → write-decimal-lts.Need-add-out-3 (
+  write-decimal-below t,
+  write-decimal.Post,
+) (write-decimal-at t) write-decimal.Post
+write-decimal-add-out-3 t c = omega (arith, digit-small (c .before .before .before .args .n))
+
+write-decimal-add-out-4 : (t : ℕ) → write-decimal-lts.Need-add-out-4 (
+  write-decimal-below t,
+  write-decimal.Post,
+) (write-decimal-at t) write-decimal.Post
+write-decimal-add-out-4 t c = omega (arith, two-long (c .before .if1 .left) (c .if2 .taken))
+
+write-decimal-slice-write-out-3 : (t : ℕ) → write-decimal-lts.Need-slice-write-out-3 (
+  write-decimal-below t,
+  write-decimal.Post,
+) (write-decimal-at t) write-decimal.Post
+write-decimal-slice-write-out-3 t c = rw length-set (omega (arith, two-long (c .before .if1 .left) (c .if2 .taken)))
 
 write-decimal-add-result-2 : (t : ℕ) → write-decimal-lts.Need-add-result-2 (
   write-decimal-below t,
   write-decimal.Post,
 ) (write-decimal-at t) write-decimal.Post
-write-decimal-add-result-2 t c = omega (arith, one-longer (c .before .before .before .before .if1 .left))
+write-decimal-add-result-2 t c = omega (arith, two-long (c .before .if1 .left) (c .if2 .taken))
 
 write-decimal-same-length-2 : (t : ℕ) → write-decimal-lts.Need-same-length-2 (
   write-decimal-below t,
   write-decimal.Post,
 ) (write-decimal-at t) write-decimal.Post
-write-decimal-same-length-2 t c = search needs
+write-decimal-same-length-2 t c = simp length-set
 
 write-decimal-returns-2 : (t : ℕ) → write-decimal-lts.Need-returns-2 (
   write-decimal-below t,
   write-decimal.Post,
 ) (write-decimal-at t) write-decimal.Post
-write-decimal-returns-2 t c =
-    (omega (arith, one-longer (c .before .before .before .before .if1 .left)), more-written (c .before .before .before .before .before .before .args .out .now) _ (c .before .before .before .before .if1 .left) (c .before .before .write-decimal .ensures .0) (c .before .before .write-decimal .ensures .1))
+write-decimal-returns-2 t c = (omega (arith, two-long (c .before .if1 .left) (c .if2 .taken)), rw (decimal-two (c .before .if1 .left) (c .if2 .taken), add-suc, add-zero))
+
+write-decimal-write-decimal-requires : (t : ℕ) → write-decimal-lts.Need-write-decimal-requires (
+  write-decimal-below t,
+  write-decimal.Post,
+) (write-decimal-at t) write-decimal.Post
+write-decimal-write-decimal-requires t c κs =
+    (omega (arith, hundredth-less (c .before .if2 .left)), omega (arith, two-longer (c .before .if2 .left)))
+
+write-decimal-cast-out-4 : (t : ℕ) → write-decimal-lts.Need-cast-out-4 (
+  write-decimal-below t,
+  write-decimal.Post,
+) (write-decimal-at t) write-decimal.Post
+write-decimal-cast-out-4 t c = omega (arith, tenth-small (rest-small (c .before .before .before .before .before .before .before .args .n)))
+
+write-decimal-add-out-5 : (t : ℕ) → write-decimal-lts.Need-add-out-5 (
+  write-decimal-below t,
+  write-decimal.Post,
+) (write-decimal-at t) write-decimal.Post
+write-decimal-add-out-5 t c = omega (arith, tenth-small (rest-small (c .before .before .before .before .before .before .before .args .n)))
+
+write-decimal-slice-write-out-4 : (t : ℕ) → write-decimal-lts.Need-slice-write-out-4 (
+  write-decimal-below t,
+  write-decimal.Post,
+) (write-decimal-at t) write-decimal.Post
+write-decimal-slice-write-out-4 t c = omega (arith, two-longer (c .before .before .before .before .if2 .left))
+
+write-decimal-cast-out-5 : (t : ℕ) → write-decimal-lts.Need-cast-out-5 (
+  write-decimal-below t,
+  write-decimal.Post,
+) (write-decimal-at t) write-decimal.Post
+write-decimal-cast-out-5 t c = omega (arith, digit-small (c .before .before .before .before .before .before .before .args .n % 100))
+
+write-decimal-add-out-6 : (t : ℕ) → write-decimal-lts.Need-add-out-6 (
+  write-decimal-below t,
+  write-decimal.Post,
+) (write-decimal-at t) write-decimal.Post
+write-decimal-add-out-6 t c = omega (arith, digit-small (c .before .before .before .before .before .before .before .args .n % 100))
+
+write-decimal-add-out-7 : (t : ℕ) → write-decimal-lts.Need-add-out-7 (
+  write-decimal-below t,
+  write-decimal.Post,
+) (write-decimal-at t) write-decimal.Post
+write-decimal-add-out-7 t c = omega (arith, two-longer (c .before .before .before .before .if2 .left))
+
+write-decimal-slice-write-out-5 : (t : ℕ) → write-decimal-lts.Need-slice-write-out-5 (
+  write-decimal-below t,
+  write-decimal.Post,
+) (write-decimal-at t) write-decimal.Post
+write-decimal-slice-write-out-5 t c = rw length-set (omega (arith, two-longer (c .before .before .before .before .if2 .left)))
+
+write-decimal-add-result-3 : (t : ℕ) → write-decimal-lts.Need-add-result-3 (
+  write-decimal-below t,
+  write-decimal.Post,
+) (write-decimal-at t) write-decimal.Post
+write-decimal-add-result-3 t c = omega (arith, two-longer (c .before .before .before .before .if2 .left))
+
+write-decimal-same-length-3 : (t : ℕ) → write-decimal-lts.Need-same-length-3 (
+  write-decimal-below t,
+  write-decimal.Post,
+) (write-decimal-at t) write-decimal.Post
+write-decimal-same-length-3 t c = simp length-set (search needs)
+
+write-decimal-returns-3 : (t : ℕ) → write-decimal-lts.Need-returns-3 (
+  write-decimal-below t,
+  write-decimal.Post,
+) (write-decimal-at t) write-decimal.Post
+write-decimal-returns-3 t c =
+    (omega (arith, two-longer (c .before .before .before .before .if2 .left)), pair-written (c .before .before .before .before .before .before .before .args .out .now) _ (c .before .before .before .before .if2 .left) (c .before .before .write-decimal .ensures .0) (c .before .before .write-decimal .ensures .1))
 
 pub +write-decimal-spec : {M : Type 1} → statement M
 +write-decimal-spec = close μ-write-decimal λ t. write-decimal-lts.spec (
@@ -121,10 +205,24 @@ pub +write-decimal-spec : {M : Type 1} → statement M
     (write-decimal-add-result t)
     (write-decimal-same-length t)
     (write-decimal-returns t)
-    (write-decimal-write-decimal-requires t)
     (write-decimal-cast-out-2 t)
     (write-decimal-add-out-2 t)
     (write-decimal-slice-write-out-2 t)
+    (write-decimal-cast-out-3 t)
+    (write-decimal-add-out-3 t)
+    (write-decimal-add-out-4 t)
+    (write-decimal-slice-write-out-3 t)
     (write-decimal-add-result-2 t)
     (write-decimal-same-length-2 t)
     (write-decimal-returns-2 t)
+    (write-decimal-write-decimal-requires t)
+    (write-decimal-cast-out-4 t)
+    (write-decimal-add-out-5 t)
+    (write-decimal-slice-write-out-4 t)
+    (write-decimal-cast-out-5 t)
+    (write-decimal-add-out-6 t)
+    (write-decimal-add-out-7 t)
+    (write-decimal-slice-write-out-5 t)
+    (write-decimal-add-result-3 t)
+    (write-decimal-same-length-3 t)
+    (write-decimal-returns-3 t)

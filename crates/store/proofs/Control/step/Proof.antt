@@ -1,4 +1,4 @@
--- Refused with 4, or one unit of the phase.
+-- Refused with 4, or one unit of the phase by its number; a phase that is none of the others only waits.
 use Prim.Native.Nat.{ℕ}
 use mathlib.Core.Path.{_≡_, _∙_, sym, refl}
 use mathlib.Core.Bool.{Bool, true, false}
@@ -8,7 +8,9 @@ use Rattle.rules.specs.Refusals.{passed, check, refusalOf, _>>_}
 use Rattle.rules.specs.Control.{Store, inRange}
 use Rattle.rules.specs.Phases.{sessionAt}
 use Rattle.rules.specs.Calls.{sessionOf}
-use Rattle.store.proofs.Units.{step-refused, step-done}
+use Rattle.rules.proofs.Ranges.{in-range}
+use Rattle.store.specs.View.{view}
+use Rattle.store.proofs.Units.{over-range, unit-of, unit-waits, waits, step-refused, step-done}
 use borrow.Author.Needs.{needs}
 use Rattle.store.proofs.Control.step.Statement.{statement}
 use Rattle.store.proofs.Control.step.Tie as tie
@@ -49,8 +51,32 @@ same-length-3 c = search needs
 returns : tie.Need-returns
 returns c = step-refused _ (out _ _ (c .before .session-tests .ensures) (c .if1 .taken))
 
-unit-requires : tie.Need-unit-requires
-unit-requires c κs = within _ _ (c .before .before .before .before .session-tests .ensures) (c .before .before .before .if1 .left)
+rest-requires : tie.Need-rest-requires
+rest-requires c κs = in-range _ (within _ _ (c .before .before .session-tests .ensures) (c .before .if1 .left)) .phases
+
+root-mark-requires : tie.Need-root-mark-requires
+root-mark-requires c κs = within _ _ (c .before .before .before .before .before .session-tests .ensures) (c .before .before .before .before .if1 .left)
+
+heap-mark-requires : tie.Need-heap-mark-requires
+heap-mark-requires c κs = within _ _ (c .before .before .before .before .before .session-tests .ensures) (c .before .before .before .before .if1 .left)
+
+allocate-shells-requires : tie.Need-allocate-shells-requires
+allocate-shells-requires c κs = over-range (c .before .before .before .before .before .before .before .before .before .before .before .args .self) _ _ (c .before .before .before .before .before .before .before .before .before .before .before .args .list .now) (within _ _ (c .before .before .before .before .session-tests .ensures) (c .before .before .before .if1 .left))
+
+copy-requires : tie.Need-copy-requires
+copy-requires c κs = over-range (c .before .before .before .before .before .before .before .before .before .before .before .args .self) _ _ (c .before .before .before .before .before .before .before .before .before .before .before .args .list .now) (within _ _ (c .before .before .before .before .session-tests .ensures) (c .before .before .before .if1 .left))
+
+root-flip-requires : tie.Need-root-flip-requires
+root-flip-requires c κs = over-range (c .before .before .before .before .before .before .before .before .before .before .before .args .self) _ _ (c .before .before .before .before .before .before .before .before .before .before .before .args .list .now) (within _ _ (c .before .before .before .before .session-tests .ensures) (c .before .before .before .if1 .left))
+
+stack-flip-requires : tie.Need-stack-flip-requires
+stack-flip-requires c κs = over-range (c .before .before .before .before .before .before .before .before .before .before .before .args .self) _ _ (c .before .before .before .before .before .before .before .before .before .before .before .args .list .now) (within _ _ (c .before .before .before .before .session-tests .ensures) (c .before .before .before .if1 .left))
+
+reclaim-requires : tie.Need-reclaim-requires
+reclaim-requires c κs = over-range (c .before .before .before .before .before .before .before .before .before .before .before .args .self) _ _ (c .before .before .before .before .before .before .before .before .before .before .before .args .list .now) (within _ _ (c .before .before .before .before .session-tests .ensures) (c .before .before .before .if1 .left))
+
+handshake-requires : tie.Need-handshake-requires
+handshake-requires c κs = in-range _ (within _ _ (c .before .before .session-tests .ensures) (c .before .if1 .left)) .phases
 
 same-length-4 : tie.Need-same-length-4
 same-length-4 c = search needs
@@ -62,7 +88,134 @@ same-length-6 : tie.Need-same-length-6
 same-length-6 c = search needs
 
 returns-2 : tie.Need-returns-2
-returns-2 c = step-done _ (within _ _ (c .before .before .before .before .before .before .before .before .before .before .before .session-tests .ensures) (c .before .before .before .before .before .before .before .before .before .before .if1 .left)) (c .before .before .before .before .before .before .unit .ensures)
+returns-2 c =
+    let a = c .before .before .before .before .before .before .before .before .before .before .args in
+    let s = view (a .self) (a .h0 .now) (a .h1 .now) (a .list .now) in
+    step-done s (within _ _ (c .before .before .before .session-tests .ensures) (c .before .before .if1 .left)) (unit-of s 0 (c .before .match .keys1) (c .rest .ensures _ _ _))
+
+same-length-7 : tie.Need-same-length-7
+same-length-7 c = search needs
+
+same-length-8 : tie.Need-same-length-8
+same-length-8 c = search needs
+
+same-length-9 : tie.Need-same-length-9
+same-length-9 c = search needs
+
+returns-3 : tie.Need-returns-3
+returns-3 c =
+    let a = c .before .before .before .before .before .before .before .before .before .before .before .before .before .before .before .before .before .before .before .args in
+    let s = view (a .self) (a .h0 .now) (a .h1 .now) (a .list .now) in
+    step-done s (within _ _ (c .before .before .before .before .before .before .before .before .before .before .before .before .session-tests .ensures) (c .before .before .before .before .before .before .before .before .before .before .before .if1 .left)) (unit-of s 3 (c .before .before .before .before .before .before .before .before .before .before .match .keys2) (c .before .before .before .before .before .before .root-mark .ensures))
+
+same-length-10 : tie.Need-same-length-10
+same-length-10 c = search needs
+
+same-length-11 : tie.Need-same-length-11
+same-length-11 c = search needs
+
+same-length-12 : tie.Need-same-length-12
+same-length-12 c = search needs
+
+returns-4 : tie.Need-returns-4
+returns-4 c =
+    let a = c .before .before .before .before .before .before .before .before .before .before .before .before .before .before .before .before .before .before .before .args in
+    let s = view (a .self) (a .h0 .now) (a .h1 .now) (a .list .now) in
+    step-done s (within _ _ (c .before .before .before .before .before .before .before .before .before .before .before .before .session-tests .ensures) (c .before .before .before .before .before .before .before .before .before .before .before .if1 .left)) (unit-of s 4 (c .before .before .before .before .before .before .before .before .before .before .match .keys3) (c .before .before .before .before .before .before .heap-mark .ensures))
+
+same-length-13 : tie.Need-same-length-13
+same-length-13 c = search needs
+
+same-length-14 : tie.Need-same-length-14
+same-length-14 c = search needs
+
+same-length-15 : tie.Need-same-length-15
+same-length-15 c = search needs
+
+returns-5 : tie.Need-returns-5
+returns-5 c =
+    let a = c .before .before .before .before .before .before .before .before .before .before .before .before .before .before .before .before .args in
+    let s = view (a .self) (a .h0 .now) (a .h1 .now) (a .list .now) in
+    step-done s (within _ _ (c .before .before .before .before .before .before .before .before .before .session-tests .ensures) (c .before .before .before .before .before .before .before .before .if1 .left)) (unit-of s 5 (c .before .before .before .before .before .before .before .match .keys4) (c .before .before .before .before .allocate-shells .ensures _))
+
+same-length-16 : tie.Need-same-length-16
+same-length-16 c = search needs
+
+same-length-17 : tie.Need-same-length-17
+same-length-17 c = search needs
+
+same-length-18 : tie.Need-same-length-18
+same-length-18 c = search needs
+
+returns-6 : tie.Need-returns-6
+returns-6 c =
+    let a = c .before .before .before .before .before .before .before .before .before .before .before .before .before .before .before .before .args in
+    let s = view (a .self) (a .h0 .now) (a .h1 .now) (a .list .now) in
+    step-done s (within _ _ (c .before .before .before .before .before .before .before .before .before .session-tests .ensures) (c .before .before .before .before .before .before .before .before .if1 .left)) (unit-of s 7 (c .before .before .before .before .before .before .before .match .keys5) (c .before .before .before .before .copy .ensures _))
+
+same-length-19 : tie.Need-same-length-19
+same-length-19 c = search needs
+
+same-length-20 : tie.Need-same-length-20
+same-length-20 c = search needs
+
+same-length-21 : tie.Need-same-length-21
+same-length-21 c = search needs
+
+returns-7 : tie.Need-returns-7
+returns-7 c =
+    let a = c .before .before .before .before .before .before .before .before .before .before .before .before .args in
+    let s = view (a .self) (a .h0 .now) (a .h1 .now) (a .list .now) in
+    step-done s (within _ _ (c .before .before .before .before .before .session-tests .ensures) (c .before .before .before .before .if1 .left)) (unit-of s 10 (c .before .before .before .match .keys6) (c .root-flip .ensures _))
+
+same-length-22 : tie.Need-same-length-22
+same-length-22 c = search needs
+
+same-length-23 : tie.Need-same-length-23
+same-length-23 c = search needs
+
+same-length-24 : tie.Need-same-length-24
+same-length-24 c = search needs
+
+returns-8 : tie.Need-returns-8
+returns-8 c =
+    let a = c .before .before .before .before .before .before .before .before .before .before .before .before .args in
+    let s = view (a .self) (a .h0 .now) (a .h1 .now) (a .list .now) in
+    step-done s (within _ _ (c .before .before .before .before .before .session-tests .ensures) (c .before .before .before .before .if1 .left)) (unit-of s 11 (c .before .before .before .match .keys7) (c .stack-flip .ensures _))
+
+same-length-25 : tie.Need-same-length-25
+same-length-25 c = search needs
+
+same-length-26 : tie.Need-same-length-26
+same-length-26 c = search needs
+
+same-length-27 : tie.Need-same-length-27
+same-length-27 c = search needs
+
+returns-9 : tie.Need-returns-9
+returns-9 c =
+    let a = c .before .before .before .before .before .before .before .before .before .before .before .before .before .before .before .before .args in
+    let s = view (a .self) (a .h0 .now) (a .h1 .now) (a .list .now) in
+    step-done s (within _ _ (c .before .before .before .before .before .before .before .before .before .session-tests .ensures) (c .before .before .before .before .before .before .before .before .if1 .left)) (unit-of s 12 (c .before .before .before .before .before .before .before .match .keys8) (c .before .before .before .before .reclaim .ensures _))
+
+same-length-28 : tie.Need-same-length-28
+same-length-28 c = search needs
+
+same-length-29 : tie.Need-same-length-29
+same-length-29 c = search needs
+
+same-length-30 : tie.Need-same-length-30
+same-length-30 c = search needs
+
+returns-10 : tie.Need-returns-10
+returns-10 c =
+    let a = c .before .before .before .before .before .before .before .before .before .before .args in
+    let s = view (a .self) (a .h0 .now) (a .h1 .now) (a .list .now) in
+    let r = c .before .match .rest in
+    step-done s (within _ _ (c .before .before .before .session-tests .ensures) (c .before .before .if1 .left))
+    (unit-waits s
+    (waits (a .self .phase) (r .0 .0 .0 .0 .0 .0 .0 .1) (r .0 .0 .0 .0 .0 .0 .1) (r .0 .0 .0 .0 .0 .1) (r .0 .0 .0 .0 .1) (r .0 .0 .0 .1) (r .0 .0 .1) (r .0 .1) (r .1))
+    (c .handshake .ensures _ _ _))
 
 pub step-spec : {M : Type 1} → statement M
 step-spec =
@@ -73,8 +226,48 @@ step-spec =
     same-length-2
     same-length-3
     returns
-    unit-requires
+    rest-requires
+    root-mark-requires
+    heap-mark-requires
+    allocate-shells-requires
+    copy-requires
+    root-flip-requires
+    stack-flip-requires
+    reclaim-requires
+    handshake-requires
     same-length-4
     same-length-5
     same-length-6
-    returns-2)
+    returns-2
+    same-length-7
+    same-length-8
+    same-length-9
+    returns-3
+    same-length-10
+    same-length-11
+    same-length-12
+    returns-4
+    same-length-13
+    same-length-14
+    same-length-15
+    returns-5
+    same-length-16
+    same-length-17
+    same-length-18
+    returns-6
+    same-length-19
+    same-length-20
+    same-length-21
+    returns-7
+    same-length-22
+    same-length-23
+    same-length-24
+    returns-8
+    same-length-25
+    same-length-26
+    same-length-27
+    returns-9
+    same-length-28
+    same-length-29
+    same-length-30
+    returns-10)
