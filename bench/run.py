@@ -5,10 +5,12 @@
 
 Needs `rt check` done, rustc and valgrind. Output must be byte-equal. It prints time, instructions per entry (callgrind), peak memory
 and the share of the Rust program's speed, side by side, and then how the cost of an entry grows with live records and with the
-halves' length.
+halves' length. For longer halves it proves and builds the script program once more, in a copy of the repository under target/ where
+the two arrays and the list of its `main` are longer and nothing else differs (about a minute).
 """
 import os
 import re
+import shutil
 import subprocess
 import sys
 import tempfile
@@ -18,14 +20,32 @@ from workloads import WORKLOADS, encode
 
 ROOT = os.path.join(os.path.dirname(os.path.abspath(__file__)), "..")
 OURS = os.path.join(ROOT, "target", "bin", "script_main")
-LARGE = os.path.join(ROOT, "target", "bin", "script_large")
 PLAIN = os.path.join(ROOT, "target", "bench", "plain")
+COPY = os.path.join(ROOT, "target", "bench", "longer")
+LONGER = os.path.join(COPY, "target", "bin", "script_main")
+LONG = 65536
 ENTRIES = 120000
 
 
 def build():
     os.makedirs(os.path.dirname(PLAIN), exist_ok=True)
     subprocess.run(["rustc", "-O", "-o", PLAIN, os.path.join(ROOT, "bench", "plain.rs")], check=True)
+
+
+def build_longer():
+    """The script program with halves of LONG words, proved and built in a copy of the repository."""
+    shutil.rmtree(COPY, ignore_errors=True)
+    for part in ("crates", os.path.join("target", "rlib"), os.path.join("target", "stamp")):
+        shutil.copytree(os.path.join(ROOT, part), os.path.join(COPY, part))
+    shutil.copy(os.path.join(ROOT, "crates.txt"), COPY)
+    source = os.path.join(COPY, "crates", "script_main", "src", "main.rt")
+    text = open(source).read()
+    for old, new in ((4096, LONG), (1365, LONG // 3)):
+        if f"[0u32; {old}]" not in text:
+            sys.exit(f"no array of {old} words in the program's main")
+        text = text.replace(f"[0u32; {old}]", f"[0u32; {new}]")
+    open(source, "w").write(text)
+    subprocess.run(["rt", "check", "script_main"], cwd=COPY, stdout=subprocess.DEVNULL, check=True)
 
 
 def run(command, data):
@@ -64,23 +84,18 @@ def compare(name, entries):
           f"{counts[0] / counts[1]:6.2f} {peaks[0]:7} {peaks[1]:7} {100 * times[1] / times[0]:6.0f}%")
 
 
-def growth():
-    print("\ninstructions per entry, ours / plain, by live records (halves of 4,096 words)")
+def growth(title, ours, plain, counts):
+    """Instructions per entry by the number of live records; the entries that make those records are in the count."""
+    print(f"\ninstructions per entry, ours / plain, by live records, {title}")
     for name, make in WORKLOADS.items():
         cells = []
-        for live in (10, 100, 250):
-            data, n = encode(make(40000, live)), 40000
-            cells.append(f"{live}: {instructions([OURS], data) / n:.0f} / {instructions([PLAIN], data) / n:.0f}")
+        for live in counts:
+            entries = make(40000 + 5 * live, live)
+            data = encode(entries)
+            if run(ours, data)[0] != run(plain, data)[0]:
+                sys.exit(f"{name}, {title}: the two programs write different lines")
+            cells.append(f"{live}: {instructions(ours, data) / len(entries):.0f} / {instructions(plain, data) / len(entries):.0f}")
         print(f"{name:28} " + "   ".join(cells))
-    if os.path.exists(LARGE):
-        print("\nthe same with halves of 65,536 words")
-        for name, make in WORKLOADS.items():
-            cells = []
-            for live in (10, 100, 4000):
-                entries = make(40000 + 5 * live, live)
-                data, n = encode(entries), len(entries)
-                cells.append(f"{live}: {instructions([LARGE], data) / n:.0f} / {instructions([PLAIN, '65536'], data) / n:.0f}")
-            print(f"{name:28} " + "   ".join(cells))
 
 
 def main():
@@ -88,7 +103,9 @@ def main():
     print(f"{'script':28} {'entries':>7} {'ms ours':>8} {'ms plain':>8} {'instr':>8} {'plain':>8} {'ratio':>6} {'KB ours':>7} {'KB':>7} {'speed':>7}")
     for name, make in WORKLOADS.items():
         compare(name, make(ENTRIES))
-    growth()
+    growth("halves of 4,096 words", [OURS], [PLAIN], (10, 100, 250))
+    build_longer()
+    growth("halves of 65,536 words", [LONGER], [PLAIN, str(LONG)], (10, 100, 250, 4000))
 
 
 if __name__ == "__main__":
