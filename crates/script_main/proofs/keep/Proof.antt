@@ -1,3 +1,4 @@
+-- Invariant: no more bytes are moved than are left, and those lie within the buffer.
 use Prim.Native.Nat.{_+_, _-_, _≤_}
 use mathlib.Core.Path.{_≡_, refl}
 use borrow.Author.Needs.{needs}

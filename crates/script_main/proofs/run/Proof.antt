@@ -1,3 +1,4 @@
+-- Invariant: what is filled lies within the input buffer, and the end within the output. The entry number grows, so the loop ends.
 use native.Mathlib.Omega.{arith}
 use Prim.Native.Nat.{_-_, _≤_}
 use mathlib.Core.Path.{_≡_}

@@ -1,3 +1,4 @@
+-- The part of the output that is written lies within it.
 use lib.Seq.{length-take-le}
 use borrow.Author.Needs.{needs}
 use Rattle.script_main.proofs.write_out.Statement.{statement}

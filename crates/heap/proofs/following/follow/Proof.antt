@@ -26,24 +26,41 @@ unfolding wordOf
 add-if2 c = omega (arith, c .before .before .word-of .ensures, c .before .before .before .before .before .before .fits .v)
 
 returns-2 : tie.Need-returns-2
-returns-2 c = follow-short _ _ _ _ _ (c .before .before .before .word-of .ensures) (c .before .before .half-of .ensures _ _) (c .before .frontier-of .ensures _ _) (c .if2 .taken)
+returns-2 c =
+    let c1 = c .before in
+    let c2 = c1 .before in
+    let c3 = c2 .before in
+    follow-short _ _ _ _ _ (c3 .word-of .ensures) (c2 .half-of .ensures _ _) (c1 .frontier-of .ensures _ _) (c .if2 .taken)
 
 mul-shape : tie.Need-mul-shape
 unfolding wordOf
 mul-shape c = omega (arith, c .before .before .before .word-of .ensures, c .before .before .before .before .before .before .before .fits .v)
 
 shared-slice-read-shape : tie.Need-shared-slice-read-shape
-shared-slice-read-shape c = omega (arith, ap length (c .before .before .before .half-of .ensures (c .before .before .before .before .before .before .before .before .args .f0) (c .before .before .before .before .before .before .before .before .args .f1)), c .before .before .frontier-of .ensures (c .before .before .before .before .before .before .before .before .args .h0 .now) (c .before .before .before .before .before .before .before .before .args .h1 .now), frontier-within (c .before .before .before .before .before .before .before .before .args .h0 .now) (c .before .before .before .before .before .before .before .before .args .h1 .now) (c .before .before .before .before .before .before .before .before .args .f0) (c .before .before .before .before .before .before .before .before .args .f1) (c .before .before .before .before .before .before .before .before .args .v) (c .before .before .before .before .before .before .before .before .pre .0) (c .before .before .before .before .before .before .before .before .pre .1))
+shared-slice-read-shape c =
+    let c1 = c .before .before in
+    let c2 = c1 .before in
+    let c3 = c2 .before .before .before .before .before in
+    let a = c3 .args in
+    omega (arith, ap length (c2 .half-of .ensures (a .f0) (a .f1)), c1 .frontier-of .ensures (a .h0 .now) (a .h1 .now), frontier-within (a .h0 .now) (a .h1 .now) (a .f0) (a .f1) (a .v) (c3 .pre .0) (c3 .pre .1))
 
 add-colour : tie.Need-add-colour
 add-colour c = search needs
 
 mul-colour : tie.Need-mul-colour
 unfolding wordOf
-mul-colour c = omega (arith, c .before .before .before .before .word-of .ensures, c .before .before .before .before .before .before .before .before .fits .v)
+mul-colour c =
+    let c1 = c .before .before .before .before in
+    let c2 = c1 .before .before .before .before in
+    omega (arith, c1 .word-of .ensures, c2 .fits .v)
 
 shared-slice-read-colour : tie.Need-shared-slice-read-colour
-shared-slice-read-colour c = omega (arith, ap length (c .before .before .before .before .half-of .ensures (c .before .before .before .before .before .before .before .before .before .args .f0) (c .before .before .before .before .before .before .before .before .before .args .f1)), c .before .before .before .frontier-of .ensures (c .before .before .before .before .before .before .before .before .before .args .h0 .now) (c .before .before .before .before .before .before .before .before .before .args .h1 .now), frontier-within (c .before .before .before .before .before .before .before .before .before .args .h0 .now) (c .before .before .before .before .before .before .before .before .before .args .h1 .now) (c .before .before .before .before .before .before .before .before .before .args .f0) (c .before .before .before .before .before .before .before .before .before .args .f1) (c .before .before .before .before .before .before .before .before .before .args .v) (c .before .before .before .before .before .before .before .before .before .pre .0) (c .before .before .before .before .before .before .before .before .before .pre .1))
+shared-slice-read-colour c =
+    let c1 = c .before .before .before in
+    let c2 = c1 .before in
+    let c3 = c2 .before .before .before .before .before in
+    let a = c3 .args in
+    omega (arith, ap length (c2 .half-of .ensures (a .f0) (a .f1)), c1 .frontier-of .ensures (a .h0 .now) (a .h1 .now), frontier-within (a .h0 .now) (a .h1 .now) (a .f0) (a .f1) (a .v) (c3 .pre .0) (c3 .pre .1))
 
 add-end : tie.Need-add-end
 add-end c = search needs
@@ -54,20 +71,38 @@ cast-end c = omega (arith, c .before .shared-slice-known3 .given (c .before .bef
 
 add-end-2 : tie.Need-add-end-2
 unfolding wordOf
-add-end-2 c = omega (arith, c .before .before .before .before .before .word-of .ensures, c .before .before .before .before .before .before .before .before .before .fits .v, c .before .shared-slice-known3 .given (c .before .before .before .before .before .word-of .result))
+add-end-2 c =
+    let c1 = c .before in
+    let c2 = c1 .before .before .before .before in
+    let c3 = c2 .before .before .before .before in
+    omega (arith, c2 .word-of .ensures, c3 .fits .v, c1 .shared-slice-known3 .given (c2 .word-of .result))
 
 cast-end-2 : tie.Need-cast-end-2
 cast-end-2 c = search needs
 
 add-end-3 : tie.Need-add-end-3
 unfolding wordOf
-add-end-3 c = omega (arith, c .before .before .before .before .before .word-of .ensures, c .before .before .before .before .before .before .before .before .before .fits .v, c .before .shared-slice-known3 .given (c .before .before .before .before .before .word-of .result))
+add-end-3 c =
+    let c1 = c .before in
+    let c2 = c1 .before .before .before .before in
+    let c3 = c2 .before .before .before .before in
+    omega (arith, c2 .word-of .ensures, c3 .fits .v, c1 .shared-slice-known3 .given (c2 .word-of .result))
 
 returns-3 : tie.Need-returns-3
-returns-3 c = follow-sound _ _ _ _ _ (c .before .before .before .before .before .before .word-of .ensures) (c .before .before .before .before .before .half-of .ensures _ _) (c .before .before .before .before .frontier-of .ensures _ _) (c .before .before .before .before .before .before .before .if1 .left) (c .if3 .taken)
+returns-3 c =
+    let c1 = c .before .before .before .before in
+    let c2 = c1 .before in
+    let c3 = c2 .before in
+    let c4 = c3 .before in
+    follow-sound _ _ _ _ _ (c3 .word-of .ensures) (c2 .half-of .ensures _ _) (c1 .frontier-of .ensures _ _) (c4 .if1 .left) (c .if3 .taken)
 
 returns-4 : tie.Need-returns-4
-returns-4 c = follow-damage _ _ _ _ _ (c .before .before .before .before .before .before .word-of .ensures) (c .before .before .before .before .before .half-of .ensures _ _) (c .before .before .before .before .frontier-of .ensures _ _) (c .before .before .before .before .before .before .before .if1 .left) (c .if3 .left)
+returns-4 c =
+    let c1 = c .before .before .before .before in
+    let c2 = c1 .before in
+    let c3 = c2 .before in
+    let c4 = c3 .before in
+    follow-damage _ _ _ _ _ (c3 .word-of .ensures) (c2 .half-of .ensures _ _) (c1 .frontier-of .ensures _ _) (c4 .if1 .left) (c .if3 .left)
 
 pub follow-spec : {M : Type 1} → statement M
 follow-spec =

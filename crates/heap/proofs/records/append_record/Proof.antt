@@ -39,13 +39,21 @@ same-length : tie.Need-same-length
 same-length c = search needs
 
 returns : tie.Need-returns
-returns c = λ f0 f1. placed-low _ _ f0 f1 _ _ _ _ _ _ (room-low _ _ 0 0 _ _ _ (c .before .before .before .before .before .before .before .pre) (c .before .before .before .before .if1 .taken)) (c .before .before .before .before .if1 .taken) (c .before .before .write-record .ensures)
+returns c =
+    let c1 = c .before .before in
+    let c2 = c1 .before .before in
+    let c3 = c2 .before .before .before in
+    λ f0 f1. placed-low _ _ f0 f1 _ _ _ _ _ _ (room-low _ _ 0 0 _ _ _ (c3 .pre) (c2 .if1 .taken)) (c2 .if1 .taken) (c1 .write-record .ensures)
 
 same-length-2 : tie.Need-same-length-2
 same-length-2 c = search needs
 
 returns-2 : tie.Need-returns-2
-returns-2 c = λ f0 f1. placed-high _ _ f0 f1 _ _ _ _ _ _ (room-high _ _ 0 0 _ _ _ (c .before .before .before .before .before .before .before .pre) (c .before .before .before .before .if1 .left)) (c .before .before .before .before .if1 .left) (c .before .before .write-record2 .ensures)
+returns-2 c =
+    let c1 = c .before .before in
+    let c2 = c1 .before .before in
+    let c3 = c2 .before .before .before in
+    λ f0 f1. placed-high _ _ f0 f1 _ _ _ _ _ _ (room-high _ _ 0 0 _ _ _ (c3 .pre) (c2 .if1 .left)) (c2 .if1 .left) (c1 .write-record2 .ensures)
 
 pub append-record-spec : {M : Type 1} → statement M
 append-record-spec =

@@ -24,13 +24,26 @@ returns-2 : tie.Need-returns-2
 returns-2 c = shade-damage _ _ (c .before .before .follow .ensures) (c .before .before .before .if1 .left) (c .enum-told2 .given .1)
 
 get-word-requires : tie.Need-get-word-requires
-get-word-requires c κs = header-inside _ _ _ _ _ (found _ _ (c .before .before .follow .ensures) (c .enum-told .given .1) .sound) (c .before .before .before .before .before .before .pre .low) (c .before .before .before .before .before .before .pre .high) 1 (search needs)
+get-word-requires c κs =
+    let c1 = c .before .before in
+    let c2 = c1 .before .before .before .before in
+    header-inside _ _ _ _ _ (found _ _ (c1 .follow .ensures) (c .enum-told .given .1) .sound) (c2 .pre .low) (c2 .pre .high) 1 (search needs)
 
 returns-3 : tie.Need-returns-3
-returns-3 c = shade-white _ _ (c .before .before .before .before .follow .ensures) (c .before .before .enum-told .given .1) (c .before .before .before .before .before .if1 .left) (c .before .get-word .ensures _ _) (c .if2 .taken)
+returns-3 c =
+    let c1 = c .before in
+    let c2 = c1 .before in
+    let c3 = c2 .before .before in
+    let c4 = c3 .before in
+    shade-white _ _ (c3 .follow .ensures) (c2 .enum-told .given .1) (c4 .if1 .left) (c1 .get-word .ensures _ _) (c .if2 .taken)
 
 returns-4 : tie.Need-returns-4
-returns-4 c = shade-other _ _ (c .before .before .before .before .follow .ensures) (c .before .before .enum-told .given .1) (c .before .before .before .before .before .if1 .left) (c .before .get-word .ensures _ _) (c .if2 .left)
+returns-4 c =
+    let c1 = c .before in
+    let c2 = c1 .before in
+    let c3 = c2 .before .before in
+    let c4 = c3 .before in
+    shade-other _ _ (c3 .follow .ensures) (c2 .enum-told .given .1) (c4 .if1 .left) (c1 .get-word .ensures _ _) (c .if2 .left)
 
 pub to-shade-spec : {M : Type 1} → statement M
 to-shade-spec =

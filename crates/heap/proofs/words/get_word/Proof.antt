@@ -14,13 +14,23 @@ half-of-requires : tie.Need-half-of-requires
 half-of-requires c κs = search needs
 
 add-result : tie.Need-add-result
-add-result c = let e = ap length (c .half-of .ensures 0 0) in omega (arith, c .before .before .before .before .pre .below, c .before .word-of .ensures)
+add-result c =
+    let c1 = c .before in
+    let c2 = c1 .before .before .before in
+    let e = ap length (c .half-of .ensures 0 0) in omega (arith, c2 .pre .below, c1 .word-of .ensures)
 
 mul-result : tie.Need-mul-result
-mul-result c = let e = ap length (c .half-of .ensures 0 0) in omega (arith, c .before .before .before .before .pre .below, c .before .word-of .ensures)
+mul-result c =
+    let c1 = c .before in
+    let c2 = c1 .before .before .before in
+    let e = ap length (c .half-of .ensures 0 0) in omega (arith, c2 .pre .below, c1 .word-of .ensures)
 
 shared-slice-read-result : tie.Need-shared-slice-read-result
-shared-slice-read-result c = let e = ap length (c .before .half-of .ensures 0 0) in omega (arith, c .before .before .before .before .before .pre .below, c .before .before .word-of .ensures)
+shared-slice-read-result c =
+    let c1 = c .before in
+    let c2 = c1 .before in
+    let c3 = c2 .before .before .before in
+    let e = ap length (c1 .half-of .ensures 0 0) in omega (arith, c3 .pre .below, c2 .word-of .ensures)
 
 returns : tie.Need-returns
 unfolding word

@@ -1,3 +1,4 @@
+-- Each call by its own contract.
 use borrow.Author.Needs.{needs}
 use borrow.Author.Needs.{needs}
 use Rattle.script.proofs.calls.call_session.Statement.{statement}

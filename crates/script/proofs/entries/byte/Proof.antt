@@ -1,3 +1,4 @@
+-- A byte of the body, or 0 past its end.
 use native.Mathlib.Omega.{arith}
 use mathlib.Core.Path.{refl, sym}
 use borrow.Author.Needs.{needs}

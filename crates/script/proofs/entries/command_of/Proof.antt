@@ -1,3 +1,4 @@
+-- The kinds 1 to 14, one after another.
 use Prim.Native.Nat.{_≤_}
 use Rattle.script.proofs.Sizes.{above}
 use mathlib.Core.Path.{_≡_}
@@ -40,32 +41,54 @@ returns-3 c =
 returns-4 : tie.Need-returns-4
 unfolding kindOf kinds
 returns-4 c =
-    rw (c .match .keys4, c .before .before .before .before .byte .ensures .0, c .before .before .before .byte2 .ensures .0, c .before .before .byte3 .ensures .0, c .before .byte4 .ensures .0)
+    let c1 = c .before in
+    let c2 = c1 .before in
+    let c3 = c2 .before in
+    let c4 = c3 .before in
+    rw (c .match .keys4, c4 .byte .ensures .0, c3 .byte2 .ensures .0, c2 .byte3 .ensures .0, c1 .byte4 .ensures .0)
 
 returns-5 : tie.Need-returns-5
 unfolding kindOf kinds
 returns-5 c =
-    rw (c .match .keys5, c .before .before .before .before .byte .ensures .0, c .before .before .before .byte2 .ensures .0, c .before .before .byte3 .ensures .0, c .before .byte4 .ensures .0)
+    let c1 = c .before in
+    let c2 = c1 .before in
+    let c3 = c2 .before in
+    let c4 = c3 .before in
+    rw (c .match .keys5, c4 .byte .ensures .0, c3 .byte2 .ensures .0, c2 .byte3 .ensures .0, c1 .byte4 .ensures .0)
 
 returns-6 : tie.Need-returns-6
 unfolding kindOf kinds
 returns-6 c =
-    rw (c .match .keys6, c .before .before .before .before .byte .ensures .0, c .before .before .before .byte2 .ensures .0, c .before .before .byte3 .ensures .0, c .before .byte4 .ensures .0)
+    let c1 = c .before in
+    let c2 = c1 .before in
+    let c3 = c2 .before in
+    let c4 = c3 .before in
+    rw (c .match .keys6, c4 .byte .ensures .0, c3 .byte2 .ensures .0, c2 .byte3 .ensures .0, c1 .byte4 .ensures .0)
 
 returns-7 : tie.Need-returns-7
 unfolding kindOf kinds
 returns-7 c =
-    rw (c .match .keys7, c .before .before .before .before .byte .ensures .0, c .before .before .before .byte2 .ensures .0, c .before .before .byte3 .ensures .0)
+    let c1 = c .before .before in
+    let c2 = c1 .before in
+    let c3 = c2 .before in
+    rw (c .match .keys7, c3 .byte .ensures .0, c2 .byte2 .ensures .0, c1 .byte3 .ensures .0)
 
 returns-8 : tie.Need-returns-8
 unfolding kindOf kinds
 returns-8 c =
-    rw (c .before .match .keys8, c .value .ensures, c .before .before .before .before .before .byte .ensures .0, c .before .before .before .before .byte2 .ensures .0, c .before .before .before .byte3 .ensures .0)
+    let c1 = c .before in
+    let c2 = c1 .before .before in
+    let c3 = c2 .before in
+    let c4 = c3 .before in
+    rw (c1 .match .keys8, c .value .ensures, c4 .byte .ensures .0, c3 .byte2 .ensures .0, c2 .byte3 .ensures .0)
 
 returns-9 : tie.Need-returns-9
 unfolding kindOf kinds
 returns-9 c =
-    rw (c .match .keys9, c .before .before .before .before .byte .ensures .0, c .before .before .before .byte2 .ensures .0, c .before .before .byte3 .ensures .0)
+    let c1 = c .before .before in
+    let c2 = c1 .before in
+    let c3 = c2 .before in
+    rw (c .match .keys9, c3 .byte .ensures .0, c2 .byte2 .ensures .0, c1 .byte3 .ensures .0)
 
 returns-10 : tie.Need-returns-10
 unfolding kindOf kinds
@@ -75,23 +98,33 @@ returns-10 c =
 returns-11 : tie.Need-returns-11
 unfolding kindOf kinds
 returns-11 c =
-    rw (c .match .keys11, c .before .before .before .before .byte .ensures .0, c .before .before .before .byte2 .ensures .0, c .before .before .byte3 .ensures .0)
+    let c1 = c .before .before in
+    let c2 = c1 .before in
+    let c3 = c2 .before in
+    rw (c .match .keys11, c3 .byte .ensures .0, c2 .byte2 .ensures .0, c1 .byte3 .ensures .0)
 
 returns-12 : tie.Need-returns-12
 unfolding kindOf kinds
 returns-12 c =
-    rw (c .match .keys12, c .before .before .before .before .byte .ensures .0, c .before .before .before .byte2 .ensures .0, c .before .before .byte3 .ensures .0)
+    let c1 = c .before .before in
+    let c2 = c1 .before in
+    let c3 = c2 .before in
+    rw (c .match .keys12, c3 .byte .ensures .0, c2 .byte2 .ensures .0, c1 .byte3 .ensures .0)
 
 returns-13 : tie.Need-returns-13
 unfolding kindOf kinds
 returns-13 c =
-    rw (c .match .keys13, c .before .before .before .before .byte .ensures .0, c .before .before .before .byte2 .ensures .0, c .before .before .byte3 .ensures .0)
+    let c1 = c .before .before in
+    let c2 = c1 .before in
+    let c3 = c2 .before in
+    rw (c .match .keys13, c3 .byte .ensures .0, c2 .byte2 .ensures .0, c1 .byte3 .ensures .0)
 
 returns-14 : tie.Need-returns-14
 unfolding kindOf kinds
 returns-14 c =
-    let last : c .before .before .before .before .before .before .args .kind ≡ 14 =
-    let least : 14 ≤ c .before .before .before .before .before .before .args .kind = above (above (above (above (above (above (above (above (above (above (above (above (above (c .before .before .before .before .before .before .pre .0) (c .match .rest .0 .0 .0 .0 .0 .0 .0 .0 .0 .0 .0 .0 .1)) (c .match .rest .0 .0 .0 .0 .0 .0 .0 .0 .0 .0 .0 .1)) (c .match .rest .0 .0 .0 .0 .0 .0 .0 .0 .0 .0 .1)) (c .match .rest .0 .0 .0 .0 .0 .0 .0 .0 .0 .1)) (c .match .rest .0 .0 .0 .0 .0 .0 .0 .0 .1)) (c .match .rest .0 .0 .0 .0 .0 .0 .0 .1)) (c .match .rest .0 .0 .0 .0 .0 .0 .1)) (c .match .rest .0 .0 .0 .0 .0 .1)) (c .match .rest .0 .0 .0 .0 .1)) (c .match .rest .0 .0 .0 .1)) (c .match .rest .0 .0 .1)) (c .match .rest .0 .1)) (c .match .rest .1) in
+    let c1 = c .before .before .before .before .before .before in
+    let last : c1 .args .kind ≡ 14 =
+    let least : 14 ≤ c1 .args .kind = above (above (above (above (above (above (above (above (above (above (above (above (above (c1 .pre .0) (c .match .rest .0 .0 .0 .0 .0 .0 .0 .0 .0 .0 .0 .0 .1)) (c .match .rest .0 .0 .0 .0 .0 .0 .0 .0 .0 .0 .0 .1)) (c .match .rest .0 .0 .0 .0 .0 .0 .0 .0 .0 .0 .1)) (c .match .rest .0 .0 .0 .0 .0 .0 .0 .0 .0 .1)) (c .match .rest .0 .0 .0 .0 .0 .0 .0 .0 .1)) (c .match .rest .0 .0 .0 .0 .0 .0 .0 .1)) (c .match .rest .0 .0 .0 .0 .0 .0 .1)) (c .match .rest .0 .0 .0 .0 .0 .1)) (c .match .rest .0 .0 .0 .0 .1)) (c .match .rest .0 .0 .0 .1)) (c .match .rest .0 .0 .1)) (c .match .rest .0 .1)) (c .match .rest .1) in
     omega arith
     in
     rw last

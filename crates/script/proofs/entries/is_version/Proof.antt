@@ -1,3 +1,4 @@
+-- The first byte compared with 1.
 use borrow.Author.Needs.{needs}
 use Rattle.script.proofs.entries.is_version.Statement.{statement}
 use Rattle.script.proofs.entries.is_version.Tie as tie

@@ -1,3 +1,4 @@
+-- The end of the input, a cut entry, or a body that is decoded.
 use native.Mathlib.Omega.{arith}
 use borrow.Author.Tests.{le-leb}
 use Rattle.rules.specs.Script.{entryAt}
@@ -49,11 +50,18 @@ enum-told c = search needs
 
 returns-3 : tie.Need-returns-3
 returns-3 c =
-    rw (whole _ _ (c .before .before .before .before .before .before .before .if1 .left) (c .before .before .before .before .before .if2 .left), ← c .before .before .before .decode .ensures, c .before .command .given .1)
+    let c1 = c .before in
+    let c2 = c1 .before .before in
+    let c3 = c2 .before .before in
+    let c4 = c3 .before .before in
+    rw (whole _ _ (c4 .if1 .left) (c3 .if2 .left), ← c2 .decode .ensures, c1 .command .given .1)
 
 returns-4 : tie.Need-returns-4
 returns-4 c =
-    rw (whole _ _ (c .before .before .before .before .before .before .if1 .left) (c .before .before .before .before .if2 .left), ← c .before .before .decode .ensures, c .enum-told .given .1)
+    let c1 = c .before .before in
+    let c2 = c1 .before .before in
+    let c3 = c2 .before .before in
+    rw (whole _ _ (c3 .if1 .left) (c2 .if2 .left), ← c1 .decode .ensures, c .enum-told .given .1)
 
 pub parse-spec : {M : Type 1} → statement M
 parse-spec =

@@ -1,6 +1,8 @@
-use Prim.Native.Nat.{_+_, _-_}
+-- Invariant: the turns still to take from here give what all of them give. At the place where the arms meet, the call was the entry's.
+use Prim.Native.Nat.{ℕ, _+_, _-_}
 use mathlib.Core.Path.{_≡_, refl, sym, ap, _∙_}
 use mathlib.Core.Logic.{⊎-elim}
+use mathlib.Core.List.{List}
 use native.Mathlib.Omega.{arith}
 use borrow.Author.Needs.{needs}
 use lib.ListN.{length}
@@ -24,12 +26,8 @@ abbrev μ-loop : tie.MeasureT-loop
 -- where the turns began, and how far they have come
 abbrev x₀ : tie.At-loop Inv-loop μ-loop → Left
 x₀ d =
-    begun
-    (view (d .before .before .before .before .before .before .before .args .control) (d .before .before .before .before .before .before .before .args .h0 .now) (d .before .before .before .before .before .before .before .args .h1 .now) (d .before .before .before .before .before .before .before .args .list .now))
-    (d .before .before .before .before .before .before .before .args .first)
-    (d .before .before .before .before .before .before .before .args .count)
-    (d .before .before .before .before .before .before .before .args .out .now)
-    (d .before .before .before .before .before .before .before .args .start)
+    let a = d .before .before .before .before .before .before .before .args in
+    begun (view (a .control) (a .h0 .now) (a .h1 .now) (a .list .now)) (a .first) (a .count) (a .out .now) (a .start)
 
 abbrev x : tie.At-loop Inv-loop μ-loop → Left
 x d =
@@ -40,11 +38,21 @@ x d =
     (d .loop .out)
     (d .loop .end)
 
-a-turn : (c : tie.In-loop Inv-loop μ-loop) → Open (c .before .before .before .before .before .before .before .before .args .input .now) (c .before .before .before .before .before .before .before .before .args .stop) (x₀ (c .before)) (x (c .before))
-a-turn c = opened _ _ _ _ _ _ _ _ _ (c .before .loop .inv .0) (c .before .loop .inv .1) (c .loop-test .taken)
+-- the input, and the place to stop at
+abbrev input : tie.At-loop Inv-loop μ-loop → List ℕ
+input d = d .before .before .before .before .before .before .before .args .input .now
+
+abbrev stop : tie.At-loop Inv-loop μ-loop → ℕ
+stop d = d .before .before .before .before .before .before .before .args .stop
+
+a-turn : (c : tie.In-loop Inv-loop μ-loop) → Open (input (c .before)) (stop (c .before)) (x₀ (c .before)) (x (c .before))
+a-turn c =
+    let c1 = c .before in
+    opened _ _ _ _ _ _ _ _ _ (c1 .loop .inv .0) (c1 .loop .inv .1) (c .loop-test .taken)
 
 -- what stands at the place
-stands : (c : tie.After-parsed Inv-loop μ-loop) → entryAt (c .before .before .before .before .before .before .before .before .before .before .before .args .input .now) (c .before .before .before .before .loop .at) ≡ call (calling (c .parsed .given .0 .0)) (c .parsed .given .0 .1 .0)
+stands : (c : tie.After-parsed Inv-loop μ-loop) → let d = c .before .before .before .before in
+    entryAt (input d) (d .loop .at) ≡ call (calling (c .parsed .given .0 .0)) (c .parsed .given .0 .1 .0)
 stands c = sym (c .before .before .parse .ensures) ∙ ap found (c .parsed .given .1)
 
 -- by whichever arm: the call was the entry's
@@ -87,7 +95,10 @@ joined c =
     (c .match2 .came)
 
 returns : tie.Need-returns Inv-loop μ-loop
-returns c = (full (c .before .before .before .before .before .before .args .stop) (c .before .before .before .before .before .before .args .stop) (c .before .before .before .before .before .before .args .input .now) _ _ _ _ _ (c .if1 .taken), (search needs, λ l. l))
+returns c =
+    let c1 = c .before .before .before .before .before .before in
+    let a = c1 .args in
+    (full (a .stop) (a .stop) (a .input .now) _ _ _ _ _ (c .if1 .taken), (search needs, λ l. l))
 
 loop-holds : tie.Need-loop-holds Inv-loop μ-loop
 loop-holds c = (begin _ _ _, search needs, refl, refl, refl, refl)
@@ -112,8 +123,10 @@ same-length-4 c = search needs
 
 returns-2 : tie.Need-returns-2 Inv-loop μ-loop
 returns-2 c =
-    let turn = a-turn (c .before .before .before) in
-    (ends _ _ _ _ turn _ (turn-ended _ _ _ _ _ _ (sym (c .before .before .parse .ensures) ∙ ap found (c .enum-told .given .1))) refl, (turn .progress .counted, turn .progress .within))
+    let c1 = c .before .before in
+    let c2 = c1 .before in
+    let turn = a-turn c2 in
+    (ends _ _ _ _ turn _ (turn-ended _ _ _ _ _ _ (sym (c1 .parse .ensures) ∙ ap found (c .enum-told .given .1))) refl, (turn .progress .counted, turn .progress .within))
 
 enum-told-2 : tie.Need-enum-told-2 Inv-loop μ-loop
 enum-told-2 c = search needs
@@ -135,9 +148,13 @@ same-length-8 c = search needs
 
 returns-3 : tie.Need-returns-3 Inv-loop μ-loop
 returns-3 c =
-    let turn = a-turn (c .before .before .before .before .before .before .before) in
-    let line = c .before .before .write-line in
-    (ends _ _ _ _ turn _ (turn-bad _ _ _ _ _ _ (sym (c .before .before .before .before .before .before .parse .ensures) ∙ ap found (c .before .before .before .before .enum-told2 .given .1)) (line .ensures .0) (line .ensures .1 .0)) refl, (turn .progress .counted, λ h. omega (arith, line .ensures .1 .1, line .kept, turn .room)))
+    let c1 = c .before .before in
+    let c2 = c1 .before .before in
+    let c3 = c2 .before .before in
+    let c4 = c3 .before in
+    let turn = a-turn c4 in
+    let line = c1 .write-line in
+    (ends _ _ _ _ turn _ (turn-bad _ _ _ _ _ _ (sym (c3 .parse .ensures) ∙ ap found (c2 .enum-told2 .given .1)) (line .ensures .0) (line .ensures .1 .0)) refl, (turn .progress .counted, λ h. omega (arith, line .ensures .1 .1, line .kept, turn .room)))
 
 enum-known-parsed : tie.Need-enum-known-parsed Inv-loop μ-loop
 enum-known-parsed c = search needs
@@ -209,16 +226,26 @@ add-number : tie.Need-add-number Inv-loop μ-loop
 add-number c = omega (arith, a-turn (c .before .before .before .before .before .before .before .before .before .before .before .before) .countable)
 
 loop-less : tie.Need-loop-less Inv-loop μ-loop
-loop-less c = omega (arith, a-turn (c .before .before .before .before .before .before .before .before .before .before .before .before) .before, moves-on _ _ (stands (c .before .before .before .before .before .before .before .before .before)))
+loop-less c =
+    let c1 = c .before .before .before .before .before .before .before .before .before in
+    let c2 = c1 .before .before .before in
+    omega (arith, a-turn c2 .before, moves-on _ _ (stands c1))
 
 loop-again : tie.Need-loop-again Inv-loop μ-loop
 loop-again c =
-    let turn = a-turn (c .before .before .before .before .before .before .before .before .before .before .before .before) in
-    let call = joined (c .before .before .before .before .before .before .before) in
-    let here = stands (c .before .before .before .before .before .before .before .before .before) in
-    let line = c .before .before .write-line2 in
-    let inv = c .before .before .before .before .before .before .before .before .before .before .before .before .before .loop .inv in
-    let taken = turn-called _ _ _ _ _ _ (c .before .before .before .before .before .before .before .match2 .reply) here (call .left) (c .before .before .before .before .before .number-of .ensures) (c .before .before .before .before .value-of .ensures) (line .ensures .0) (line .ensures .1 .0) in
+    let c1 = c .before .before in
+    let c2 = c1 .before .before in
+    let c3 = c2 .before in
+    let c4 = c3 .before .before in
+    let c5 = c4 .before .before in
+    let c6 = c5 .before .before .before in
+    let c7 = c6 .before in
+    let turn = a-turn c6 in
+    let call = joined c4 in
+    let here = stands c5 in
+    let line = c1 .write-line2 in
+    let inv = c7 .loop .inv in
+    let taken = turn-called _ _ _ _ _ _ (c4 .match2 .reply) here (call .left) (c3 .number-of .ensures) (c2 .value-of .ensures) (line .ensures .0) (line .ensures .1 .0) in
     (goes-on _ _ _ _ turn _ taken refl (moves-on _ _ here) (omega (arith, line .ensures .1 .1, line .kept, turn .room)), omega (arith, inv .1, line .kept), call .half0 ∙ inv .2, call .half1 ∙ inv .3, call .list ∙ inv .4, omega (arith, inv .5, line .kept))
 
 same-length-9 : tie.Need-same-length-9 Inv-loop μ-loop

@@ -28,16 +28,23 @@ element-copy-out-session c =
 
 allocated-reference-requires : tie.Need-allocated-reference-requires
 allocated-reference-requires c κs =
-    let k = allocating _ _ _ _ _ _ _ _ (c .before .before .allocation-tests .ensures) (c .before .if1 .left) .ready .small in
+    let c1 = c .before in
+    let c2 = c1 .before in
+    let k = allocating _ _ _ _ _ _ _ _ (c2 .allocation-tests .ensures) (c1 .if1 .left) .ready .small in
     (k .half, k .low, k .high)
 
 allocated-requires : tie.Need-allocated-requires
 unfolding sessionAt
-allocated-requires c κs = allocating _ _ _ _ _ _ _ _ (c .before .before .before .before .before .allocation-tests .ensures) (c .before .before .before .before .if1 .left) .ready
+allocated-requires c κs =
+    let c1 = c .before .before .before .before in
+    let c2 = c1 .before in
+    allocating _ _ _ _ _ _ _ _ (c2 .allocation-tests .ensures) (c1 .if1 .left) .ready
 
 with-register-requires : tie.Need-with-register-requires
 with-register-requires c κs =
-    let k = allocating _ _ _ _ _ _ _ _ (c .before .before .before .before .before .before .before .before .before .before .allocation-tests .ensures) (c .before .before .before .before .before .before .before .before .before .if1 .left) in
+    let c1 = c .before .before .before .before .before .before .before .before .before in
+    let c2 = c1 .before in
+    let k = allocating _ _ _ _ _ _ _ _ (c2 .allocation-tests .ensures) (c1 .if1 .left) in
     (k .number, k .register)
 
 same-length-3 : tie.Need-same-length-3
@@ -49,8 +56,12 @@ same-length-4 c = search needs
 returns-2 : tie.Need-returns-2
 unfolding sessionAt
 returns-2 c =
-    let k = allocating _ _ _ _ _ _ _ _ (c .before .before .before .before .before .before .before .before .before .before .before .allocation-tests .ensures) (c .before .before .before .before .before .before .before .before .before .before .if1 .left) in
-    rw (allocate-done _ _ _ _ _ _ _ _ k (c .before .before .before .before .before .before .before .before .allocated-reference .ensures _ _ _) (c .before .before .before .before .before .allocated .ensures _) (c .with-register .ensures _ _ _))
+    let c1 = c .before .before .before .before .before in
+    let c2 = c1 .before .before .before in
+    let c3 = c2 .before .before in
+    let c4 = c3 .before in
+    let k = allocating _ _ _ _ _ _ _ _ (c4 .allocation-tests .ensures) (c3 .if1 .left) in
+    rw (allocate-done _ _ _ _ _ _ _ _ k (c2 .allocated-reference .ensures _ _ _) (c1 .allocated .ensures _) (c .with-register .ensures _ _ _))
 
 pub allocate-spec : {M : Type 1} → statement M
 allocate-spec =

@@ -43,7 +43,12 @@ same-length-2 : tie.Need-same-length-2
 same-length-2 c = search needs
 
 returns-2 : tie.Need-returns-2
-returns-2 c = λ l. shells-lost _ (yes (c .before .before .before .before .before .before .before .below .ensures _ _ l) (c .before .before .before .before .before .before .if1 .left)) (c .before .before .before .before .before .walked .ensures _ _ l) (lost _ _ (c .before .before .follow .ensures) (c .enum-told .given .1))
+returns-2 c =
+    let c1 = c .before .before in
+    let c2 = c1 .before .before .before in
+    let c3 = c2 .before in
+    let c4 = c3 .before in
+    λ l. shells-lost _ (yes (c4 .below .ensures _ _ l) (c3 .if1 .left)) (c2 .walked .ensures _ _ l) (lost _ _ (c1 .follow .ensures) (c .enum-told .given .1))
 
 cast-n : tie.Need-cast-n
 cast-n c = search needs
@@ -56,8 +61,11 @@ add-n c = search needs
 
 needs-shell-requires : tie.Need-needs-shell-requires
 needs-shell-requires c κs =
-    let k = in-range _ (c .before .before .before .before .before .before .before .before .before .before .before .before .before .pre) in
-    let f = found _ _ (c .before .before .before .before .before .follow .ensures) (c .before .before .before .r .given .1) in
+    let c1 = c .before .before .before in
+    let c2 = c1 .before .before in
+    let c3 = c2 .before .before .before .before .before .before .before .before in
+    let k = in-range _ (c3 .pre) in
+    let f = found _ _ (c2 .follow .ensures) (c1 .r .given .1) in
     (header-at k f 1 (omega arith), header-at k f 2 (omega arith))
 
 add-past-record : tie.Need-add-past-record
@@ -65,8 +73,11 @@ add-past-record c = search needs
 
 past-record-requires : tie.Need-past-record-requires
 past-record-requires c κs =
-    let f = found _ _ (c .before .before .before .before .before .before .before .follow .ensures) (c .before .before .before .before .before .r .given .1) in
-    (place-small (in-range _ (c .before .before .before .before .before .before .before .before .before .before .before .before .before .before .before .pre)), omega arith)
+    let c1 = c .before .before .before .before .before in
+    let c2 = c1 .before .before in
+    let c3 = c2 .before .before .before .before .before .before .before .before in
+    let f = found _ _ (c2 .follow .ensures) (c1 .r .given .1) in
+    (place-small (in-range _ (c3 .pre)), omega arith)
 
 same-length-3 : tie.Need-same-length-3
 same-length-3 c = search needs
@@ -76,12 +87,20 @@ same-length-4 c = search needs
 
 returns-3 : tie.Need-returns-3
 returns-3 c =
-    λ l. shells-passed _ (yes (c .before .before .before .before .before .before .before .before .before .before .before .before .before .below .ensures _ _ l) (c .before .before .before .before .before .before .before .before .before .before .before .before .if1 .left)) (c .before .before .before .before .before .before .before .before .before .before .before .walked .ensures _ _ l) (found _ _ (c .before .before .before .before .before .before .before .before .follow .ensures) (c .before .before .before .before .before .before .r .given .1))
-    (no (c .before .before .needs-shell .ensures _ _) (c .before .if2 .taken)) (c .past-record .ensures _ _ l)
+    let c1 = c .before in
+    let c2 = c1 .before in
+    let c3 = c2 .before .before .before .before in
+    let c4 = c3 .before .before in
+    let c5 = c4 .before .before .before in
+    let c6 = c5 .before in
+    let c7 = c6 .before in
+    λ l. shells-passed _ (yes (c7 .below .ensures _ _ l) (c6 .if1 .left)) (c5 .walked .ensures _ _ l) (found _ _ (c4 .follow .ensures) (c3 .r .given .1))
+    (no (c2 .needs-shell .ensures _ _) (c1 .if2 .taken)) (c .past-record .ensures _ _ l)
 
 other-half-requires : tie.Need-other-half-requires
 other-half-requires c κs =
-    let k = in-range _ (c .before .before .before .before .before .before .before .before .before .before .before .before .before .before .before .pre) in
+    let c1 = c .before .before .before .before .before .before .before .before .before .before .before .before .before .before .before in
+    let k = in-range _ (c1 .pre) in
     k .half
 
 frontier-requires : tie.Need-frontier-requires
@@ -92,8 +111,11 @@ add-if3 c = search needs
 
 add-if3-2 : tie.Need-add-if3-2
 add-if3-2 c =
-    let f = found _ _ (c .before .before .before .before .before .before .before .before .before .follow .ensures) (c .before .before .before .before .before .before .before .r .given .1) in
-    let l = front-small _ (in-range _ (c .before .before .before .before .before .before .before .before .before .before .before .before .before .before .before .before .before .pre)) (c .frontier .ensures _ _) in
+    let c1 = c .before .before .before .before .before .before .before in
+    let c2 = c1 .before .before in
+    let c3 = c2 .before .before .before .before .before .before .before .before in
+    let f = found _ _ (c2 .follow .ensures) (c1 .r .given .1) in
+    let l = front-small _ (in-range _ (c3 .pre)) (c .frontier .ensures _ _) in
     omega arith
 
 same-length-5 : tie.Need-same-length-5
@@ -104,11 +126,27 @@ same-length-6 c = search needs
 
 returns-4 : tie.Need-returns-4
 returns-4 c =
-    λ l. shells-full _ (yes (c .before .before .before .before .before .before .before .before .before .before .before .before .before .before .before .before .below .ensures _ _ l) (c .before .before .before .before .before .before .before .before .before .before .before .before .before .before .before .if1 .left)) (c .before .before .before .before .before .before .before .before .before .before .before .before .before .before .walked .ensures _ _ l) (found _ _ (c .before .before .before .before .before .before .before .before .before .before .before .follow .ensures) (c .before .before .before .before .before .before .before .before .before .r .given .1))
-    (yes (c .before .before .before .before .before .needs-shell .ensures _ _) (c .before .before .before .before .if2 .left)) (c .before .before .before .other-half .ensures) (c .before .before .frontier .ensures _ _) (other-long _ _ _ (in-range _ (c .before .before .before .before .before .before .before .before .before .before .before .before .before .before .before .before .before .before .before .pre))) (c .if3 .taken)
+    let c1 = c .before .before in
+    let c2 = c1 .before in
+    let c3 = c2 .before in
+    let c4 = c3 .before in
+    let c5 = c4 .before .before .before .before in
+    let c6 = c5 .before .before in
+    let c7 = c6 .before .before .before in
+    let c8 = c7 .before in
+    let c9 = c8 .before in
+    let c10 = c9 .before .before .before in
+    λ l. shells-full _ (yes (c9 .below .ensures _ _ l) (c8 .if1 .left)) (c7 .walked .ensures _ _ l) (found _ _ (c6 .follow .ensures) (c5 .r .given .1))
+    (yes (c4 .needs-shell .ensures _ _) (c3 .if2 .left)) (c2 .other-half .ensures) (c1 .frontier .ensures _ _) (other-long _ _ _ (in-range _ (c10 .pre))) (c .if3 .taken)
 
 put-shell-requires : tie.Need-put-shell-requires
-put-shell-requires c κs = shell-ready (in-range _ (c .before .before .before .before .before .before .before .before .before .before .before .before .before .before .before .before .before .before .before .before .before .pre)) (found _ _ (c .before .before .before .before .before .before .before .before .before .before .before .before .before .follow .ensures) (c .before .before .before .before .before .before .before .before .before .before .before .r .given .1)) (c .before .before .before .before .before .other-half .ensures) (c .before .before .if3 .left)
+put-shell-requires c κs =
+    let c1 = c .before .before in
+    let c2 = c1 .before .before .before in
+    let c3 = c2 .before .before .before .before .before .before in
+    let c4 = c3 .before .before in
+    let c5 = c4 .before .before .before .before .before .before .before .before in
+    shell-ready (in-range _ (c5 .pre)) (found _ _ (c4 .follow .ensures) (c3 .r .given .1)) (c2 .other-half .ensures) (c1 .if3 .left)
 
 add-with-frontier : tie.Need-add-with-frontier
 add-with-frontier c = search needs
@@ -124,9 +162,13 @@ add-past-record-2 c = search needs
 
 past-record-requires-2 : tie.Need-past-record-requires-2
 past-record-requires-2 c κs =
-    let f = found _ _ (c .before .before .before .before .before .before .before .before .before .before .before .before .before .before .before .before .before .before .before .follow .ensures) (c .before .before .before .before .before .before .before .before .before .before .before .before .before .before .before .before .before .r .given .1) in
-    let e = ap (λ (s : Store). s .walk .place) (c .with-frontier .ensures (c .before .before .before .before .before .before .before .before .before .before .before .before .before .before .before .before .before .before .before .before .before .before .before .before .before .before .before .args .h0 .now) (c .before .before .before .before .before .before .before .before .before .before .before .before .before .before .before .before .before .before .before .before .before .before .before .before .before .before .before .args .h1 .now) (c .before .before .before .before .before .before .before .before .before .before .before .before .before .before .before .before .before .before .before .before .before .before .before .before .before .before .before .args .h0 .now)) in
-    let k = place-small (in-range _ (c .before .before .before .before .before .before .before .before .before .before .before .before .before .before .before .before .before .before .before .before .before .before .before .before .before .before .before .pre)) in
+    let c1 = c .before .before .before .before .before .before .before .before .before .before .before .before .before .before .before .before .before in
+    let c2 = c1 .before .before in
+    let c3 = c2 .before .before .before .before .before .before .before .before in
+    let a = c3 .args in
+    let f = found _ _ (c2 .follow .ensures) (c1 .r .given .1) in
+    let e = ap (λ (s : Store). s .walk .place) (c .with-frontier .ensures (a .h0 .now) (a .h1 .now) (a .h0 .now)) in
+    let k = place-small (in-range _ (c3 .pre)) in
     (omega arith, omega arith)
 
 same-length-7 : tie.Need-same-length-7
@@ -137,9 +179,22 @@ same-length-8 c = search needs
 
 returns-5 : tie.Need-returns-5
 returns-5 c =
-    λ l. shells-made _ (yes (c .before .before .before .before .before .before .before .before .before .before .before .before .before .before .before .before .before .before .before .before .before .before .before .before .before .below .ensures _ _ l) (c .before .before .before .before .before .before .before .before .before .before .before .before .before .before .before .before .before .before .before .before .before .before .before .before .if1 .left)) (c .before .before .before .before .before .before .before .before .before .before .before .before .before .before .before .before .before .before .before .before .before .before .before .walked .ensures _ _ l) (found _ _ (c .before .before .before .before .before .before .before .before .before .before .before .before .before .before .before .before .before .before .before .before .follow .ensures) (c .before .before .before .before .before .before .before .before .before .before .before .before .before .before .before .before .before .before .r .given .1))
-    (yes (c .before .before .before .before .before .before .before .before .before .before .before .before .before .before .needs-shell .ensures _ _) (c .before .before .before .before .before .before .before .before .before .before .before .before .before .if2 .left)) (c .before .before .before .before .before .before .before .before .before .before .before .before .other-half .ensures) (c .before .before .before .before .before .before .before .before .before .before .before .frontier .ensures _ _) (other-long _ _ _ (in-range _ (c .before .before .before .before .before .before .before .before .before .before .before .before .before .before .before .before .before .before .before .before .before .before .before .before .before .before .before .before .pre))) (c .before .before .before .before .before .before .before .before .before .if3 .left)
-    (c .before .before .before .before .before .before .put-shell .ensures _ _ (sym (c .before .before .before .before .before .before .before .before .before .before .before .frontier .ensures _ _))) (c .before .with-frontier .ensures _ _ l) (c .past-record2 .ensures _ _ l)
+    let c1 = c .before in
+    let c2 = c1 .before .before .before .before .before in
+    let c3 = c2 .before .before .before in
+    let c4 = c3 .before .before in
+    let c5 = c4 .before in
+    let c6 = c5 .before in
+    let c7 = c6 .before in
+    let c8 = c7 .before .before .before .before in
+    let c9 = c8 .before .before in
+    let c10 = c9 .before .before .before in
+    let c11 = c10 .before in
+    let c12 = c11 .before in
+    let c13 = c12 .before .before .before in
+    λ l. shells-made _ (yes (c12 .below .ensures _ _ l) (c11 .if1 .left)) (c10 .walked .ensures _ _ l) (found _ _ (c9 .follow .ensures) (c8 .r .given .1))
+    (yes (c7 .needs-shell .ensures _ _) (c6 .if2 .left)) (c5 .other-half .ensures) (c4 .frontier .ensures _ _) (other-long _ _ _ (in-range _ (c13 .pre))) (c3 .if3 .left)
+    (c2 .put-shell .ensures _ _ (sym (c4 .frontier .ensures _ _))) (c1 .with-frontier .ensures _ _ l) (c .past-record2 .ensures _ _ l)
 
 pub allocate-shells-spec : {M : Type 1} → statement M
 allocate-shells-spec =

@@ -43,27 +43,43 @@ element-copy-out-session c =
 
 allocation-room-requires : tie.Need-allocation-room-requires
 allocation-room-requires c κs =
-    let a = c .before .before .before .before .before .before .before .before .args in
-    let k = known _ _ (c .before .before .before .before .session-tests .ensures) (c .before .before .before .if1 .left) in
-    small _ _ _ _ (k .known) _ _ (not-false (leb (a .r) 255 && leb (a .p) 255) (c .before .if3 .left))
+    let c1 = c .before in
+    let c2 = c1 .before .before in
+    let c3 = c2 .before in
+    let c4 = c3 .before .before .before .before in
+    let a = c4 .args in
+    let k = known _ _ (c3 .session-tests .ensures) (c2 .if1 .left) in
+    small _ _ _ _ (k .known) _ _ (not-false (leb (a .r) 255 && leb (a .p) 255) (c1 .if3 .left))
 
 returns-4 : tie.Need-returns-4
 unfolding sessionAt
 returns-4 c =
-    let a = c .before .before .before .before .before .before .before .before .before .before .args in
-    let k = known _ _ (c .before .before .before .before .before .before .session-tests .ensures) (c .before .before .before .before .before .if1 .left) in
-    tests-passed _ _ _ _ _ (let-in _ _ (c .before .before .before .before .before .before .session-tests .ensures) (c .before .before .before .before .before .if1 .left)) (c .before .before .before .before .if2 .left)
-    (not-false (leb (a .r) 255 && leb (a .p) 255) (c .before .before .before .if3 .left))
-    (sym (c .before .allocation-room .ensures _ _ _ (fits _ _ _ _ (k .known))) ∙ c .if4 .taken)
+    let c1 = c .before in
+    let c2 = c1 .before .before in
+    let c3 = c2 .before in
+    let c4 = c3 .before in
+    let c5 = c4 .before in
+    let c6 = c5 .before .before .before .before in
+    let a = c6 .args in
+    let k = known _ _ (c5 .session-tests .ensures) (c4 .if1 .left) in
+    tests-passed _ _ _ _ _ (let-in _ _ (c5 .session-tests .ensures) (c4 .if1 .left)) (c3 .if2 .left)
+    (not-false (leb (a .r) 255 && leb (a .p) 255) (c2 .if3 .left))
+    (sym (c1 .allocation-room .ensures _ _ _ (fits _ _ _ _ (k .known))) ∙ c .if4 .taken)
 
 returns-5 : tie.Need-returns-5
 unfolding sessionAt
 returns-5 c =
-    let a = c .before .before .before .before .before .before .before .before .before .before .args in
-    let k = known _ _ (c .before .before .before .before .before .before .session-tests .ensures) (c .before .before .before .before .before .if1 .left) in
-    tests-no-room _ _ _ _ _ (let-in _ _ (c .before .before .before .before .before .before .session-tests .ensures) (c .before .before .before .before .before .if1 .left)) (c .before .before .before .before .if2 .left)
-    (not-false (leb (a .r) 255 && leb (a .p) 255) (c .before .before .before .if3 .left))
-    (sym (c .before .allocation-room .ensures _ _ _ (fits _ _ _ _ (k .known))) ∙ c .if4 .left)
+    let c1 = c .before in
+    let c2 = c1 .before .before in
+    let c3 = c2 .before in
+    let c4 = c3 .before in
+    let c5 = c4 .before in
+    let c6 = c5 .before .before .before .before in
+    let a = c6 .args in
+    let k = known _ _ (c5 .session-tests .ensures) (c4 .if1 .left) in
+    tests-no-room _ _ _ _ _ (let-in _ _ (c5 .session-tests .ensures) (c4 .if1 .left)) (c3 .if2 .left)
+    (not-false (leb (a .r) 255 && leb (a .p) 255) (c2 .if3 .left))
+    (sym (c1 .allocation-room .ensures _ _ _ (fits _ _ _ _ (k .known))) ∙ c .if4 .left)
 
 pub allocation-tests-spec : {M : Type 1} → statement M
 allocation-tests-spec =

@@ -23,7 +23,11 @@ stepped-requires : tie.Need-stepped-requires
 stepped-requires c κs = search needs
 
 returns : tie.Need-returns
-returns c = λ l. copy-ends _ (no (c .before .before .before .below .ensures _ _ l) (c .before .before .if1 .taken)) (c .stepped .ensures _ _ l ∙ ap went (c .before .move-on .ensures _ _ l))
+returns c =
+    let c1 = c .before in
+    let c2 = c1 .before in
+    let c3 = c2 .before in
+    λ l. copy-ends _ (no (c3 .below .ensures _ _ l) (c2 .if1 .taken)) (c .stepped .ensures _ _ l ∙ ap went (c1 .move-on .ensures _ _ l))
 
 walked-requires : tie.Need-walked-requires
 walked-requires c κs =
@@ -46,10 +50,19 @@ same-length-2 : tie.Need-same-length-2
 same-length-2 c = search needs
 
 returns-2 : tie.Need-returns-2
-returns-2 c = λ l. copy-lost _ (yes (c .before .before .before .before .before .before .before .below .ensures _ _ l) (c .before .before .before .before .before .before .if1 .left)) (c .before .before .before .before .before .walked .ensures _ _ l) (lost _ _ (c .before .before .follow .ensures) (c .enum-told .given .1))
+returns-2 c =
+    let c1 = c .before .before in
+    let c2 = c1 .before .before .before in
+    let c3 = c2 .before in
+    let c4 = c3 .before in
+    λ l. copy-lost _ (yes (c4 .below .ensures _ _ l) (c3 .if1 .left)) (c2 .walked .ensures _ _ l) (lost _ _ (c1 .follow .ensures) (c .enum-told .given .1))
 
 get-word-requires : tie.Need-get-word-requires
-get-word-requires c κs = header-at (in-range _ (c .before .before .before .before .before .before .before .before .before .before .before .before .before .pre)) (found _ _ (c .before .before .before .before .before .follow .ensures) (c .before .before .before .r .given .1)) 2 (omega arith)
+get-word-requires c κs =
+    let c1 = c .before .before .before in
+    let c2 = c1 .before .before in
+    let c3 = c2 .before .before .before .before .before .before .before .before in
+    header-at (in-range _ (c3 .pre)) (found _ _ (c2 .follow .ensures) (c1 .r .given .1)) 2 (omega arith)
 
 cast-n : tie.Need-cast-n
 cast-n c = search needs
@@ -65,8 +78,11 @@ add-past-record c = search needs
 
 past-record-requires : tie.Need-past-record-requires
 past-record-requires c κs =
-    let f = found _ _ (c .before .before .before .before .before .before .before .before .follow .ensures) (c .before .before .before .before .before .before .r .given .1) in
-    (place-small (in-range _ (c .before .before .before .before .before .before .before .before .before .before .before .before .before .before .before .before .pre)), omega arith)
+    let c1 = c .before .before .before .before .before .before in
+    let c2 = c1 .before .before in
+    let c3 = c2 .before .before .before .before .before .before .before .before in
+    let f = found _ _ (c2 .follow .ensures) (c1 .r .given .1) in
+    (place-small (in-range _ (c3 .pre)), omega arith)
 
 same-length-3 : tie.Need-same-length-3
 same-length-3 c = search needs
@@ -76,14 +92,26 @@ same-length-4 c = search needs
 
 returns-3 : tie.Need-returns-3
 returns-3 c =
-    λ l. copy-passes _ (yes (c .before .before .before .before .before .before .before .before .before .before .before .before .before .before .below .ensures _ _ l) (c .before .before .before .before .before .before .before .before .before .before .before .before .before .if1 .left)) (c .before .before .before .before .before .before .before .before .before .before .before .before .walked .ensures _ _ l) (found _ _ (c .before .before .before .before .before .before .before .before .before .follow .ensures) (c .before .before .before .before .before .before .before .r .given .1))
-    (replica-word _ _ (c .before .before .before .get-word .ensures _ _)) (c .before .if2 .taken) (c .past-record .ensures _ _ l)
+    let c1 = c .before in
+    let c2 = c1 .before .before in
+    let c3 = c2 .before .before .before .before in
+    let c4 = c3 .before .before in
+    let c5 = c4 .before .before .before in
+    let c6 = c5 .before in
+    let c7 = c6 .before in
+    λ l. copy-passes _ (yes (c7 .below .ensures _ _ l) (c6 .if1 .left)) (c5 .walked .ensures _ _ l) (found _ _ (c4 .follow .ensures) (c3 .r .given .1))
+    (replica-word _ _ (c2 .get-word .ensures _ _)) (c1 .if2 .taken) (c .past-record .ensures _ _ l)
 
 copy-field-requires : tie.Need-copy-field-requires
 copy-field-requires c κs =
-    let f = found _ _ (c .before .before .before .before .before .before .before .before .before .before .follow .ensures) (c .before .before .before .before .before .before .before .before .r .given .1) in
-    let y = replica-word _ _ (c .before .before .before .before .get-word .ensures _ _) in
-    record { ranges = c .before .before .before .before .before .before .before .before .before .before .before .before .before .before .before .before .before .before .pre; here = f .sound; replica = y; count = f .refs; left = field-left f y (c .before .before .if2 .left) }
+    let c1 = c .before .before in
+    let c2 = c1 .before .before in
+    let c3 = c2 .before .before .before .before in
+    let c4 = c3 .before .before in
+    let c5 = c4 .before .before .before .before .before .before .before .before in
+    let f = found _ _ (c4 .follow .ensures) (c3 .r .given .1) in
+    let y = replica-word _ _ (c2 .get-word .ensures _ _) in
+    record { ranges = c5 .pre; here = f .sound; replica = y; count = f .refs; left = field-left f y (c1 .if2 .left) }
 
 same-length-5 : tie.Need-same-length-5
 same-length-5 c = search needs
@@ -93,8 +121,16 @@ same-length-6 c = search needs
 
 returns-4 : tie.Need-returns-4
 returns-4 c =
-    λ l. copy-copies _ (yes (c .before .before .before .before .before .before .before .before .before .before .before .before .before .before .before .before .before .before .before .before .below .ensures _ _ l) (c .before .before .before .before .before .before .before .before .before .before .before .before .before .before .before .before .before .before .before .if1 .left)) (c .before .before .before .before .before .before .before .before .before .before .before .before .before .before .before .before .before .before .walked .ensures _ _ l) (found _ _ (c .before .before .before .before .before .before .before .before .before .before .before .before .before .before .before .follow .ensures) (c .before .before .before .before .before .before .before .before .before .before .before .before .before .r .given .1))
-    (replica-word _ _ (c .before .before .before .before .before .before .before .before .before .get-word .ensures _ _)) (c .before .before .before .before .before .before .before .if2 .left) (c .before .before .before .before .copy-field .ensures l)
+    let c1 = c .before .before .before .before in
+    let c2 = c1 .before .before .before in
+    let c3 = c2 .before .before in
+    let c4 = c3 .before .before .before .before in
+    let c5 = c4 .before .before in
+    let c6 = c5 .before .before .before in
+    let c7 = c6 .before in
+    let c8 = c7 .before in
+    λ l. copy-copies _ (yes (c8 .below .ensures _ _ l) (c7 .if1 .left)) (c6 .walked .ensures _ _ l) (found _ _ (c5 .follow .ensures) (c4 .r .given .1))
+    (replica-word _ _ (c3 .get-word .ensures _ _)) (c2 .if2 .left) (c1 .copy-field .ensures l)
 
 pub copy-spec : {M : Type 1} → statement M
 copy-spec =

@@ -23,12 +23,19 @@ same-length-2 : tie.Need-same-length-2
 same-length-2 c = search needs
 
 returns : tie.Need-returns
-returns c = λ l. field-lost _ _ (c .before .before .before .before .before .before .before .pre .replica) (lost _ _ (c .before .before .follow .ensures) (c .enum-told2 .given .1))
+returns c =
+    let c1 = c .before .before in
+    let c2 = c1 .before .before .before .before .before in
+    λ l. field-lost _ _ (c2 .pre .replica) (lost _ _ (c1 .follow .ensures) (c .enum-told2 .given .1))
 
 copy-ref-requires : tie.Need-copy-ref-requires
 copy-ref-requires c κs =
-    let f = found _ _ (c .before .before .before .before .before .follow .ensures) (c .before .before .before .enum-told .given .1) in
-    (record { ranges = c .before .before .before .before .before .before .before .before .before .before .pre .ranges; here = c .before .before .before .before .before .before .before .before .before .before .pre .here; there = f .sound }, rw (← c .before .before .before .before .before .before .before .before .before .before .pre .count) (c .before .before .if1 .taken))
+    let c1 = c .before .before in
+    let c2 = c1 .before in
+    let c3 = c2 .before .before in
+    let c4 = c3 .before .before .before .before .before in
+    let f = found _ _ (c3 .follow .ensures) (c2 .enum-told .given .1) in
+    (record { ranges = c4 .pre .ranges; here = c4 .pre .here; there = f .sound }, rw (← c4 .pre .count) (c1 .if1 .taken))
 
 same-length-3 : tie.Need-same-length-3
 same-length-3 c = search needs
@@ -37,12 +44,21 @@ same-length-4 : tie.Need-same-length-4
 same-length-4 c = search needs
 
 returns-2 : tie.Need-returns-2
-returns-2 c = λ l. field-ref _ _ (c .before .before .before .before .before .before .before .before .before .before .before .before .before .before .before .pre .replica) (found _ _ (c .before .before .before .before .before .before .before .before .before .before .follow .ensures) (c .before .before .before .before .before .before .before .before .enum-told .given .1) .sound) (c .before .before .before .before .before .before .before .before .before .before .before .before .before .before .before .pre .count) (c .before .before .before .before .before .before .before .if1 .taken) (c .before .before .before .before .copy-ref .ensures l)
+returns-2 c =
+    let c1 = c .before .before .before .before in
+    let c2 = c1 .before .before .before in
+    let c3 = c2 .before in
+    let c4 = c3 .before .before in
+    let c5 = c4 .before .before .before .before .before in
+    λ l. field-ref _ _ (c5 .pre .replica) (found _ _ (c4 .follow .ensures) (c3 .enum-told .given .1) .sound) (c5 .pre .count) (c2 .if1 .taken) (c1 .copy-ref .ensures l)
 
 copy-plain-requires : tie.Need-copy-plain-requires
 copy-plain-requires c κs =
-    let f = found _ _ (c .before .before .before .before .before .follow .ensures) (c .before .before .before .enum-told .given .1) in
-    let p = c .before .before .before .before .before .before .before .before .before .before .pre in
+    let c1 = c .before .before .before in
+    let c2 = c1 .before .before in
+    let c3 = c2 .before .before .before .before .before in
+    let f = found _ _ (c2 .follow .ensures) (c1 .enum-told .given .1) in
+    let p = c3 .pre in
     (record { ranges = p .ranges; here = p .here; there = f .sound }, omega arith)
 
 same-length-5 : tie.Need-same-length-5
@@ -52,7 +68,13 @@ same-length-6 : tie.Need-same-length-6
 same-length-6 c = search needs
 
 returns-3 : tie.Need-returns-3
-returns-3 c = λ l. field-plain _ _ (c .before .before .before .before .before .before .before .before .before .before .before .before .before .before .before .pre .replica) (found _ _ (c .before .before .before .before .before .before .before .before .before .before .follow .ensures) (c .before .before .before .before .before .before .before .before .enum-told .given .1) .sound) (c .before .before .before .before .before .before .before .before .before .before .before .before .before .before .before .pre .count) (c .before .before .before .before .before .before .before .if1 .left) (c .before .before .before .before .copy-plain .ensures l)
+returns-3 c =
+    let c1 = c .before .before .before .before in
+    let c2 = c1 .before .before .before in
+    let c3 = c2 .before in
+    let c4 = c3 .before .before in
+    let c5 = c4 .before .before .before .before .before in
+    λ l. field-plain _ _ (c5 .pre .replica) (found _ _ (c4 .follow .ensures) (c3 .enum-told .given .1) .sound) (c5 .pre .count) (c2 .if1 .left) (c1 .copy-plain .ensures l)
 
 pub copy-field-spec : {M : Type 1} → statement M
 copy-field-spec =

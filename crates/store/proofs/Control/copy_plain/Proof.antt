@@ -24,17 +24,23 @@ same-length-2 : tie.Need-same-length-2
 same-length-2 c = search needs
 
 returns : tie.Need-returns
-returns c = λ l. plain-short (view (c .before .before .before .before .before .before .args .self) (c .before .before .before .before .before .before .args .h0 .now) (c .before .before .before .before .before .before .args .h1 .now) l) (c .before .before .before .before .before .before .args .v) (c .before .before .before .before .before .before .args .t) (c .before .before .before .before .before .before .args .i) (c .before .plains-of .ensures (c .before .before .before .before .before .before .args .self .frontier0) (c .before .before .before .before .before .before .args .self .frontier1)) (c .if1 .taken)
+returns c =
+    let c1 = c .before in
+    let c2 = c1 .before .before .before .before .before in
+    let a = c2 .args in
+    λ l. plain-short (view (a .self) (a .h0 .now) (a .h1 .now) l) (a .v) (a .t) (a .i) (c1 .plains-of .ensures (a .self .frontier0) (a .self .frontier1)) (c .if1 .taken)
 
 refs-of-requires : tie.Need-refs-of-requires
 refs-of-requires c κs =
-    let b = fronts (in-range _ (c .before .before .before .before .before .before .before .before .pre .0 .ranges)) in
-    header-inside _ _ _ _ _ (c .before .before .before .before .before .before .before .before .pre .0 .here) (b .0) (b .1) 0 (omega arith)
+    let c1 = c .before .before .before .before .before .before .before .before in
+    let b = fronts (in-range _ (c1 .pre .0 .ranges)) in
+    header-inside _ _ _ _ _ (c1 .pre .0 .here) (b .0) (b .1) 0 (omega arith)
 
 refs-of-requires-2 : tie.Need-refs-of-requires-2
 refs-of-requires-2 c κs =
-    let b = fronts (in-range _ (c .before .before .before .before .before .before .before .before .before .before .before .pre .0 .ranges)) in
-    header-inside _ _ _ _ _ (c .before .before .before .before .before .before .before .before .before .before .before .pre .0 .there) (b .0) (b .1) 0 (omega arith)
+    let c1 = c .before .before .before .before .before .before .before .before .before .before .before in
+    let b = fronts (in-range _ (c1 .pre .0 .ranges)) in
+    header-inside _ _ _ _ _ (c1 .pre .0 .there) (b .0) (b .1) 0 (omega arith)
 
 cast-get-word : tie.Need-cast-get-word
 cast-get-word c = search needs
@@ -47,8 +53,10 @@ add-get-word-2 c = search needs
 
 get-word-requires : tie.Need-get-word-requires
 get-word-requires c κs =
-    let b = fronts (in-range _ (c .before .before .before .before .before .before .before .before .before .before .before .before .before .before .pre .0 .ranges)) in
-    rw (c .before .before .before .before .before .refs-of .ensures (c .before .before .before .before .before .before .before .before .before .before .before .before .before .before .args .self .frontier0) (c .before .before .before .before .before .before .before .before .before .before .before .before .before .before .args .self .frontier1)) (plain-inside _ _ _ _ _ (c .before .before .before .before .before .before .before .before .before .before .before .before .before .before .pre .0 .here) (b .0) (b .1) _ (c .before .before .before .before .before .before .before .before .before .before .before .before .before .before .pre .1))
+    let c1 = c .before .before .before .before .before in
+    let c2 = c1 .before .before .before .before .before .before .before .before .before in
+    let b = fronts (in-range _ (c2 .pre .0 .ranges)) in
+    rw (c1 .refs-of .ensures (c2 .args .self .frontier0) (c2 .args .self .frontier1)) (plain-inside _ _ _ _ _ (c2 .pre .0 .here) (b .0) (b .1) _ (c2 .pre .1))
 
 cast-put-word : tie.Need-cast-put-word
 cast-put-word c = search needs
@@ -61,12 +69,18 @@ add-put-word-2 c = search needs
 
 put-word-requires : tie.Need-put-word-requires
 put-word-requires c κs =
-    let b = fronts (in-range _ (c .before .before .before .before .before .before .before .before .before .before .before .before .before .before .before .before .before .pre .0 .ranges)) in
-    rw (c .before .before .before .before .before .refs-of2 .ensures (c .before .before .before .before .before .before .before .before .before .before .before .before .before .before .before .before .before .args .self .frontier0) (c .before .before .before .before .before .before .before .before .before .before .before .before .before .before .before .before .before .args .self .frontier1)) (plain-inside _ _ _ _ _ (c .before .before .before .before .before .before .before .before .before .before .before .before .before .before .before .before .before .pre .0 .there) (b .0) (b .1) _ (rw (← c .before .before .before .before .before .before .before .before .before .before .before .before .plains-of .ensures (c .before .before .before .before .before .before .before .before .before .before .before .before .before .before .before .before .before .args .self .frontier0) (c .before .before .before .before .before .before .before .before .before .before .before .before .before .before .before .before .before .args .self .frontier1)) (c .before .before .before .before .before .before .before .before .before .before .before .if1 .left)))
+    let c1 = c .before .before .before .before .before in
+    let c2 = c1 .before .before .before .before .before .before in
+    let c3 = c2 .before in
+    let c4 = c3 .before .before .before .before .before in
+    let a = c4 .args in
+    let b = fronts (in-range _ (c4 .pre .0 .ranges)) in
+    rw (c1 .refs-of2 .ensures (a .self .frontier0) (a .self .frontier1)) (plain-inside _ _ _ _ _ (c4 .pre .0 .there) (b .0) (b .1) _ (rw (← c3 .plains-of .ensures (a .self .frontier0) (a .self .frontier1)) (c2 .if1 .left)))
 
 past-field-requires : tie.Need-past-field-requires
 past-field-requires c κs =
-    let k = in-range _ (c .before .before .before .before .before .before .before .before .before .before .before .before .before .before .before .before .before .before .before .before .before .before .pre .0 .ranges) in
+    let c1 = c .before .before .before .before .before .before .before .before .before .before .before .before .before .before .before .before .before .before .before .before .before .before in
+    let k = in-range _ (c1 .pre .0 .ranges) in
     k .fields
 
 same-length-3 : tie.Need-same-length-3
@@ -77,8 +91,16 @@ same-length-4 c = search needs
 
 returns-2 : tie.Need-returns-2
 returns-2 c =
-    λ l. plain-copied (view (c .before .before .before .before .before .before .before .before .before .before .before .before .before .before .before .before .before .before .before .before .before .before .before .args .self) (c .before .before .before .before .before .before .before .before .before .before .before .before .before .before .before .before .before .before .before .before .before .before .before .args .h0 .now) (c .before .before .before .before .before .before .before .before .before .before .before .before .before .before .before .before .before .before .before .before .before .before .before .args .h1 .now) l) (c .before .before .before .before .before .before .before .before .before .before .before .before .before .before .before .before .before .before .before .before .before .before .before .args .v) (c .before .before .before .before .before .before .before .before .before .before .before .before .before .before .before .before .before .before .before .before .before .before .before .args .t) (c .before .before .before .before .before .before .before .before .before .before .before .before .before .before .before .before .before .before .before .before .before .before .before .args .i) (c .before .before .before .before .before .before .before .before .before .before .before .before .before .before .before .before .before .before .plains-of .ensures (c .before .before .before .before .before .before .before .before .before .before .before .before .before .before .before .before .before .before .before .before .before .before .before .args .self .frontier0) (c .before .before .before .before .before .before .before .before .before .before .before .before .before .before .before .before .before .before .before .before .before .before .before .args .self .frontier1)) (c .before .before .before .before .before .before .before .before .before .before .before .before .before .before .before .before .before .if1 .left) (c .before .before .before .before .before .before .before .before .before .before .before .before .before .before .refs-of .ensures (c .before .before .before .before .before .before .before .before .before .before .before .before .before .before .before .before .before .before .before .before .before .before .before .args .self .frontier0) (c .before .before .before .before .before .before .before .before .before .before .before .before .before .before .before .before .before .before .before .before .before .before .before .args .self .frontier1)) (c .before .before .before .before .before .before .before .before .before .before .before .refs-of2 .ensures (c .before .before .before .before .before .before .before .before .before .before .before .before .before .before .before .before .before .before .before .before .before .before .before .args .self .frontier0) (c .before .before .before .before .before .before .before .before .before .before .before .before .before .before .before .before .before .before .before .before .before .before .before .args .self .frontier1)) (c .before .before .before .before .before .before .before .before .get-word .ensures (c .before .before .before .before .before .before .before .before .before .before .before .before .before .before .before .before .before .before .before .before .before .before .before .args .self .frontier0) (c .before .before .before .before .before .before .before .before .before .before .before .before .before .before .before .before .before .before .before .before .before .before .before .args .self .frontier1))
-    (c .before .before .before .before .before .put-word .ensures (c .before .before .before .before .before .before .before .before .before .before .before .before .before .before .before .before .before .before .before .before .before .before .before .args .self .frontier0) (c .before .before .before .before .before .before .before .before .before .before .before .before .before .before .before .before .before .before .before .before .before .before .before .args .self .frontier1)) (c .past-field .ensures _ _ l)
+    let c1 = c .before .before .before .before .before in
+    let c2 = c1 .before .before .before in
+    let c3 = c2 .before .before .before in
+    let c4 = c3 .before .before .before in
+    let c5 = c4 .before .before .before in
+    let c6 = c5 .before in
+    let c7 = c6 .before .before .before .before .before in
+    let a = c7 .args in
+    λ l. plain-copied (view (a .self) (a .h0 .now) (a .h1 .now) l) (a .v) (a .t) (a .i) (c6 .plains-of .ensures (a .self .frontier0) (a .self .frontier1)) (c5 .if1 .left) (c4 .refs-of .ensures (a .self .frontier0) (a .self .frontier1)) (c3 .refs-of2 .ensures (a .self .frontier0) (a .self .frontier1)) (c2 .get-word .ensures (a .self .frontier0) (a .self .frontier1))
+    (c1 .put-word .ensures (a .self .frontier0) (a .self .frontier1)) (c .past-field .ensures _ _ l)
 
 pub copy-plain-spec : {M : Type 1} → statement M
 copy-plain-spec =

@@ -28,7 +28,11 @@ same-length-2 : tie.Need-same-length-2
 same-length-2 c = search needs
 
 returns : tie.Need-returns
-returns c = λ l. ref-short (view (c .before .before .before .before .before .before .args .self) (c .before .before .before .before .before .before .args .h0 .now) (c .before .before .before .before .before .before .args .h1 .now) l) (c .before .before .before .before .before .before .args .v) (c .before .before .before .before .before .before .args .t) (c .before .before .before .before .before .before .args .self .field) (c .before .refs-of .ensures (c .before .before .before .before .before .before .args .self .frontier0) (c .before .before .before .before .before .before .args .self .frontier1)) (c .if1 .taken)
+returns c =
+    let c1 = c .before in
+    let c2 = c1 .before .before .before .before .before in
+    let a = c2 .args in
+    λ l. ref-short (view (a .self) (a .h0 .now) (a .h1 .now) l) (a .v) (a .t) (a .self .field) (c1 .refs-of .ensures (a .self .frontier0) (a .self .frontier1)) (c .if1 .taken)
 
 add-get-word : tie.Need-add-get-word
 add-get-word c =
@@ -37,8 +41,9 @@ add-get-word c =
 
 get-word-requires : tie.Need-get-word-requires
 get-word-requires c κs =
-    let b = fronts (in-range _ (c .before .before .before .before .before .before .before .before .pre .0 .ranges)) in
-    ref-inside _ _ _ _ _ (c .before .before .before .before .before .before .before .before .pre .0 .here) (b .0) (b .1) _ (c .before .before .before .before .before .before .before .before .pre .1)
+    let c1 = c .before .before .before .before .before .before .before .before in
+    let b = fronts (in-range _ (c1 .pre .0 .ranges)) in
+    ref-inside _ _ _ _ _ (c1 .pre .0 .here) (b .0) (b .1) _ (c1 .pre .1)
 
 bounds-requires : tie.Need-bounds-requires
 bounds-requires c κs =
@@ -46,7 +51,10 @@ bounds-requires c κs =
     k .half
 
 forward-requires : tie.Need-forward-requires
-forward-requires c κs = within _ _ (bounds-over (c .before .before .before .before .before .before .before .before .before .before .before .before .args .self) _ _ (c .before .before .bounds .ensures)) (in-range _ (c .before .before .before .before .before .before .before .before .before .before .before .before .pre .0 .ranges))
+forward-requires c κs =
+    let c1 = c .before .before in
+    let c2 = c1 .before .before .before .before .before .before .before .before .before .before in
+    within _ _ (bounds-over (c2 .args .self) _ _ (c1 .bounds .ensures)) (in-range _ (c2 .pre .0 .ranges))
 
 enum-known-w : tie.Need-enum-known-w
 enum-known-w c = search needs
@@ -62,22 +70,34 @@ same-length-4 c = search needs
 
 returns-2 : tie.Need-returns-2
 returns-2 c =
-    λ l. ref-lost (view (c .before .before .before .before .before .before .before .before .before .before .before .before .before .before .before .args .self) (c .before .before .before .before .before .before .before .before .before .before .before .before .before .before .before .args .h0 .now) (c .before .before .before .before .before .before .before .before .before .before .before .before .before .before .before .args .h1 .now) l) (c .before .before .before .before .before .before .before .before .before .before .before .before .before .before .before .args .v) (c .before .before .before .before .before .before .before .before .before .before .before .before .before .before .before .args .t) (c .before .before .before .before .before .before .before .before .before .before .before .before .before .before .before .args .self .field) (c .before .before .before .before .before .before .before .before .before .before .refs-of .ensures (c .before .before .before .before .before .before .before .before .before .before .before .before .before .before .before .args .self .frontier0) (c .before .before .before .before .before .before .before .before .before .before .before .before .before .before .before .args .self .frontier1)) (c .before .before .before .before .before .before .before .before .before .if1 .left) (c .before .before .before .before .before .before .get-word .ensures (c .before .before .before .before .before .before .before .before .before .before .before .before .before .before .before .args .self .frontier0) (c .before .before .before .before .before .before .before .before .before .before .before .before .before .before .before .args .self .frontier1))
-    (forward-told (c .before .before .before .before .before .before .before .before .before .before .before .before .before .before .before .args .self) (c .before .before .before .before .before .before .before .before .before .before .before .before .before .before .before .args .h0 .now) (c .before .before .before .before .before .before .before .before .before .before .before .before .before .before .before .args .h1 .now) l (bounds-over (c .before .before .before .before .before .before .before .before .before .before .before .before .before .before .before .args .self) (c .before .before .before .before .before .before .before .before .before .before .before .before .before .before .before .args .h0 .now) (c .before .before .before .before .before .before .before .before .before .before .before .before .before .before .before .args .h1 .now) (c .before .before .before .before .before .bounds .ensures)) _ (c .before .before .forward .ensures) (ap checked (c .enum-told .given .1)))
+    let c1 = c .before .before in
+    let c2 = c1 .before .before .before in
+    let c3 = c2 .before in
+    let c4 = c3 .before .before .before in
+    let c5 = c4 .before in
+    let c6 = c5 .before .before .before .before .before in
+    let a = c6 .args in
+    λ l. ref-lost (view (a .self) (a .h0 .now) (a .h1 .now) l) (a .v) (a .t) (a .self .field) (c5 .refs-of .ensures (a .self .frontier0) (a .self .frontier1)) (c4 .if1 .left) (c3 .get-word .ensures (a .self .frontier0) (a .self .frontier1))
+    (forward-told (a .self) (a .h0 .now) (a .h1 .now) l (bounds-over (a .self) (a .h0 .now) (a .h1 .now) (c2 .bounds .ensures)) _ (c1 .forward .ensures) (ap checked (c .enum-told .given .1)))
 
 add-put-word : tie.Need-add-put-word
 add-put-word c =
-    let k = in-range _ (c .before .before .before .before .before .before .before .before .before .before .before .before .before .before .before .before .before .before .pre .0 .ranges) in
+    let c1 = c .before .before .before .before .before .before .before .before .before .before .before .before .before .before .before .before .before .before in
+    let k = in-range _ (c1 .pre .0 .ranges) in
     omega arith
 
 put-word-requires : tie.Need-put-word-requires
 put-word-requires c κs =
-    let b = fronts (in-range _ (c .before .before .before .before .before .before .before .before .before .before .before .before .before .before .before .before .before .before .pre .0 .ranges)) in
-    ref-inside _ _ _ _ _ (c .before .before .before .before .before .before .before .before .before .before .before .before .before .before .before .before .before .before .pre .0 .there) (b .0) (b .1) _ (rw (← c .before .before .before .before .before .before .before .before .before .before .before .before .before .refs-of .ensures (c .before .before .before .before .before .before .before .before .before .before .before .before .before .before .before .before .before .before .args .self .frontier0) (c .before .before .before .before .before .before .before .before .before .before .before .before .before .before .before .before .before .before .args .self .frontier1)) (c .before .before .before .before .before .before .before .before .before .before .before .before .if1 .left))
+    let c1 = c .before .before .before .before .before .before .before .before .before .before .before .before in
+    let c2 = c1 .before in
+    let c3 = c2 .before .before .before .before .before in
+    let b = fronts (in-range _ (c3 .pre .0 .ranges)) in
+    ref-inside _ _ _ _ _ (c3 .pre .0 .there) (b .0) (b .1) _ (rw (← c2 .refs-of .ensures (c3 .args .self .frontier0) (c3 .args .self .frontier1)) (c1 .if1 .left))
 
 past-field-requires : tie.Need-past-field-requires
 past-field-requires c κs =
-    let k = in-range _ (c .before .before .before .before .before .before .before .before .before .before .before .before .before .before .before .before .before .before .before .before .before .before .before .pre .0 .ranges) in
+    let c1 = c .before .before .before .before .before .before .before .before .before .before .before .before .before .before .before .before .before .before .before .before .before .before .before in
+    let k = in-range _ (c1 .pre .0 .ranges) in
     k .fields
 
 same-length-5 : tie.Need-same-length-5
@@ -88,9 +108,18 @@ same-length-6 c = search needs
 
 returns-3 : tie.Need-returns-3
 returns-3 c =
-    λ l. ref-copied (view (c .before .before .before .before .before .before .before .before .before .before .before .before .before .before .before .before .before .before .before .before .before .before .before .before .args .self) (c .before .before .before .before .before .before .before .before .before .before .before .before .before .before .before .before .before .before .before .before .before .before .before .before .args .h0 .now) (c .before .before .before .before .before .before .before .before .before .before .before .before .before .before .before .before .before .before .before .before .before .before .before .before .args .h1 .now) l) (c .before .before .before .before .before .before .before .before .before .before .before .before .before .before .before .before .before .before .before .before .before .before .before .before .args .v) (c .before .before .before .before .before .before .before .before .before .before .before .before .before .before .before .before .before .before .before .before .before .before .before .before .args .t) (c .before .before .before .before .before .before .before .before .before .before .before .before .before .before .before .before .before .before .before .before .before .before .before .before .args .self .field) (c .before .before .before .before .before .before .before .before .before .before .before .before .before .before .before .before .before .before .before .refs-of .ensures (c .before .before .before .before .before .before .before .before .before .before .before .before .before .before .before .before .before .before .before .before .before .before .before .before .args .self .frontier0) (c .before .before .before .before .before .before .before .before .before .before .before .before .before .before .before .before .before .before .before .before .before .before .before .before .args .self .frontier1)) (c .before .before .before .before .before .before .before .before .before .before .before .before .before .before .before .before .before .before .if1 .left) (c .before .before .before .before .before .before .before .before .before .before .before .before .before .before .before .get-word .ensures (c .before .before .before .before .before .before .before .before .before .before .before .before .before .before .before .before .before .before .before .before .before .before .before .before .args .self .frontier0) (c .before .before .before .before .before .before .before .before .before .before .before .before .before .before .before .before .before .before .before .before .before .before .before .before .args .self .frontier1))
-    (forward-told (c .before .before .before .before .before .before .before .before .before .before .before .before .before .before .before .before .before .before .before .before .before .before .before .before .args .self) (c .before .before .before .before .before .before .before .before .before .before .before .before .before .before .before .before .before .before .before .before .before .before .before .before .args .h0 .now) (c .before .before .before .before .before .before .before .before .before .before .before .before .before .before .before .before .before .before .before .before .before .before .before .before .args .h1 .now) l (bounds-over (c .before .before .before .before .before .before .before .before .before .before .before .before .before .before .before .before .before .before .before .before .before .before .before .before .args .self) (c .before .before .before .before .before .before .before .before .before .before .before .before .before .before .before .before .before .before .before .before .before .before .before .before .args .h0 .now) (c .before .before .before .before .before .before .before .before .before .before .before .before .before .before .before .before .before .before .before .before .before .before .before .before .args .h1 .now) (c .before .before .before .before .before .before .before .before .before .before .before .before .before .before .bounds .ensures)) _ (c .before .before .before .before .before .before .before .before .before .before .before .forward .ensures) (ap checked (c .before .before .before .before .before .before .before .before .before .w .given .1)))
-    (c .before .before .before .before .before .put-word .ensures (c .before .before .before .before .before .before .before .before .before .before .before .before .before .before .before .before .before .before .before .before .before .before .before .before .args .self .frontier0) (c .before .before .before .before .before .before .before .before .before .before .before .before .before .before .before .before .before .before .before .before .before .before .before .before .args .self .frontier1)) (c .past-field .ensures _ _ l)
+    let c1 = c .before .before .before .before .before in
+    let c2 = c1 .before .before .before .before in
+    let c3 = c2 .before .before in
+    let c4 = c3 .before .before .before in
+    let c5 = c4 .before in
+    let c6 = c5 .before .before .before in
+    let c7 = c6 .before in
+    let c8 = c7 .before .before .before .before .before in
+    let a = c8 .args in
+    λ l. ref-copied (view (a .self) (a .h0 .now) (a .h1 .now) l) (a .v) (a .t) (a .self .field) (c7 .refs-of .ensures (a .self .frontier0) (a .self .frontier1)) (c6 .if1 .left) (c5 .get-word .ensures (a .self .frontier0) (a .self .frontier1))
+    (forward-told (a .self) (a .h0 .now) (a .h1 .now) l (bounds-over (a .self) (a .h0 .now) (a .h1 .now) (c4 .bounds .ensures)) _ (c3 .forward .ensures) (ap checked (c2 .w .given .1)))
+    (c1 .put-word .ensures (a .self .frontier0) (a .self .frontier1)) (c .past-field .ensures _ _ l)
 
 pub copy-ref-spec : {M : Type 1} → statement M
 copy-ref-spec =

@@ -34,8 +34,11 @@ element-copy-out-with-register c = search needs
 
 with-register-requires : tie.Need-with-register-requires
 with-register-requires c κs =
-    let k = known _ _ (c .before .before .before .before .session-tests .ensures) (c .before .before .before .if1 .left) in
-    (k .number, c .before .before .if2 .left)
+    let c1 = c .before .before in
+    let c2 = c1 .before in
+    let c3 = c2 .before in
+    let k = known _ _ (c3 .session-tests .ensures) (c2 .if1 .left) in
+    (k .number, c1 .if2 .left)
 
 returns-4 : tie.Need-returns-4
 unfolding get

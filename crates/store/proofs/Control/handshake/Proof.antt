@@ -24,7 +24,11 @@ stepped-requires-2 c κs = search needs
 
 returns-2 : tie.Need-returns-2
 unfolding handshake
-returns-2 c = λ h0 h1 l. rw (yes (c .before .before .before .have-level .ensures h0 h1 l) (c .before .before .if1 .left), ← c .before .move-on .ensures h0 h1 l) (c .stepped2 .ensures h0 h1 l)
+returns-2 c =
+    let c1 = c .before in
+    let c2 = c1 .before in
+    let c3 = c2 .before in
+    λ h0 h1 l. rw (yes (c3 .have-level .ensures h0 h1 l) (c2 .if1 .left), ← c1 .move-on .ensures h0 h1 l) (c .stepped2 .ensures h0 h1 l)
 
 pub handshake-spec : {M : Type 1} → statement M
 handshake-spec =

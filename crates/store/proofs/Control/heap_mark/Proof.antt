@@ -16,7 +16,10 @@ slice-read-v : tie.Need-slice-read-v
 slice-read-v c = let k = in-range _ (c .before .before .before .before .before .before .pre) in omega arith
 
 scan-record-requires : tie.Need-scan-record-requires
-scan-record-requires c κs = (c .before .before .before .before .if1 .taken, c .before .before .before .before .before .before .before .before .before .pre)
+scan-record-requires c κs =
+    let c1 = c .before .before .before .before in
+    let c2 = c1 .before .before .before .before .before in
+    (c1 .if1 .taken, c2 .pre)
 
 same-length : tie.Need-same-length
 same-length c = search needs
@@ -28,13 +31,20 @@ same-length-3 : tie.Need-same-length-3
 same-length-3 c = search needs
 
 returns : tie.Need-returns
-returns c = rw (listed-next _ (c .before .before .before .before .before .before .before .before .before .before .before .before .before .before .before .before .pre) (c .before .before .before .before .before .before .before .before .before .before .before .if1 .taken)) (c .before .before .before .before .before .before .scan-record .ensures)
+returns c =
+    let c1 = c .before .before .before .before .before .before in
+    let c2 = c1 .before .before .before .before .before in
+    let c3 = c2 .before .before .before .before .before in
+    rw (listed-next _ (c3 .pre) (c2 .if1 .taken)) (c1 .scan-record .ensures)
 
 lowest-unmarked-requires : tie.Need-lowest-unmarked-requires
 lowest-unmarked-requires c κs = search needs
 
 scan-session-requires : tie.Need-scan-session-requires
-scan-session-requires c κs = (c .before .before .before .if2 .taken, c .before .before .before .before .before .before .before .before .before .before .before .pre)
+scan-session-requires c κs =
+    let c1 = c .before .before .before in
+    let c2 = c1 .before .before .before .before .before .before .before .before in
+    (c1 .if2 .taken, c2 .pre)
 
 same-length-4 : tie.Need-same-length-4
 same-length-4 c = search needs
@@ -47,9 +57,13 @@ same-length-6 c = search needs
 
 returns-2 : tie.Need-returns-2
 returns-2 c =
-    let sessions = c .before .before .before .before .before .before .before .before .before .before .before .before .before .before .before .before .before .before .good .0 .1 .1 .1 .1 .1 .1 .1 .1 .1 .1 .1 .1 .1 .1 .0 in
-    let l : length (c .before .before .before .before .before .before .before .before .before .before .before .before .before .before .before .before .before .before .args .self .sessions) ≡ 16 = search (needs, unmapped) in
-    rw (session-next _ (c .before .before .before .before .before .before .before .before .before .before .before .before .before .before .before .before .before .before .pre) (c .before .before .before .before .before .before .before .before .before .before .before .before .before .if1 .left) (c .before .before .before .before .before .before .before .before .before .before .before .lowest-unmarked .ensures) (omega arith)) (c .before .before .before .before .before .before .scan-session .ensures)
+    let c1 = c .before .before .before .before .before .before in
+    let c2 = c1 .before .before .before .before .before in
+    let c3 = c2 .before .before in
+    let c4 = c3 .before .before .before .before .before in
+    let sessions = c4 .good .0 .1 .1 .1 .1 .1 .1 .1 .1 .1 .1 .1 .1 .1 .1 .0 in
+    let l : length (c4 .args .self .sessions) ≡ 16 = search (needs, unmapped) in
+    rw (session-next _ (c4 .pre) (c3 .if1 .left) (c2 .lowest-unmarked .ensures) (omega arith)) (c1 .scan-session .ensures)
 
 move-on-requires : tie.Need-move-on-requires
 move-on-requires c κs = in-range _ (c .before .before .before .before .before .before .before .before .pre) .phases
@@ -59,9 +73,13 @@ stepped-requires c κs = search needs
 
 returns-3 : tie.Need-returns-3
 returns-3 c =
-    let sessions = c .before .before .before .before .before .before .before .before .before .before .good .0 .1 .1 .1 .1 .1 .1 .1 .1 .1 .1 .1 .1 .1 .1 .0 in
-    let l : length (c .before .before .before .before .before .before .before .before .before .before .args .self .sessions) ≡ 16 = search (needs, unmapped) in
-    rw (marking-done _ (c .before .before .before .before .before .before .before .before .before .before .pre) (c .before .before .before .before .before .if1 .left) (c .before .before .before .lowest-unmarked .ensures) (omega arith)) (c .stepped .ensures _ _ _ ∙ ap went (c .before .move-on .ensures _ _ _))
+    let c1 = c .before in
+    let c2 = c1 .before .before in
+    let c3 = c2 .before .before in
+    let c4 = c3 .before .before .before .before .before in
+    let sessions = c4 .good .0 .1 .1 .1 .1 .1 .1 .1 .1 .1 .1 .1 .1 .1 .1 .0 in
+    let l : length (c4 .args .self .sessions) ≡ 16 = search (needs, unmapped) in
+    rw (marking-done _ (c4 .pre) (c3 .if1 .left) (c2 .lowest-unmarked .ensures) (omega arith)) (c .stepped .ensures _ _ _ ∙ ap went (c1 .move-on .ensures _ _ _))
 
 pub heap-mark-spec : {M : Type 1} → statement M
 heap-mark-spec =

@@ -14,7 +14,11 @@ enum-known-n : tie.Need-enum-known-n
 enum-known-n c = search needs
 
 returns : tie.Need-returns
-returns c = rw (load-refused _ _ _ _ (c .before .before .before .before .before .before .before .args .field) (away _ _ _ _ (c .before .before .before .held .ensures) (c .before .n .given .1)))
+returns c =
+    let c1 = c .before in
+    let c2 = c1 .before .before in
+    let c3 = c2 .before .before .before .before in
+    rw (load-refused _ _ _ _ (c3 .args .field) (away _ _ _ _ (c2 .held .ensures) (c1 .n .given .1)))
 
 enum-known-operands : tie.Need-enum-known-operands
 enum-known-operands c = search needs
@@ -32,34 +36,57 @@ enum-told c = search needs
 
 returns-2 : tie.Need-returns-2
 returns-2 c =
-    let h = holds _ _ _ _ (c .before .before .before .before .before .before .held .ensures) (c .before .before .before .before .operands .given .1) in
-    rw (load-lost _ _ _ _ (c .before .before .before .before .before .before .before .before .before .before .args .field) h (lost _ _ (c .before .before .follow .ensures) (c .enum-told .given .1)))
+    let c1 = c .before .before in
+    let c2 = c1 .before .before in
+    let c3 = c2 .before .before in
+    let c4 = c3 .before .before .before .before in
+    let h = holds _ _ _ _ (c3 .held .ensures) (c2 .operands .given .1) in
+    rw (load-lost _ _ _ _ (c4 .args .field) h (lost _ _ (c1 .follow .ensures) (c .enum-told .given .1)))
 
 returns-3 : tie.Need-returns-3
 returns-3 c =
-    let h = holds _ _ _ _ (c .before .before .before .before .before .before .before .before .held .ensures) (c .before .before .before .before .before .before .operands .given .1) in
-    let d = found _ _ (c .before .before .before .before .follow .ensures) (c .before .before .r .given .1) in
-    rw (load-beyond _ _ _ _ (c .before .before .before .before .before .before .before .before .before .before .before .before .args .field) h d (c .if1 .taken))
+    let c1 = c .before .before in
+    let c2 = c1 .before .before in
+    let c3 = c2 .before .before in
+    let c4 = c3 .before .before in
+    let c5 = c4 .before .before .before .before in
+    let h = holds _ _ _ _ (c4 .held .ensures) (c3 .operands .given .1) in
+    let d = found _ _ (c2 .follow .ensures) (c1 .r .given .1) in
+    rw (load-beyond _ _ _ _ (c5 .args .field) h d (c .if1 .taken))
 
 add-get-word : tie.Need-add-get-word
 add-get-word c = search needs
 
 get-word-requires : tie.Need-get-word-requires
 get-word-requires c κs =
-    let h = holds _ _ _ _ (c .before .before .before .before .before .before .before .before .held .ensures) (c .before .before .before .before .before .before .operands .given .1) in
-    let d = found _ _ (c .before .before .before .before .follow .ensures) (c .before .before .r .given .1) in
-    load-inside _ _ _ _ (c .before .before .before .before .before .before .before .before .before .before .before .before .args .field) h d (c .if1 .left)
+    let c1 = c .before .before in
+    let c2 = c1 .before .before in
+    let c3 = c2 .before .before in
+    let c4 = c3 .before .before in
+    let c5 = c4 .before .before .before .before in
+    let h = holds _ _ _ _ (c4 .held .ensures) (c3 .operands .given .1) in
+    let d = found _ _ (c2 .follow .ensures) (c1 .r .given .1) in
+    load-inside _ _ _ _ (c5 .args .field) h d (c .if1 .left)
 
 with-register-requires : tie.Need-with-register-requires
 with-register-requires c κs =
-    let h = holds _ _ _ _ (c .before .before .before .before .before .before .before .before .before .held .ensures) (c .before .before .before .before .before .before .before .operands .given .1) in
+    let c1 = c .before .before .before .before .before .before .before in
+    let c2 = c1 .before .before in
+    let h = holds _ _ _ _ (c2 .held .ensures) (c1 .operands .given .1) in
     (h .within .number, h .second)
 
 returns-4 : tie.Need-returns-4
 returns-4 c =
-    let h = holds _ _ _ _ (c .before .before .before .before .before .before .before .before .before .before .held .ensures) (c .before .before .before .before .before .before .before .before .operands .given .1) in
-    let d = found _ _ (c .before .before .before .before .before .before .follow .ensures) (c .before .before .before .before .r .given .1) in
-    rw (loaded _ _ _ _ (c .before .before .before .before .before .before .before .before .before .before .before .before .before .before .args .field) h d (c .before .get-word .ensures _ _) (c .before .before .if1 .left), c .with-register .ensures _ _ _)
+    let c1 = c .before in
+    let c2 = c1 .before in
+    let c3 = c2 .before .before in
+    let c4 = c3 .before .before in
+    let c5 = c4 .before .before in
+    let c6 = c5 .before .before in
+    let c7 = c6 .before .before .before .before in
+    let h = holds _ _ _ _ (c6 .held .ensures) (c5 .operands .given .1) in
+    let d = found _ _ (c4 .follow .ensures) (c3 .r .given .1) in
+    rw (loaded _ _ _ _ (c7 .args .field) h d (c1 .get-word .ensures _ _) (c2 .if1 .left), c .with-register .ensures _ _ _)
 
 pub load-spec : {M : Type 1} → statement M
 load-spec =

@@ -26,7 +26,9 @@ array-copy-out-session : tie.Need-array-copy-out-session Inv-loop μ-loop
 array-copy-out-session c = search needs
 
 returns : tie.Need-returns Inv-loop μ-loop
-returns c = lowest-here _ (c .before .before .before .before .before .loop .i) (c .before .before .before .before .before .loop .inv .2) _ (omega arith) (c .if1 .taken)
+returns c =
+    let c1 = c .before .before .before .before .before in
+    lowest-here _ (c1 .loop .i) (c1 .loop .inv .2) _ (omega arith) (c .if1 .taken)
 
 add-i : tie.Need-add-i Inv-loop μ-loop
 add-i c = search needs
@@ -35,7 +37,9 @@ loop-less : tie.Need-loop-less Inv-loop μ-loop
 loop-less c = search needs
 
 loop-again : tie.Need-loop-again Inv-loop μ-loop
-loop-again c = (search needs, search needs, lowest-later _ (c .before .before .before .before .before .loop .i) (c .before .before .before .before .before .loop .inv .2) _ (omega arith) (c .if1 .left))
+loop-again c =
+    let c1 = c .before .before .before .before .before in
+    (search needs, search needs, lowest-later _ (c1 .loop .i) (c1 .loop .inv .2) _ (omega arith) (c .if1 .left))
 
 returns-2 : tie.Need-returns-2 Inv-loop μ-loop
 returns-2 c = let e = lowest-none (c .before .before .args .t1) (c .before .loop .i) (c .before .loop .inv .2) (omega arith) in omega arith

@@ -29,22 +29,30 @@ returns-2 c =
 returns-3 : tie.Need-returns-3
 unfolding making listAllowed
 returns-3 c =
-    let a = c .before .before .before .before .half-allowed in
-    let b = c .before .before .before .half-allowed2 in
+    let c1 = c .before in
+    let c2 = c1 .before in
+    let c3 = c2 .before in
+    let c4 = c3 .before in
+    let a = c4 .half-allowed in
+    let b = c3 .half-allowed2 in
     rw (
       ← a .ensures,
       ← b .ensures,
-    ) (simp (not-false (a .result && b .result) (c .before .before .if1 .left), eq-eqb _ _ (c .before .if2 .left), lt-leb _ _ (c .if3 .taken)))
+    ) (simp (not-false (a .result && b .result) (c2 .if1 .left), eq-eqb _ _ (c1 .if2 .left), lt-leb _ _ (c .if3 .taken)))
 
 returns-4 : tie.Need-returns-4
 unfolding making listAllowed
 returns-4 c =
-    let a = c .before .before .before .before .half-allowed in
-    let b = c .before .before .before .half-allowed2 in
+    let c1 = c .before in
+    let c2 = c1 .before in
+    let c3 = c2 .before in
+    let c4 = c3 .before in
+    let a = c4 .half-allowed in
+    let b = c3 .half-allowed2 in
     rw (
       ← a .ensures,
       ← b .ensures,
-    ) (simp (not-false (a .result && b .result) (c .before .before .if1 .left), eq-eqb _ _ (c .before .if2 .left), le-leb _ _ (c .if3 .left)))
+    ) (simp (not-false (a .result && b .result) (c2 .if1 .left), eq-eqb _ _ (c1 .if2 .left), le-leb _ _ (c .if3 .left)))
 
 pub making-tests-spec : {M : Type 1} → statement M
 making-tests-spec =

@@ -39,8 +39,10 @@ loop-less c = search needs
 
 loop-again : tie.Need-loop-again Inv-loop μ-loop
 loop-again c =
-    let loop = c .before .before .before .loop in
-    (search needs, search needs, search needs, none-more (c .before .before .before .before .args .t1) (c .before .before .before .before .args .first) (loop .i) (loop .inv .3) (c .if1 .left))
+    let c1 = c .before .before .before in
+    let c2 = c1 .before in
+    let loop = c1 .loop in
+    (search needs, search needs, search needs, none-more (c2 .args .t1) (c2 .args .first) (loop .i) (loop .inv .3) (c .if1 .left))
 
 returns-2 : tie.Need-returns-2 Inv-loop μ-loop
 returns-2 c =

@@ -39,9 +39,13 @@ element-copy-out-with-register c =
 
 with-register-requires : tie.Need-with-register-requires
 with-register-requires c κs =
-    let a = c .before .before .before .before .before .before .before .before .args in
-    let k = known _ _ (c .before .before .before .before .session-tests .ensures) (c .before .before .before .if1 .left) in
-    (k .number, registers-known (a .to) (a .from) (c .before .before .if2 .left) .0)
+    let c1 = c .before .before in
+    let c2 = c1 .before in
+    let c3 = c2 .before in
+    let c4 = c3 .before .before .before .before in
+    let a = c4 .args in
+    let k = known _ _ (c3 .session-tests .ensures) (c2 .if1 .left) in
+    (k .number, registers-known (a .to) (a .from) (c1 .if2 .left) .0)
 
 returns-3 : tie.Need-returns-3
 unfolding move register sessionAt

@@ -24,7 +24,10 @@ add-with-frontier : tie.Need-add-with-frontier
 add-with-frontier c = omega (arith, c .before .before .before .before .before .before .before .before .before .before .pre)
 
 add-with-frontier-2 : tie.Need-add-with-frontier-2
-add-with-frontier-2 c = omega (arith, c .before .before .before .before .before .before .before .before .before .before .pre, below-at (c .before .before .before .before .before .before .before .frontier .ensures _ _) (c .before .before .before .before .before .before .before .before .before .before .pre .short))
+add-with-frontier-2 c =
+    let c1 = c .before .before .before .before .before .before .before in
+    let c2 = c1 .before .before .before in
+    omega (arith, c2 .pre, below-at (c1 .frontier .ensures _ _) (c2 .pre .short))
 
 with-frontier-requires : tie.Need-with-frontier-requires
 with-frontier-requires c κs = search needs
@@ -36,7 +39,10 @@ same-length-2 : tie.Need-same-length-2
 same-length-2 c = search needs
 
 returns : tie.Need-returns
-returns c = λ l. placed-at _ _ _ _ _ _ (c .before .before .before .before .before .before .before .before .frontier .ensures _ _) (c .before .before .before .before .before .append-record .ensures _ _) (c .with-frontier .ensures _ _ l)
+returns c =
+    let c1 = c .before .before .before .before .before in
+    let c2 = c1 .before .before .before in
+    λ l. placed-at _ _ _ _ _ _ (c2 .frontier .ensures _ _) (c1 .append-record .ensures _ _) (c .with-frontier .ensures _ _ l)
 
 pub placed-spec : {M : Type 1} → statement M
 placed-spec =

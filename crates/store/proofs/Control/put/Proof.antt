@@ -19,7 +19,10 @@ enum-known-plan-2 : tie.Need-enum-known-plan-2
 enum-known-plan-2 c = search needs
 
 shade-requires : tie.Need-shade-requires
-shade-requires c κs = λ n. let r = put-known-by _ _ _ _ (c .before .before .before .before .before .before .before .before .put-plan .ensures) (c .before .before .before .before .before .before .plan2 .given .1) .1 n in (r .coloured, r .listed)
+shade-requires c κs =
+    let c1 = c .before .before .before .before .before .before in
+    let c2 = c1 .before .before in
+    λ n. let r = put-known-by _ _ _ _ (c2 .put-plan .ensures) (c1 .plan2 .given .1) .1 n in (r .coloured, r .listed)
 
 -- the call where the ways meet: the store that it came with, and what the plan says
 abbrev entered : tie.Joined1 → Store
@@ -39,10 +42,16 @@ shaded j =
     (j .if1 .came)
 
 mul-next : tie.Need-mul-next
-mul-next c = omega (arith, put-known-by _ _ _ _ (c .before .before .before .before .before .put-plan .ensures) (c .before .before .before .plan2 .given .1) .0)
+mul-next c =
+    let c1 = c .before .before .before in
+    let c2 = c1 .before .before in
+    omega (arith, put-known-by _ _ _ _ (c2 .put-plan .ensures) (c1 .plan2 .given .1) .0)
 
 element-write-next : tie.Need-element-write-next
-element-write-next c = omega (arith, put-known-by _ _ _ _ (c .before .before .before .before .before .put-plan .ensures) (c .before .before .before .plan2 .given .1) .0)
+element-write-next c =
+    let c1 = c .before .before .before in
+    let c2 = c1 .before .before in
+    omega (arith, put-known-by _ _ _ _ (c2 .put-plan .ensures) (c1 .plan2 .given .1) .0)
 
 same-length : tie.Need-same-length
 same-length c = search needs
@@ -66,7 +75,10 @@ same-length-6 : tie.Need-same-length-6
 same-length-6 c = shaded c .listed
 
 returns-2 : tie.Need-returns-2
-returns-2 c = rw (put-done _ _ _ _ (c .before .before .before .before .before .put-plan .ensures) (c .before .before .before .plan2 .given .1) (shaded c .shaded))
+returns-2 c =
+    let c1 = c .before .before .before in
+    let c2 = c1 .before .before in
+    rw (put-done _ _ _ _ (c2 .put-plan .ensures) (c1 .plan2 .given .1) (shaded c .shaded))
 
 pub put-spec : {M : Type 1} → statement M
 put-spec =

@@ -14,7 +14,11 @@ enum-known-n : tie.Need-enum-known-n
 enum-known-n c = search needs
 
 returns : tie.Need-returns
-returns c = rw (read-refused _ _ _ (c .before .before .before .before .before .before .before .args .field) (away _ _ _ _ (c .before .before .before .held .ensures) (c .before .n .given .1)))
+returns c =
+    let c1 = c .before in
+    let c2 = c1 .before .before in
+    let c3 = c2 .before .before .before .before in
+    rw (read-refused _ _ _ (c3 .args .field) (away _ _ _ _ (c2 .held .ensures) (c1 .n .given .1)))
 
 enum-known-operands : tie.Need-enum-known-operands
 enum-known-operands c = search needs
@@ -32,14 +36,23 @@ enum-told c = search needs
 
 returns-2 : tie.Need-returns-2
 returns-2 c =
-    let h = holds _ _ _ _ (c .before .before .before .before .before .before .held .ensures) (c .before .before .before .before .operands .given .1) in
-    rw (read-lost _ _ _ h (c .before .before .before .before .before .before .before .before .before .before .args .field) (lost _ _ (c .before .before .follow .ensures) (c .enum-told .given .1)))
+    let c1 = c .before .before in
+    let c2 = c1 .before .before in
+    let c3 = c2 .before .before in
+    let c4 = c3 .before .before .before .before in
+    let h = holds _ _ _ _ (c3 .held .ensures) (c2 .operands .given .1) in
+    rw (read-lost _ _ _ h (c4 .args .field) (lost _ _ (c1 .follow .ensures) (c .enum-told .given .1)))
 
 returns-3 : tie.Need-returns-3
 returns-3 c =
-    let h = holds _ _ _ _ (c .before .before .before .before .before .before .before .before .held .ensures) (c .before .before .before .before .before .before .operands .given .1) in
-    let d = found _ _ (c .before .before .before .before .follow .ensures) (c .before .before .r .given .1) in
-    rw (read-beyond _ _ _ h (c .before .before .before .before .before .before .before .before .before .before .before .before .args .field) d (c .if1 .taken))
+    let c1 = c .before .before in
+    let c2 = c1 .before .before in
+    let c3 = c2 .before .before in
+    let c4 = c3 .before .before in
+    let c5 = c4 .before .before .before .before in
+    let h = holds _ _ _ _ (c4 .held .ensures) (c3 .operands .given .1) in
+    let d = found _ _ (c2 .follow .ensures) (c1 .r .given .1) in
+    rw (read-beyond _ _ _ h (c5 .args .field) d (c .if1 .taken))
 
 cast-get-word : tie.Need-cast-get-word
 cast-get-word c = search needs
@@ -52,15 +65,26 @@ add-get-word-2 c = search needs
 
 get-word-requires : tie.Need-get-word-requires
 get-word-requires c κs =
-    let h = holds _ _ _ _ (c .before .before .before .before .before .before .before .before .held .ensures) (c .before .before .before .before .before .before .operands .given .1) in
-    let d = found _ _ (c .before .before .before .before .follow .ensures) (c .before .before .r .given .1) in
-    read-inside _ _ _ h (c .before .before .before .before .before .before .before .before .before .before .before .before .args .field) d (c .if1 .left)
+    let c1 = c .before .before in
+    let c2 = c1 .before .before in
+    let c3 = c2 .before .before in
+    let c4 = c3 .before .before in
+    let c5 = c4 .before .before .before .before in
+    let h = holds _ _ _ _ (c4 .held .ensures) (c3 .operands .given .1) in
+    let d = found _ _ (c2 .follow .ensures) (c1 .r .given .1) in
+    read-inside _ _ _ h (c5 .args .field) d (c .if1 .left)
 
 returns-4 : tie.Need-returns-4
 returns-4 c =
-    let h = holds _ _ _ _ (c .before .before .before .before .before .before .before .before .before .held .ensures) (c .before .before .before .before .before .before .before .operands .given .1) in
-    let d = found _ _ (c .before .before .before .before .before .follow .ensures) (c .before .before .before .r .given .1) in
-    rw (have-read _ _ _ h (c .before .before .before .before .before .before .before .before .before .before .before .before .before .args .field) d (c .get-word .ensures _ _) (c .before .if1 .left))
+    let c1 = c .before in
+    let c2 = c1 .before .before in
+    let c3 = c2 .before .before in
+    let c4 = c3 .before .before in
+    let c5 = c4 .before .before in
+    let c6 = c5 .before .before .before .before in
+    let h = holds _ _ _ _ (c5 .held .ensures) (c4 .operands .given .1) in
+    let d = found _ _ (c3 .follow .ensures) (c2 .r .given .1) in
+    rw (have-read _ _ _ h (c6 .args .field) d (c .get-word .ensures _ _) (c1 .if1 .left))
 
 pub read-answer-spec : {M : Type 1} → statement M
 read-answer-spec =

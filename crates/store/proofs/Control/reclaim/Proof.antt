@@ -36,8 +36,10 @@ with-frontier-requires c κs = search needs
 
 move-on-requires : tie.Need-move-on-requires
 move-on-requires c κs =
-    let k = in-range _ (c .before .before .before .before .before .before .before .before .pre) in
-    let e = ap (λ (s : Store). s .phase) (c .with-frontier .ensures (c .before .before .before .before .before .before .before .before .args .h0 .now) (c .before .before .before .before .before .before .before .before .args .h1 .now) (c .before .before .before .before .before .before .before .before .args .h0 .now)) in
+    let c1 = c .before .before .before .before .before .before .before .before in
+    let a = c1 .args in
+    let k = in-range _ (c1 .pre) in
+    let e = ap (λ (s : Store). s .phase) (c .with-frontier .ensures (a .h0 .now) (a .h1 .now) (a .h0 .now)) in
     omega arith
 
 stepped-requires-2 : tie.Need-stepped-requires-2
@@ -45,8 +47,15 @@ stepped-requires-2 c κs = search needs
 
 returns-2 : tie.Need-returns-2
 returns-2 c =
-    λ l. reclaim-ends _ (yes (c .before .before .before .before .before .before .before .have-level .ensures _ _ l) (c .before .before .before .before .before .before .if1 .left)) (no (c .before .before .before .before .before .below .ensures _ _ l) (c .before .before .before .before .if2 .taken)) (c .before .before .before .other-half .ensures)
-    (c .before .before .with-frontier .ensures _ _ l) (c .stepped2 .ensures _ _ l ∙ ap went (c .before .move-on .ensures _ _ l))
+    let c1 = c .before in
+    let c2 = c1 .before in
+    let c3 = c2 .before in
+    let c4 = c3 .before in
+    let c5 = c4 .before in
+    let c6 = c5 .before in
+    let c7 = c6 .before in
+    λ l. reclaim-ends _ (yes (c7 .have-level .ensures _ _ l) (c6 .if1 .left)) (no (c5 .below .ensures _ _ l) (c4 .if2 .taken)) (c3 .other-half .ensures)
+    (c2 .with-frontier .ensures _ _ l) (c .stepped2 .ensures _ _ l ∙ ap went (c1 .move-on .ensures _ _ l))
 
 walked-requires : tie.Need-walked-requires
 walked-requires c κs =
@@ -70,11 +79,21 @@ same-length-2 c = search needs
 
 returns-3 : tie.Need-returns-3
 returns-3 c =
-    λ l. reclaim-lost _ (yes (c .before .before .before .before .before .before .before .before .before .have-level .ensures _ _ l) (c .before .before .before .before .before .before .before .before .if1 .left)) (yes (c .before .before .before .before .before .before .before .below .ensures _ _ l) (c .before .before .before .before .before .before .if2 .left)) (c .before .before .before .before .before .walked .ensures _ _ l)
-    (lost _ _ (c .before .before .follow .ensures) (c .enum-told .given .1))
+    let c1 = c .before .before in
+    let c2 = c1 .before .before .before in
+    let c3 = c2 .before in
+    let c4 = c3 .before in
+    let c5 = c4 .before in
+    let c6 = c5 .before in
+    λ l. reclaim-lost _ (yes (c6 .have-level .ensures _ _ l) (c5 .if1 .left)) (yes (c4 .below .ensures _ _ l) (c3 .if2 .left)) (c2 .walked .ensures _ _ l)
+    (lost _ _ (c1 .follow .ensures) (c .enum-told .given .1))
 
 put-word-requires : tie.Need-put-word-requires
-put-word-requires c κs = header-at (in-range _ (c .before .before .before .before .before .before .before .before .before .before .before .before .before .before .before .pre)) (found _ _ (c .before .before .before .before .before .follow .ensures) (c .before .before .before .r .given .1)) 2 (omega arith)
+put-word-requires c κs =
+    let c1 = c .before .before .before in
+    let c2 = c1 .before .before in
+    let c3 = c2 .before .before .before .before .before .before .before .before .before .before in
+    header-at (in-range _ (c3 .pre)) (found _ _ (c2 .follow .ensures) (c1 .r .given .1)) 2 (omega arith)
 
 cast-past-record : tie.Need-cast-past-record
 cast-past-record c = search needs
@@ -90,8 +109,11 @@ add-past-record-2 c = search needs
 
 past-record-requires : tie.Need-past-record-requires
 past-record-requires c κs =
-    let f = found _ _ (c .before .before .before .before .before .before .before .before .before .before .follow .ensures) (c .before .before .before .before .before .before .before .before .r .given .1) in
-    (place-small (in-range _ (c .before .before .before .before .before .before .before .before .before .before .before .before .before .before .before .before .before .before .before .before .pre)), omega arith)
+    let c1 = c .before .before .before .before .before .before .before .before in
+    let c2 = c1 .before .before in
+    let c3 = c2 .before .before .before .before .before .before .before .before .before .before in
+    let f = found _ _ (c2 .follow .ensures) (c1 .r .given .1) in
+    (place-small (in-range _ (c3 .pre)), omega arith)
 
 same-length-3 : tie.Need-same-length-3
 same-length-3 c = search needs
@@ -101,8 +123,16 @@ same-length-4 c = search needs
 
 returns-4 : tie.Need-returns-4
 returns-4 c =
-    λ l. reclaim-clears _ (yes (c .before .before .before .before .before .before .before .before .before .before .before .before .before .before .before .before .before .before .have-level .ensures _ _ l) (c .before .before .before .before .before .before .before .before .before .before .before .before .before .before .before .before .before .if1 .left)) (yes (c .before .before .before .before .before .before .before .before .before .before .before .before .before .before .before .before .below .ensures _ _ l) (c .before .before .before .before .before .before .before .before .before .before .before .before .before .before .before .if2 .left)) (c .before .before .before .before .before .before .before .before .before .before .before .before .before .before .walked .ensures _ _ l)
-    (found _ _ (c .before .before .before .before .before .before .before .before .before .before .before .follow .ensures) (c .before .before .before .before .before .before .before .before .before .r .given .1)) (c .before .before .before .before .before .put-word .ensures _ _) (c .past-record .ensures _ _ l)
+    let c1 = c .before .before .before .before .before in
+    let c2 = c1 .before .before .before .before in
+    let c3 = c2 .before .before in
+    let c4 = c3 .before .before .before in
+    let c5 = c4 .before in
+    let c6 = c5 .before in
+    let c7 = c6 .before in
+    let c8 = c7 .before in
+    λ l. reclaim-clears _ (yes (c8 .have-level .ensures _ _ l) (c7 .if1 .left)) (yes (c6 .below .ensures _ _ l) (c5 .if2 .left)) (c4 .walked .ensures _ _ l)
+    (found _ _ (c3 .follow .ensures) (c2 .r .given .1)) (c1 .put-word .ensures _ _) (c .past-record .ensures _ _ l)
 
 pub reclaim-spec : {M : Type 1} → statement M
 reclaim-spec =

@@ -33,7 +33,9 @@ bounds-requires c κs =
     k .half
 
 forward-requires : tie.Need-forward-requires
-forward-requires c κs = within _ _ (bounds-over (c .before .before .before .before .before .args .t1) _ _ (c .bounds .ensures)) (in-range _ (c .before .before .before .before .before .pre))
+forward-requires c κs =
+    let c1 = c .before .before .before .before .before in
+    within _ _ (bounds-over (c1 .args .t1) _ _ (c .bounds .ensures)) (in-range _ (c1 .pre))
 
 enum-known-q : tie.Need-enum-known-q
 enum-known-q c = search needs
@@ -43,8 +45,12 @@ enum-told c = search needs
 
 returns-2 : tie.Need-returns-2
 returns-2 c =
-    λ l. root-lost _ (c .before .before .before .before .before .if1 .left)
-    (forward-told (c .before .before .before .before .before .before .before .before .args .t1) _ _ l (bounds-over (c .before .before .before .before .before .before .before .before .args .t1) _ _ (c .before .before .before .bounds .ensures)) _ (c .before .before .forward .ensures) (ap checked (c .enum-told .given .1)))
+    let c1 = c .before .before in
+    let c2 = c1 .before in
+    let c3 = c2 .before .before in
+    let c4 = c3 .before .before .before in
+    λ l. root-lost _ (c3 .if1 .left)
+    (forward-told (c4 .args .t1) _ _ l (bounds-over (c4 .args .t1) _ _ (c2 .bounds .ensures)) _ (c1 .forward .ensures) (ap checked (c .enum-told .given .1)))
 
 mul-self : tie.Need-mul-self
 mul-self c = search needs
@@ -60,8 +66,13 @@ stepped-requires-2 c κs = search needs
 
 returns-3 : tie.Need-returns-3
 returns-3 c =
-    λ l. root-flips _ (c .before .before .before .before .before .before .before .if1 .left)
-    (forward-told (c .before .before .before .before .before .before .before .before .before .before .args .t1) _ _ l (bounds-over (c .before .before .before .before .before .before .before .before .before .before .args .t1) _ _ (c .before .before .before .before .before .bounds .ensures)) _ (c .before .before .before .before .forward .ensures) (ap checked (c .before .before .q .given .1))) (c .stepped2 .ensures _ _ l)
+    let c1 = c .before .before in
+    let c2 = c1 .before .before in
+    let c3 = c2 .before in
+    let c4 = c3 .before .before in
+    let c5 = c4 .before .before .before in
+    λ l. root-flips _ (c4 .if1 .left)
+    (forward-told (c5 .args .t1) _ _ l (bounds-over (c5 .args .t1) _ _ (c3 .bounds .ensures)) _ (c2 .forward .ensures) (ap checked (c1 .q .given .1))) (c .stepped2 .ensures _ _ l)
 
 pub root-flip-spec : {M : Type 1} → statement M
 root-flip-spec =

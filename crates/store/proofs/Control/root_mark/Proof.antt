@@ -14,7 +14,11 @@ stepped-requires : tie.Need-stepped-requires
 stepped-requires c κs = search needs
 
 returns : tie.Need-returns
-returns c = rw (roots-done _ (c .before .before .before .before .before .before .pre) (c .before .before .if1 .taken)) (c .stepped .ensures _ _ _ ∙ ap went (c .before .move-on .ensures _ _ _))
+returns c =
+    let c1 = c .before in
+    let c2 = c1 .before in
+    let c3 = c2 .before .before .before .before in
+    rw (roots-done _ (c3 .pre) (c2 .if1 .taken)) (c .stepped .ensures _ _ _ ∙ ap went (c1 .move-on .ensures _ _ _))
 
 mul-v : tie.Need-mul-v
 mul-v c = search needs
@@ -38,7 +42,11 @@ same-length-3 : tie.Need-same-length-3
 same-length-3 c = search needs
 
 returns-2 : tie.Need-returns-2
-returns-2 c = rw (root-next _ (c .before .before .before .before .before .before .before .before .before .before .before .before .before .before .before .pre) (c .before .before .before .before .before .before .before .before .before .before .before .if1 .left)) (c .before .before .before .before .before .before .shade-next .ensures)
+returns-2 c =
+    let c1 = c .before .before .before .before .before .before in
+    let c2 = c1 .before .before .before .before .before in
+    let c3 = c2 .before .before .before .before in
+    rw (root-next _ (c3 .pre) (c2 .if1 .left)) (c1 .shade-next .ensures)
 
 pub root-mark-spec : {M : Type 1} → statement M
 root-mark-spec =

@@ -50,12 +50,16 @@ element-copy-out-second c =
 
 bounds-requires : tie.Need-bounds-requires
 bounds-requires c κs =
-    let k = known _ _ (c .before .before .before .before .before .session-tests .ensures) (c .before .before .before .before .if1 .left) in
+    let c1 = c .before .before .before .before in
+    let c2 = c1 .before in
+    let k = known _ _ (c2 .session-tests .ensures) (c1 .if1 .left) in
     k .known .half
 
 same-at-requires : tie.Need-same-at-requires
 same-at-requires c κs =
-    let k = known _ _ (c .before .before .before .before .before .before .session-tests .ensures) (c .before .before .before .before .before .if1 .left) in
+    let c1 = c .before .before .before .before .before in
+    let c2 = c1 .before in
+    let k = known _ _ (c2 .session-tests .ensures) (c1 .if1 .left) in
     within _ _ (c .bounds .ensures _ _ _ (k .known .lent2)) (k .known)
 
 enum-known-yes : tie.Need-enum-known-yes
@@ -67,16 +71,29 @@ enum-told c = search needs
 returns-3 : tie.Need-returns-3
 unfolding register sessionAt
 returns-3 c =
-    let a = c .before .before .before .before .before .before .before .before .before .before .before .before .before .args in
-    let k = known _ _ (c .before .before .before .before .before .before .before .before .before .session-tests .ensures) (c .before .before .before .before .before .before .before .before .if1 .left) in
-    rw (same-lost _ _ (a .a) (a .b) (let-in _ _ (c .before .before .before .before .before .before .before .before .before .session-tests .ensures) (c .before .before .before .before .before .before .before .before .if1 .left)) (registers-in (a .a) (a .b) (c .before .before .before .before .before .before .before .if2 .left)) (c .before .before .before .bounds .ensures _ _ _ (k .known .lent2)) (sym (c .before .before .same-at .ensures) ∙ ap compared (c .enum-told .given .1)))
+    let c1 = c .before .before in
+    let c2 = c1 .before in
+    let c3 = c2 .before .before .before .before in
+    let c4 = c3 .before in
+    let c5 = c4 .before in
+    let c6 = c5 .before .before .before .before in
+    let a = c6 .args in
+    let k = known _ _ (c5 .session-tests .ensures) (c4 .if1 .left) in
+    rw (same-lost _ _ (a .a) (a .b) (let-in _ _ (c5 .session-tests .ensures) (c4 .if1 .left)) (registers-in (a .a) (a .b) (c3 .if2 .left)) (c2 .bounds .ensures _ _ _ (k .known .lent2)) (sym (c1 .same-at .ensures) ∙ ap compared (c .enum-told .given .1)))
 
 returns-4 : tie.Need-returns-4
 unfolding register sessionAt
 returns-4 c =
-    let a = c .before .before .before .before .before .before .before .before .before .before .before .before .before .before .args in
-    let k = known _ _ (c .before .before .before .before .before .before .before .before .before .before .session-tests .ensures) (c .before .before .before .before .before .before .before .before .before .if1 .left) in
-    rw (same-answered _ _ (a .a) (a .b) (let-in _ _ (c .before .before .before .before .before .before .before .before .before .before .session-tests .ensures) (c .before .before .before .before .before .before .before .before .before .if1 .left)) (registers-in (a .a) (a .b) (c .before .before .before .before .before .before .before .before .if2 .left)) (c .before .before .before .before .bounds .ensures _ _ _ (k .known .lent2)) (sym (c .before .before .before .same-at .ensures) ∙ ap compared (c .before .yes .given .1)))
+    let c1 = c .before in
+    let c2 = c1 .before .before in
+    let c3 = c2 .before in
+    let c4 = c3 .before .before .before .before in
+    let c5 = c4 .before in
+    let c6 = c5 .before in
+    let c7 = c6 .before .before .before .before in
+    let a = c7 .args in
+    let k = known _ _ (c6 .session-tests .ensures) (c5 .if1 .left) in
+    rw (same-answered _ _ (a .a) (a .b) (let-in _ _ (c6 .session-tests .ensures) (c5 .if1 .left)) (registers-in (a .a) (a .b) (c4 .if2 .left)) (c3 .bounds .ensures _ _ _ (k .known .lent2)) (sym (c2 .same-at .ensures) ∙ ap compared (c1 .yes .given .1)))
 
 pub same-spec : {M : Type 1} → statement M
 same-spec =

@@ -22,7 +22,10 @@ same-length-2 : tie.Need-same-length-2
 same-length-2 c = search needs
 
 returns : tie.Need-returns
-returns c = rw (record-damage _ (c .before .before .before .before .before .before .before .before .pre .1) _ (c .before .before .follow .ensures) (c .enum-told .given .1))
+returns c =
+    let c1 = c .before .before in
+    let c2 = c1 .before .before .before .before .before .before in
+    rw (record-damage _ (c2 .pre .1) _ (c1 .follow .ensures) (c .enum-told .given .1))
 
 cast-if1 : tie.Need-cast-if1
 cast-if1 c = search needs
@@ -31,7 +34,12 @@ add-get-word : tie.Need-add-get-word
 add-get-word c = search needs
 
 get-word-requires : tie.Need-get-word-requires
-get-word-requires c κs = field-inside _ (c .before .before .before .before .before .before .before .before .before .before .before .before .pre .1) _ (c .before .before .before .before .before .before .follow .ensures) (c .before .before .before .before .r .given .1) (c .before .before .if1 .taken)
+get-word-requires c κs =
+    let c1 = c .before .before in
+    let c2 = c1 .before .before in
+    let c3 = c2 .before .before in
+    let c4 = c3 .before .before .before .before .before .before in
+    field-inside _ (c4 .pre .1) _ (c3 .follow .ensures) (c2 .r .given .1) (c1 .if1 .taken)
 
 add-shade-next : tie.Need-add-shade-next
 add-shade-next c = search needs
@@ -50,11 +58,21 @@ same-length-5 c = search needs
 
 returns-2 : tie.Need-returns-2
 returns-2 c =
-    rw (field-next _ (c .before .before .before .before .before .before .before .before .before .before .before .before .before .before .before .before .before .before .before .before .before .before .before .pre .1) _ (c .before .before .before .before .before .before .before .before .before .before .before .before .before .before .before .before .before .follow .ensures) (c .before .before .before .before .before .before .before .before .before .before .before .before .before .before .before .r .given .1) (c .before .before .before .before .before .before .before .before .before .before .before .before .before .if1 .taken) (c .before .before .before .before .before .before .before .before .before .before .get-word .ensures _ _))
-    (c .before .before .before .before .before .before .shade-next .ensures)
+    let c1 = c .before .before .before .before .before .before in
+    let c2 = c1 .before .before .before .before in
+    let c3 = c2 .before .before .before in
+    let c4 = c3 .before .before in
+    let c5 = c4 .before .before in
+    let c6 = c5 .before .before .before .before .before .before in
+    rw (field-next _ (c6 .pre .1) _ (c5 .follow .ensures) (c4 .r .given .1) (c3 .if1 .taken) (c2 .get-word .ensures _ _))
+    (c1 .shade-next .ensures)
 
 put-word-requires : tie.Need-put-word-requires
-put-word-requires c κs = colour-inside _ (c .before .before .before .before .before .before .before .before .before .before .before .before .pre .1) _ (c .before .before .before .before .before .before .follow .ensures) (c .before .before .before .before .r .given .1)
+put-word-requires c κs =
+    let c1 = c .before .before .before .before in
+    let c2 = c1 .before .before in
+    let c3 = c2 .before .before .before .before .before .before in
+    colour-inside _ (c3 .pre .1) _ (c2 .follow .ensures) (c1 .r .given .1)
 
 add-self : tie.Need-add-self
 add-self c = search needs
@@ -70,9 +88,14 @@ same-length-7 c = search needs
 
 returns-3 : tie.Need-returns-3
 returns-3 c =
-    let start = c .before .before .before .before .before .before .before .before .before .before .before .before .before .before .before .before .before .before .before in
+    let c1 = c .before .before .before .before .before .before in
+    let c2 = c1 .before .before .before in
+    let c3 = c2 .before .before in
+    let c4 = c3 .before .before in
+    let c5 = c4 .before .before .before .before .before .before in
+    let start = c5 in
     let self = start .args .self in
-    rw (record-done _ (start .pre .1) _ (c .before .before .before .before .before .before .before .before .before .before .before .before .before .follow .ensures) (c .before .before .before .before .before .before .before .before .before .before .before .r .given .1) (c .before .before .before .before .before .before .before .before .before .if1 .left) (c .before .before .before .before .before .before .put-word .ensures (self .frontier0) (self .frontier1)))
+    rw (record-done _ (start .pre .1) _ (c4 .follow .ensures) (c3 .r .given .1) (c2 .if1 .left) (c1 .put-word .ensures (self .frontier0) (self .frontier1)))
     (c .stepped .ensures _ _ _)
 
 pub scan-record-spec : {M : Type 1} → statement M

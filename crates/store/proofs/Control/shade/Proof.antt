@@ -9,13 +9,22 @@ put-word-requires : tie.Need-put-word-requires
 put-word-requires c κs = c .before .before .before .before .before .before .pre (c .before .before .if1 .taken) .0
 
 mul-list : tie.Need-mul-list
-mul-list c = omega (arith, c .before .before .before .before .before .before .before .before .before .before .before .pre (c .before .before .before .before .before .before .before .if1 .taken) .1)
+mul-list c =
+    let c1 = c .before .before .before .before .before .before .before in
+    let c2 = c1 .before .before .before .before in
+    omega (arith, c2 .pre (c1 .if1 .taken) .1)
 
 slice-write-list : tie.Need-slice-write-list
-slice-write-list c = omega (arith, c .before .before .before .before .before .before .before .before .before .before .before .pre (c .before .before .before .before .before .before .before .if1 .taken) .1)
+slice-write-list c =
+    let c1 = c .before .before .before .before .before .before .before in
+    let c2 = c1 .before .before .before .before in
+    omega (arith, c2 .pre (c1 .if1 .taken) .1)
 
 add-self : tie.Need-add-self
-add-self c = omega (arith, c .before .before .before .before .before .before .before .before .before .before .before .pre (c .before .before .before .before .before .before .before .if1 .taken) .1)
+add-self c =
+    let c1 = c .before .before .before .before .before .before .before in
+    let c2 = c1 .before .before .before .before in
+    omega (arith, c2 .pre (c1 .if1 .taken) .1)
 
 unmarked-requires : tie.Need-unmarked-requires
 unmarked-requires c κs = search needs
@@ -30,7 +39,10 @@ same-length-3 : tie.Need-same-length-3
 same-length-3 c = search needs
 
 returns : tie.Need-returns
-returns c = shade-record _ _ (c .before .before .before .before .before .before .before .before .before .if1 .taken) (c .before .before .before .before .before .before .put-word .ensures _ _) (c .unmarked .ensures)
+returns c =
+    let c1 = c .before .before .before .before .before .before in
+    let c2 = c1 .before .before .before in
+    shade-record _ _ (c2 .if1 .taken) (c1 .put-word .ensures _ _) (c .unmarked .ensures)
 
 returns-2 : tie.Need-returns-2
 returns-2 c = shade-null _ _ (c .if1 .left)

@@ -24,7 +24,11 @@ array-read-shade : tie.Need-array-read-shade Inv-loop μ-loop
 array-read-shade c = let k = c .before .before .before .before .loop .inv in search needs
 
 shade-requires : tie.Need-shade-requires Inv-loop μ-loop
-shade-requires c κs = λ n. let k = c .before .before .before .before .loop .inv in (inside-kept _ _ _ _ _ _ (k .half0) (k .half1) (c .before .before .before .before .before .before .before .before .pre .2 (c .before .before .before .before .loop .i) (c .before .before .before .loop-test .taken)), omega arith)
+shade-requires c κs =
+    let c1 = c .before .before .before in
+    let c2 = c1 .before in
+    let c3 = c2 .before .before .before .before in
+    λ n. let k = c2 .loop .inv in (inside-kept _ _ _ _ _ _ (k .half0) (k .half1) (c3 .pre .2 (c2 .loop .i) (c1 .loop-test .taken)), omega arith)
 
 add-i : tie.Need-add-i Inv-loop μ-loop
 add-i c = let k = c .before .before .before .before .before .before .before .before .before .before .before .loop .inv in search needs
@@ -33,7 +37,11 @@ loop-less : tie.Need-loop-less Inv-loop μ-loop
 loop-less c = search needs
 
 loop-again : tie.Need-loop-again Inv-loop μ-loop
-loop-again c = next-turn (c .before .before .before .before .before .before .before .before .before .before .before .loop .inv) (c .before .before .before .before .before .before .before .before .before .before .loop-test .taken) (c .before .before .before .before .before .before .shade .ensures)
+loop-again c =
+    let c1 = c .before .before .before .before .before .before in
+    let c2 = c1 .before .before .before .before in
+    let c3 = c2 .before in
+    next-turn (c3 .loop .inv) (c2 .loop-test .taken) (c1 .shade .ensures)
 
 same-length : tie.Need-same-length Inv-loop μ-loop
 same-length c = c .before .loop .inv .half0

@@ -42,11 +42,15 @@ returns c =
 
 shade-requires : tie.Need-shade-requires
 shade-requires c κs =
-    let start = c .before .before .before .before .before .before .before .before .before .before .before .before .before in
+    let c1 = c .before .before .before .before in
+    let c2 = c1 .before .before in
+    let c3 = c2 .before .before .before in
+    let c4 = c3 .before .before .before .before in
+    let start = c4 in
     let a = start .args in
     let k = in-range _ (start .pre) in
-    let b = c .before .before .before .before .before .before .before .before .before .bounds .ensures (a .h0 .now) (a .h1 .now) (a .list .now) (k .lent2) in
-    next-allowed _ _ (c .before .before .before .before .before .before .shading .ensures) b (c .before .before .before .before .w .given .1) k
+    let b = c3 .bounds .ensures (a .h0 .now) (a .h1 .now) (a .list .now) (k .lent2) in
+    next-allowed _ _ (c2 .shading .ensures) b (c1 .w .given .1) k
 
 with-walk-requires : tie.Need-with-walk-requires
 with-walk-requires c κs = search needs
@@ -65,13 +69,19 @@ same-length-5 c = search needs
 
 returns-2 : tie.Need-returns-2
 returns-2 c =
-    let start = c .before .before .before .before .before .before .before .before .before .before .before .before .before .before .before .before .before .before .before .before .before .before in
+    let c1 = c .before in
+    let c2 = c1 .before .before .before .before .before .before .before in
+    let c3 = c2 .before .before .before .before .before in
+    let c4 = c3 .before .before in
+    let c5 = c4 .before .before .before in
+    let c6 = c5 .before .before .before .before in
+    let start = c6 in
     let a = start .args in
     let k = in-range _ (start .pre) in
-    let b = c .before .before .before .before .before .before .before .before .before .before .before .before .before .before .before .before .before .before .bounds .ensures (a .h0 .now) (a .h1 .now) (a .list .now) (k .lent2) in
-    rw (next-shaded _ _ (c .before .before .before .before .before .before .before .before .before .before .before .before .before .before .before .shading .ensures) b (c .before .before .before .before .before .before .before .before .before .before .before .before .before .w .given .1))
+    let b = c5 .bounds .ensures (a .h0 .now) (a .h1 .now) (a .list .now) (k .lent2) in
+    rw (next-shaded _ _ (c4 .shading .ensures) b (c3 .w .given .1))
     (c .stepped .ensures _ _ _
-    ∙ ap went (c .before .with-walk .ensures _ _ _ ∙ ap (λ (t : Store). withWalk t (a .place) (a .field)) (c .before .before .before .before .before .before .before .before .shade .ensures)))
+    ∙ ap went (c1 .with-walk .ensures _ _ _ ∙ ap (λ (t : Store). withWalk t (a .place) (a .field)) (c2 .shade .ensures)))
 
 pub shade-next-spec : {M : Type 1} → statement M
 shade-next-spec =

@@ -29,7 +29,10 @@ move-on-requires c κs =
 
 other-half-requires : tie.Need-other-half-requires
 other-half-requires c κs =
-    let w = within _ _ (bounds-over (c .before .before .before .before .before .before .before .args .t1) (c .before .before .before .before .before .before .before .args .h0 .now) (c .before .before .before .before .before .before .before .args .h1 .now) (c .before .before .before .before .bounds .ensures)) (in-range _ (c .before .before .before .before .before .before .before .pre)) in
+    let c1 = c .before .before .before .before in
+    let c2 = c1 .before .before .before in
+    let a = c2 .args in
+    let w = within _ _ (bounds-over (a .t1) (a .h0 .now) (a .h1 .now) (c1 .bounds .ensures)) (in-range _ (c2 .pre)) in
     w .side
 
 stepped-requires : tie.Need-stepped-requires
@@ -37,10 +40,17 @@ stepped-requires c κs = search needs
 
 returns : tie.Need-returns
 returns c =
-    let sessions = c .before .before .before .before .before .before .before .before .before .good .0 .1 .1 .1 .1 .1 .1 .1 .1 .1 .1 .1 .1 .1 .1 .0 in
-    let k : length (c .before .before .before .before .before .before .before .before .before .args .t1 .sessions) ≡ 16 = search (needs, unmapped) in
-    λ l. stacks-done (view (c .before .before .before .before .before .before .before .before .before .args .t1) (c .before .before .before .before .before .before .before .before .before .args .h0 .now) (c .before .before .before .before .before .before .before .before .before .args .h1 .now) l) (c .before .before .before .before .lowest-unmarked .ensures) k (c .before .before .before .if1 .taken)
-    (tospace-told (c .before .before .before .before .before .before .before .before .before .args .t1) (c .before .before .before .before .before .before .before .before .before .args .h0 .now) (c .before .before .before .before .before .before .before .before .before .args .h1 .now) l (bounds-over (c .before .before .before .before .before .before .before .before .before .args .t1) (c .before .before .before .before .before .before .before .before .before .args .h0 .now) (c .before .before .before .before .before .before .before .before .before .args .h1 .now) (c .before .before .before .before .before .before .bounds .ensures)) (c .before .other-half .ensures)) (c .before .before .move-on .ensures _ _ l) (c .stepped .ensures _ _ l)
+    let c1 = c .before in
+    let c2 = c1 .before in
+    let c3 = c2 .before in
+    let c4 = c3 .before in
+    let c5 = c4 .before .before in
+    let c6 = c5 .before .before .before in
+    let a = c6 .args in
+    let sessions = c6 .good .0 .1 .1 .1 .1 .1 .1 .1 .1 .1 .1 .1 .1 .1 .1 .0 in
+    let k : length (a .t1 .sessions) ≡ 16 = search (needs, unmapped) in
+    λ l. stacks-done (view (a .t1) (a .h0 .now) (a .h1 .now) l) (c4 .lowest-unmarked .ensures) k (c3 .if1 .taken)
+    (tospace-told (a .t1) (a .h0 .now) (a .h1 .now) l (bounds-over (a .t1) (a .h0 .now) (a .h1 .now) (c5 .bounds .ensures)) (c1 .other-half .ensures)) (c2 .move-on .ensures _ _ l) (c .stepped .ensures _ _ l)
 
 mul-session : tie.Need-mul-session
 mul-session c = search needs
@@ -49,15 +59,24 @@ element-copy-out-session : tie.Need-element-copy-out-session
 element-copy-out-session c = search needs
 
 forward-all-requires : tie.Need-forward-all-requires
-forward-all-requires c κs = within _ _ (bounds-over (c .before .before .before .before .before .before .before .before .args .t1) _ _ (c .before .before .before .before .before .bounds .ensures)) (in-range _ (c .before .before .before .before .before .before .before .before .pre))
+forward-all-requires c κs =
+    let c1 = c .before .before .before .before .before in
+    let c2 = c1 .before .before .before in
+    within _ _ (bounds-over (c2 .args .t1) _ _ (c1 .bounds .ensures)) (in-range _ (c2 .pre))
 
 returns-2 : tie.Need-returns-2
 unfolding sessionAt
 returns-2 c =
-    let sessions = c .before .before .before .before .before .before .before .before .before .before .before .good .0 .1 .1 .1 .1 .1 .1 .1 .1 .1 .1 .1 .1 .1 .1 .0 in
-    let k : length (c .before .before .before .before .before .before .before .before .before .before .before .args .t1 .sessions) ≡ 16 = search (needs, unmapped) in
-    λ l. stack-lost (view (c .before .before .before .before .before .before .before .before .before .before .before .args .t1) (c .before .before .before .before .before .before .before .before .before .before .before .args .h0 .now) (c .before .before .before .before .before .before .before .before .before .before .before .args .h1 .now) l) (c .before .before .before .before .before .before .lowest-unmarked .ensures) k (c .before .before .before .before .before .if1 .left)
-    (all-told (c .before .before .before .before .before .before .before .before .before .before .before .args .t1) (c .before .before .before .before .before .before .before .before .before .before .before .args .h0 .now) (c .before .before .before .before .before .before .before .before .before .before .before .args .h1 .now) l (bounds-over (c .before .before .before .before .before .before .before .before .before .before .before .args .t1) (c .before .before .before .before .before .before .before .before .before .before .before .args .h0 .now) (c .before .before .before .before .before .before .before .before .before .before .before .args .h1 .now) (c .before .before .before .before .before .before .before .before .bounds .ensures)) (sessionAt (view (c .before .before .before .before .before .before .before .before .before .before .before .args .t1) (c .before .before .before .before .before .before .before .before .before .before .before .args .h0 .now) (c .before .before .before .before .before .before .before .before .before .before .before .args .h1 .now) l) (c .before .before .before .before .before .before .lowest-unmarked .result) .registers) (c .before .before .forward-all .ensures) (moved-false (c .before .before .forward-all .result) (c .if2 .taken)))
+    let c1 = c .before .before in
+    let c2 = c1 .before .before .before in
+    let c3 = c2 .before in
+    let c4 = c3 .before .before in
+    let c5 = c4 .before .before .before in
+    let a = c5 .args in
+    let sessions = c5 .good .0 .1 .1 .1 .1 .1 .1 .1 .1 .1 .1 .1 .1 .1 .1 .0 in
+    let k : length (a .t1 .sessions) ≡ 16 = search (needs, unmapped) in
+    λ l. stack-lost (view (a .t1) (a .h0 .now) (a .h1 .now) l) (c3 .lowest-unmarked .ensures) k (c2 .if1 .left)
+    (all-told (a .t1) (a .h0 .now) (a .h1 .now) l (bounds-over (a .t1) (a .h0 .now) (a .h1 .now) (c4 .bounds .ensures)) (sessionAt (view (a .t1) (a .h0 .now) (a .h1 .now) l) (c3 .lowest-unmarked .result) .registers) (c1 .forward-all .ensures) (moved-false (c1 .forward-all .result) (c .if2 .taken)))
 
 mul-session-2 : tie.Need-mul-session-2
 mul-session-2 c = search needs
@@ -71,10 +90,17 @@ stepped-requires-2 c κs = search needs
 returns-3 : tie.Need-returns-3
 unfolding sessionAt withSession
 returns-3 c =
-    let sessions = c .before .before .before .before .before .before .before .before .before .before .before .before .before .good .0 .1 .1 .1 .1 .1 .1 .1 .1 .1 .1 .1 .1 .1 .1 .0 in
-    let k : length (c .before .before .before .before .before .before .before .before .before .before .before .before .before .args .t1 .sessions) ≡ 16 = search (needs, unmapped) in
-    λ l. stack-flips (view (c .before .before .before .before .before .before .before .before .before .before .before .before .before .args .t1) (c .before .before .before .before .before .before .before .before .before .before .before .before .before .args .h0 .now) (c .before .before .before .before .before .before .before .before .before .before .before .before .before .args .h1 .now) l) (c .before .before .before .before .before .before .before .before .lowest-unmarked .ensures) k (c .before .before .before .before .before .before .before .if1 .left)
-    (all-told (c .before .before .before .before .before .before .before .before .before .before .before .before .before .args .t1) (c .before .before .before .before .before .before .before .before .before .before .before .before .before .args .h0 .now) (c .before .before .before .before .before .before .before .before .before .before .before .before .before .args .h1 .now) l (bounds-over (c .before .before .before .before .before .before .before .before .before .before .before .before .before .args .t1) (c .before .before .before .before .before .before .before .before .before .before .before .before .before .args .h0 .now) (c .before .before .before .before .before .before .before .before .before .before .before .before .before .args .h1 .now) (c .before .before .before .before .before .before .before .before .before .before .bounds .ensures)) (sessionAt (view (c .before .before .before .before .before .before .before .before .before .before .before .before .before .args .t1) (c .before .before .before .before .before .before .before .before .before .before .before .before .before .args .h0 .now) (c .before .before .before .before .before .before .before .before .before .before .before .before .before .args .h1 .now) l) (c .before .before .before .before .before .before .before .before .lowest-unmarked .result) .registers) (c .before .before .before .before .forward-all .ensures) (moved-true (c .before .before .before .before .forward-all .result) (c .before .before .if2 .left))) (c .stepped2 .ensures _ _ l)
+    let c1 = c .before .before in
+    let c2 = c1 .before .before in
+    let c3 = c2 .before .before .before in
+    let c4 = c3 .before in
+    let c5 = c4 .before .before in
+    let c6 = c5 .before .before .before in
+    let a = c6 .args in
+    let sessions = c6 .good .0 .1 .1 .1 .1 .1 .1 .1 .1 .1 .1 .1 .1 .1 .1 .0 in
+    let k : length (a .t1 .sessions) ≡ 16 = search (needs, unmapped) in
+    λ l. stack-flips (view (a .t1) (a .h0 .now) (a .h1 .now) l) (c4 .lowest-unmarked .ensures) k (c3 .if1 .left)
+    (all-told (a .t1) (a .h0 .now) (a .h1 .now) l (bounds-over (a .t1) (a .h0 .now) (a .h1 .now) (c5 .bounds .ensures)) (sessionAt (view (a .t1) (a .h0 .now) (a .h1 .now) l) (c4 .lowest-unmarked .result) .registers) (c2 .forward-all .ensures) (moved-true (c2 .forward-all .result) (c1 .if2 .left))) (c .stepped2 .ensures _ _ l)
 
 pub stack-flip-spec : {M : Type 1} → statement M
 stack-flip-spec =

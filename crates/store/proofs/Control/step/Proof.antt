@@ -55,25 +55,51 @@ rest-requires : tie.Need-rest-requires
 rest-requires c κs = in-range _ (within _ _ (c .before .before .session-tests .ensures) (c .before .if1 .left)) .phases
 
 root-mark-requires : tie.Need-root-mark-requires
-root-mark-requires c κs = within _ _ (c .before .before .before .before .before .session-tests .ensures) (c .before .before .before .before .if1 .left)
+root-mark-requires c κs =
+    let c1 = c .before .before .before .before in
+    let c2 = c1 .before in
+    within _ _ (c2 .session-tests .ensures) (c1 .if1 .left)
 
 heap-mark-requires : tie.Need-heap-mark-requires
-heap-mark-requires c κs = within _ _ (c .before .before .before .before .before .session-tests .ensures) (c .before .before .before .before .if1 .left)
+heap-mark-requires c κs =
+    let c1 = c .before .before .before .before in
+    let c2 = c1 .before in
+    within _ _ (c2 .session-tests .ensures) (c1 .if1 .left)
 
 allocate-shells-requires : tie.Need-allocate-shells-requires
-allocate-shells-requires c κs = over-range (c .before .before .before .before .before .before .before .before .before .before .before .args .self) _ _ (c .before .before .before .before .before .before .before .before .before .before .before .args .list .now) (within _ _ (c .before .before .before .before .session-tests .ensures) (c .before .before .before .if1 .left))
+allocate-shells-requires c κs =
+    let c1 = c .before .before .before in
+    let c2 = c1 .before in
+    let c3 = c2 .before .before .before .before .before .before .before in
+    over-range (c3 .args .self) _ _ (c3 .args .list .now) (within _ _ (c2 .session-tests .ensures) (c1 .if1 .left))
 
 copy-requires : tie.Need-copy-requires
-copy-requires c κs = over-range (c .before .before .before .before .before .before .before .before .before .before .before .args .self) _ _ (c .before .before .before .before .before .before .before .before .before .before .before .args .list .now) (within _ _ (c .before .before .before .before .session-tests .ensures) (c .before .before .before .if1 .left))
+copy-requires c κs =
+    let c1 = c .before .before .before in
+    let c2 = c1 .before in
+    let c3 = c2 .before .before .before .before .before .before .before in
+    over-range (c3 .args .self) _ _ (c3 .args .list .now) (within _ _ (c2 .session-tests .ensures) (c1 .if1 .left))
 
 root-flip-requires : tie.Need-root-flip-requires
-root-flip-requires c κs = over-range (c .before .before .before .before .before .before .before .before .before .before .before .args .self) _ _ (c .before .before .before .before .before .before .before .before .before .before .before .args .list .now) (within _ _ (c .before .before .before .before .session-tests .ensures) (c .before .before .before .if1 .left))
+root-flip-requires c κs =
+    let c1 = c .before .before .before in
+    let c2 = c1 .before in
+    let c3 = c2 .before .before .before .before .before .before .before in
+    over-range (c3 .args .self) _ _ (c3 .args .list .now) (within _ _ (c2 .session-tests .ensures) (c1 .if1 .left))
 
 stack-flip-requires : tie.Need-stack-flip-requires
-stack-flip-requires c κs = over-range (c .before .before .before .before .before .before .before .before .before .before .before .args .self) _ _ (c .before .before .before .before .before .before .before .before .before .before .before .args .list .now) (within _ _ (c .before .before .before .before .session-tests .ensures) (c .before .before .before .if1 .left))
+stack-flip-requires c κs =
+    let c1 = c .before .before .before in
+    let c2 = c1 .before in
+    let c3 = c2 .before .before .before .before .before .before .before in
+    over-range (c3 .args .self) _ _ (c3 .args .list .now) (within _ _ (c2 .session-tests .ensures) (c1 .if1 .left))
 
 reclaim-requires : tie.Need-reclaim-requires
-reclaim-requires c κs = over-range (c .before .before .before .before .before .before .before .before .before .before .before .args .self) _ _ (c .before .before .before .before .before .before .before .before .before .before .before .args .list .now) (within _ _ (c .before .before .before .before .session-tests .ensures) (c .before .before .before .if1 .left))
+reclaim-requires c κs =
+    let c1 = c .before .before .before in
+    let c2 = c1 .before in
+    let c3 = c2 .before .before .before .before .before .before .before in
+    over-range (c3 .args .self) _ _ (c3 .args .list .now) (within _ _ (c2 .session-tests .ensures) (c1 .if1 .left))
 
 handshake-requires : tie.Need-handshake-requires
 handshake-requires c κs = in-range _ (within _ _ (c .before .before .session-tests .ensures) (c .before .if1 .left)) .phases
@@ -89,9 +115,13 @@ same-length-6 c = search needs
 
 returns-2 : tie.Need-returns-2
 returns-2 c =
-    let a = c .before .before .before .before .before .before .before .before .before .before .args in
+    let c1 = c .before in
+    let c2 = c1 .before in
+    let c3 = c2 .before in
+    let c4 = c3 .before .before .before .before .before .before .before in
+    let a = c4 .args in
     let s = view (a .self) (a .h0 .now) (a .h1 .now) (a .list .now) in
-    step-done s (within _ _ (c .before .before .before .session-tests .ensures) (c .before .before .if1 .left)) (unit-of s 0 (c .before .match .keys1) (c .rest .ensures _ _ _))
+    step-done s (within _ _ (c3 .session-tests .ensures) (c2 .if1 .left)) (unit-of s 0 (c1 .match .keys1) (c .rest .ensures _ _ _))
 
 same-length-7 : tie.Need-same-length-7
 same-length-7 c = search needs
@@ -104,9 +134,14 @@ same-length-9 c = search needs
 
 returns-3 : tie.Need-returns-3
 returns-3 c =
-    let a = c .before .before .before .before .before .before .before .before .before .before .before .before .before .before .before .before .before .before .before .args in
+    let c1 = c .before .before .before .before .before .before in
+    let c2 = c1 .before .before .before .before in
+    let c3 = c2 .before in
+    let c4 = c3 .before in
+    let c5 = c4 .before .before .before .before .before .before .before in
+    let a = c5 .args in
     let s = view (a .self) (a .h0 .now) (a .h1 .now) (a .list .now) in
-    step-done s (within _ _ (c .before .before .before .before .before .before .before .before .before .before .before .before .session-tests .ensures) (c .before .before .before .before .before .before .before .before .before .before .before .if1 .left)) (unit-of s 3 (c .before .before .before .before .before .before .before .before .before .before .match .keys2) (c .before .before .before .before .before .before .root-mark .ensures))
+    step-done s (within _ _ (c4 .session-tests .ensures) (c3 .if1 .left)) (unit-of s 3 (c2 .match .keys2) (c1 .root-mark .ensures))
 
 same-length-10 : tie.Need-same-length-10
 same-length-10 c = search needs
@@ -119,9 +154,14 @@ same-length-12 c = search needs
 
 returns-4 : tie.Need-returns-4
 returns-4 c =
-    let a = c .before .before .before .before .before .before .before .before .before .before .before .before .before .before .before .before .before .before .before .args in
+    let c1 = c .before .before .before .before .before .before in
+    let c2 = c1 .before .before .before .before in
+    let c3 = c2 .before in
+    let c4 = c3 .before in
+    let c5 = c4 .before .before .before .before .before .before .before in
+    let a = c5 .args in
     let s = view (a .self) (a .h0 .now) (a .h1 .now) (a .list .now) in
-    step-done s (within _ _ (c .before .before .before .before .before .before .before .before .before .before .before .before .session-tests .ensures) (c .before .before .before .before .before .before .before .before .before .before .before .if1 .left)) (unit-of s 4 (c .before .before .before .before .before .before .before .before .before .before .match .keys3) (c .before .before .before .before .before .before .heap-mark .ensures))
+    step-done s (within _ _ (c4 .session-tests .ensures) (c3 .if1 .left)) (unit-of s 4 (c2 .match .keys3) (c1 .heap-mark .ensures))
 
 same-length-13 : tie.Need-same-length-13
 same-length-13 c = search needs
@@ -134,9 +174,14 @@ same-length-15 c = search needs
 
 returns-5 : tie.Need-returns-5
 returns-5 c =
-    let a = c .before .before .before .before .before .before .before .before .before .before .before .before .before .before .before .before .args in
+    let c1 = c .before .before .before .before in
+    let c2 = c1 .before .before .before in
+    let c3 = c2 .before in
+    let c4 = c3 .before in
+    let c5 = c4 .before .before .before .before .before .before .before in
+    let a = c5 .args in
     let s = view (a .self) (a .h0 .now) (a .h1 .now) (a .list .now) in
-    step-done s (within _ _ (c .before .before .before .before .before .before .before .before .before .session-tests .ensures) (c .before .before .before .before .before .before .before .before .if1 .left)) (unit-of s 5 (c .before .before .before .before .before .before .before .match .keys4) (c .before .before .before .before .allocate-shells .ensures _))
+    step-done s (within _ _ (c4 .session-tests .ensures) (c3 .if1 .left)) (unit-of s 5 (c2 .match .keys4) (c1 .allocate-shells .ensures _))
 
 same-length-16 : tie.Need-same-length-16
 same-length-16 c = search needs
@@ -149,9 +194,14 @@ same-length-18 c = search needs
 
 returns-6 : tie.Need-returns-6
 returns-6 c =
-    let a = c .before .before .before .before .before .before .before .before .before .before .before .before .before .before .before .before .args in
+    let c1 = c .before .before .before .before in
+    let c2 = c1 .before .before .before in
+    let c3 = c2 .before in
+    let c4 = c3 .before in
+    let c5 = c4 .before .before .before .before .before .before .before in
+    let a = c5 .args in
     let s = view (a .self) (a .h0 .now) (a .h1 .now) (a .list .now) in
-    step-done s (within _ _ (c .before .before .before .before .before .before .before .before .before .session-tests .ensures) (c .before .before .before .before .before .before .before .before .if1 .left)) (unit-of s 7 (c .before .before .before .before .before .before .before .match .keys5) (c .before .before .before .before .copy .ensures _))
+    step-done s (within _ _ (c4 .session-tests .ensures) (c3 .if1 .left)) (unit-of s 7 (c2 .match .keys5) (c1 .copy .ensures _))
 
 same-length-19 : tie.Need-same-length-19
 same-length-19 c = search needs
@@ -164,9 +214,13 @@ same-length-21 c = search needs
 
 returns-7 : tie.Need-returns-7
 returns-7 c =
-    let a = c .before .before .before .before .before .before .before .before .before .before .before .before .args in
+    let c1 = c .before .before .before in
+    let c2 = c1 .before in
+    let c3 = c2 .before in
+    let c4 = c3 .before .before .before .before .before .before .before in
+    let a = c4 .args in
     let s = view (a .self) (a .h0 .now) (a .h1 .now) (a .list .now) in
-    step-done s (within _ _ (c .before .before .before .before .before .session-tests .ensures) (c .before .before .before .before .if1 .left)) (unit-of s 10 (c .before .before .before .match .keys6) (c .root-flip .ensures _))
+    step-done s (within _ _ (c3 .session-tests .ensures) (c2 .if1 .left)) (unit-of s 10 (c1 .match .keys6) (c .root-flip .ensures _))
 
 same-length-22 : tie.Need-same-length-22
 same-length-22 c = search needs
@@ -179,9 +233,13 @@ same-length-24 c = search needs
 
 returns-8 : tie.Need-returns-8
 returns-8 c =
-    let a = c .before .before .before .before .before .before .before .before .before .before .before .before .args in
+    let c1 = c .before .before .before in
+    let c2 = c1 .before in
+    let c3 = c2 .before in
+    let c4 = c3 .before .before .before .before .before .before .before in
+    let a = c4 .args in
     let s = view (a .self) (a .h0 .now) (a .h1 .now) (a .list .now) in
-    step-done s (within _ _ (c .before .before .before .before .before .session-tests .ensures) (c .before .before .before .before .if1 .left)) (unit-of s 11 (c .before .before .before .match .keys7) (c .stack-flip .ensures _))
+    step-done s (within _ _ (c3 .session-tests .ensures) (c2 .if1 .left)) (unit-of s 11 (c1 .match .keys7) (c .stack-flip .ensures _))
 
 same-length-25 : tie.Need-same-length-25
 same-length-25 c = search needs
@@ -194,9 +252,14 @@ same-length-27 c = search needs
 
 returns-9 : tie.Need-returns-9
 returns-9 c =
-    let a = c .before .before .before .before .before .before .before .before .before .before .before .before .before .before .before .before .args in
+    let c1 = c .before .before .before .before in
+    let c2 = c1 .before .before .before in
+    let c3 = c2 .before in
+    let c4 = c3 .before in
+    let c5 = c4 .before .before .before .before .before .before .before in
+    let a = c5 .args in
     let s = view (a .self) (a .h0 .now) (a .h1 .now) (a .list .now) in
-    step-done s (within _ _ (c .before .before .before .before .before .before .before .before .before .session-tests .ensures) (c .before .before .before .before .before .before .before .before .if1 .left)) (unit-of s 12 (c .before .before .before .before .before .before .before .match .keys8) (c .before .before .before .before .reclaim .ensures _))
+    step-done s (within _ _ (c4 .session-tests .ensures) (c3 .if1 .left)) (unit-of s 12 (c2 .match .keys8) (c1 .reclaim .ensures _))
 
 same-length-28 : tie.Need-same-length-28
 same-length-28 c = search needs
@@ -209,10 +272,14 @@ same-length-30 c = search needs
 
 returns-10 : tie.Need-returns-10
 returns-10 c =
-    let a = c .before .before .before .before .before .before .before .before .before .before .args in
+    let c1 = c .before in
+    let c2 = c1 .before in
+    let c3 = c2 .before in
+    let c4 = c3 .before .before .before .before .before .before .before in
+    let a = c4 .args in
     let s = view (a .self) (a .h0 .now) (a .h1 .now) (a .list .now) in
-    let r = c .before .match .rest in
-    step-done s (within _ _ (c .before .before .before .session-tests .ensures) (c .before .before .if1 .left))
+    let r = c1 .match .rest in
+    step-done s (within _ _ (c3 .session-tests .ensures) (c2 .if1 .left))
     (unit-waits s
     (waits (a .self .phase) (r .0 .0 .0 .0 .0 .0 .0 .1) (r .0 .0 .0 .0 .0 .0 .1) (r .0 .0 .0 .0 .0 .1) (r .0 .0 .0 .0 .1) (r .0 .0 .0 .1) (r .0 .0 .1) (r .0 .1) (r .1))
     (c .handshake .ensures _ _ _))

@@ -23,7 +23,10 @@ add-j : tie.Need-add-j
 add-j c = search needs
 
 shade-requires : tie.Need-shade-requires
-shade-requires c κs = λ n. let r = store-known-by _ _ _ _ _ (c .before .before .before .before .before .before .before .before .store-plan .ensures) (c .before .before .before .before .before .before .plan2 .given .1) .shaded n in (r .coloured, r .listed)
+shade-requires c κs =
+    let c1 = c .before .before .before .before .before .before in
+    let c2 = c1 .before .before in
+    λ n. let r = store-known-by _ _ _ _ _ (c2 .store-plan .ensures) (c1 .plan2 .given .1) .shaded n in (r .coloured, r .listed)
 
 -- the call where the ways meet: the store that it came with, and what the plan says
 abbrev entered : tie.Joined1 → Store
@@ -44,8 +47,11 @@ shaded j =
 
 put-both-requires : tie.Need-put-both-requires
 put-both-requires c κs =
-    let k = store-known-by _ _ _ _ _ (c .before .before .before .before .before .before .before .store-plan .ensures) (c .before .before .before .before .before .plan2 .given .1) in
-    let n = shaded (c .before .before) in
+    let c1 = c .before .before in
+    let c2 = c1 .before .before .before in
+    let c3 = c2 .before .before in
+    let k = store-known-by _ _ _ _ _ (c3 .store-plan .ensures) (c2 .plan2 .given .1) in
+    let n = shaded c1 in
     (inside-kept _ _ _ _ _ _ (n .low) (n .high) (k .own), λ z. inside-kept _ _ _ _ _ _ (n .low) (n .high) (k .copy z))
 
 same-length : tie.Need-same-length
@@ -70,7 +76,12 @@ same-length-6 : tie.Need-same-length-6
 same-length-6 c = shaded (c .before .before .before .before .before .before .before) .listed
 
 returns-2 : tie.Need-returns-2
-returns-2 c = rw (store-done _ _ _ _ _ (c .before .before .before .before .before .before .before .before .before .before .before .before .store-plan .ensures) (c .before .before .before .before .before .before .before .before .before .before .plan2 .given .1) (shaded (c .before .before .before .before .before .before .before) .shaded) (c .before .before .before .before .put-both .ensures _ _))
+returns-2 c =
+    let c1 = c .before .before .before .before in
+    let c2 = c1 .before .before .before in
+    let c3 = c2 .before .before .before in
+    let c4 = c3 .before .before in
+    rw (store-done _ _ _ _ _ (c4 .store-plan .ensures) (c3 .plan2 .given .1) (shaded c2 .shaded) (c1 .put-both .ensures _ _))
 
 pub store-spec : {M : Type 1} → statement M
 store-spec =

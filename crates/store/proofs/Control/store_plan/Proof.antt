@@ -22,7 +22,9 @@ enum-known-operands c = search needs
 
 follow-requires : tie.Need-follow-requires
 follow-requires c κs =
-    let k = handed _ _ _ _ (c .before .before .before .held .ensures) (c .before .operands .given .1) .holding .within .known in
+    let c1 = c .before in
+    let c2 = c1 .before .before in
+    let k = handed _ _ _ _ (c2 .held .ensures) (c1 .operands .given .1) .holding .within .known in
     (omega (arith, k), omega (arith, k))
 
 enum-known-r : tie.Need-enum-known-r
@@ -32,18 +34,34 @@ enum-told : tie.Need-enum-told
 enum-told c = search needs
 
 returns-2 : tie.Need-returns-2
-returns-2 c = plan-damage _ _ _ _ _ (handed _ _ _ _ (c .before .before .before .before .before .before .held .ensures) (c .before .before .before .before .operands .given .1)) (c .before .before .follow .ensures) (c .enum-told .given .1)
+returns-2 c =
+    let c1 = c .before .before in
+    let c2 = c1 .before .before in
+    let c3 = c2 .before .before in
+    plan-damage _ _ _ _ _ (handed _ _ _ _ (c3 .held .ensures) (c2 .operands .given .1)) (c1 .follow .ensures) (c .enum-told .given .1)
 
 returns-3 : tie.Need-returns-3
-returns-3 c = plan-short _ _ _ _ _ (handed _ _ _ _ (c .before .before .before .before .before .before .before .before .held .ensures) (c .before .before .before .before .before .before .operands .given .1)) (c .before .before .before .before .follow .ensures) (c .before .before .r .given .1) (c .if1 .taken)
+returns-3 c =
+    let c1 = c .before .before in
+    let c2 = c1 .before .before in
+    let c3 = c2 .before .before in
+    let c4 = c3 .before .before in
+    plan-short _ _ _ _ _ (handed _ _ _ _ (c4 .held .ensures) (c3 .operands .given .1)) (c2 .follow .ensures) (c1 .r .given .1) (c .if1 .taken)
 
 bounds-requires : tie.Need-bounds-requires
-bounds-requires c κs = handed _ _ _ _ (c .before .before .before .before .before .before .before .before .held .ensures) (c .before .before .before .before .before .before .operands .given .1) .holding .within .known .half
+bounds-requires c κs =
+    let c1 = c .before .before .before .before .before .before in
+    let c2 = c1 .before .before in
+    handed _ _ _ _ (c2 .held .ensures) (c1 .operands .given .1) .holding .within .known .half
 
 store-writes-requires : tie.Need-store-writes-requires
 store-writes-requires c κs =
-    let k = handed _ _ _ _ (c .before .before .before .before .before .before .before .before .before .held .ensures) (c .before .before .before .before .before .before .before .operands .given .1) .holding .within .known in
-    let f = found _ _ (c .before .before .before .before .before .follow .ensures) (c .before .before .before .r .given .1) in
+    let c1 = c .before .before .before in
+    let c2 = c1 .before .before in
+    let c3 = c2 .before .before in
+    let c4 = c3 .before .before in
+    let k = handed _ _ _ _ (c4 .held .ensures) (c3 .operands .given .1) .holding .within .known in
+    let f = found _ _ (c2 .follow .ensures) (c1 .r .given .1) in
     (within _ _ (c .bounds .ensures _ _ _ (k .lent2)) k, header-inside _ _ _ _ _ (f .sound) (omega (arith, k)) (omega (arith, k)) 2 (omega arith))
 
 enum-known-w : tie.Need-enum-known-w
@@ -54,13 +72,28 @@ enum-told-2 c = search needs
 
 returns-4 : tie.Need-returns-4
 returns-4 c =
-    let h = handed _ _ _ _ (c .before .before .before .before .before .before .before .before .before .before .before .before .held .ensures) (c .before .before .before .before .before .before .before .before .before .before .operands .given .1) in
-    plan-unwritable _ _ _ _ _ h (c .before .before .before .before .before .before .before .before .follow .ensures) (c .before .before .before .before .before .before .r .given .1) (c .before .before .before .before .if1 .left) (c .before .before .before .bounds .ensures _ _ _ (h .holding .within .known .lent2)) (c .before .before .store-writes .ensures) (c .enum-told2 .given .1)
+    let c1 = c .before .before in
+    let c2 = c1 .before in
+    let c3 = c2 .before in
+    let c4 = c3 .before .before in
+    let c5 = c4 .before .before in
+    let c6 = c5 .before .before in
+    let c7 = c6 .before .before in
+    let h = handed _ _ _ _ (c7 .held .ensures) (c6 .operands .given .1) in
+    plan-unwritable _ _ _ _ _ h (c5 .follow .ensures) (c4 .r .given .1) (c3 .if1 .left) (c2 .bounds .ensures _ _ _ (h .holding .within .known .lent2)) (c1 .store-writes .ensures) (c .enum-told2 .given .1)
 
 returns-5 : tie.Need-returns-5
 returns-5 c =
-    let h = handed _ _ _ _ (c .before .before .before .before .before .before .before .before .before .before .before .before .before .held .ensures) (c .before .before .before .before .before .before .before .before .before .before .before .operands .given .1) in
-    plan-made _ _ _ _ _ h (c .before .before .before .before .before .before .before .before .before .follow .ensures) (c .before .before .before .before .before .before .before .r .given .1) (c .before .before .before .before .before .if1 .left) (c .before .before .before .before .bounds .ensures _ _ _ (h .holding .within .known .lent2)) (c .before .before .before .store-writes .ensures) (c .before .w .given .1)
+    let c1 = c .before in
+    let c2 = c1 .before .before in
+    let c3 = c2 .before in
+    let c4 = c3 .before in
+    let c5 = c4 .before .before in
+    let c6 = c5 .before .before in
+    let c7 = c6 .before .before in
+    let c8 = c7 .before .before in
+    let h = handed _ _ _ _ (c8 .held .ensures) (c7 .operands .given .1) in
+    plan-made _ _ _ _ _ h (c6 .follow .ensures) (c5 .r .given .1) (c4 .if1 .left) (c3 .bounds .ensures _ _ _ (h .holding .within .known .lent2)) (c2 .store-writes .ensures) (c1 .w .given .1)
 
 pub store-plan-spec : {M : Type 1} → statement M
 store-plan-spec =

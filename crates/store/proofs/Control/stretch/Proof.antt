@@ -39,16 +39,24 @@ slice-aggregate-result-2 c = search needs
 
 returns-2 : tie.Need-returns-2
 returns-2 c =
-    let h = holds _ _ _ _ (c .before .before .before .before .before .before .before .held .ensures) (c .before .before .before .before .before .operands .given .1) in
-    simp (stretch-lost _ _ _ h (lost _ _ (c .before .before .before .follow .ensures) (c .before .enum-told2 .given .1)))
+    let c1 = c .before in
+    let c2 = c1 .before .before in
+    let c3 = c2 .before .before in
+    let c4 = c3 .before .before in
+    let h = holds _ _ _ _ (c4 .held .ensures) (c3 .operands .given .1) in
+    simp (stretch-lost _ _ _ h (lost _ _ (c2 .follow .ensures) (c1 .enum-told2 .given .1)))
 
 half-of-requires : tie.Need-half-of-requires
 half-of-requires c κs = search needs
 
 add-start : tie.Need-add-start
 add-start c =
-    let h = holds _ _ _ _ (c .before .before .before .before .before .before .before .before .held .ensures) (c .before .before .before .before .before .before .operands .given .1) in
-    let d = found _ _ (c .before .before .before .before .follow .ensures) (c .before .before .at .given .1) in
+    let c1 = c .before .before in
+    let c2 = c1 .before .before in
+    let c3 = c2 .before .before in
+    let c4 = c3 .before .before in
+    let h = holds _ _ _ _ (c4 .held .ensures) (c3 .operands .given .1) in
+    let d = found _ _ (c2 .follow .ensures) (c1 .at .given .1) in
     omega (arith, stretch-small _ (h .within .known) d (c .half-of .ensures))
 
 cast-start : tie.Need-cast-start
@@ -56,8 +64,12 @@ cast-start c = search needs
 
 add-start-2 : tie.Need-add-start-2
 add-start-2 c =
-    let h = holds _ _ _ _ (c .before .before .before .before .before .before .before .before .held .ensures) (c .before .before .before .before .before .before .operands .given .1) in
-    let d = found _ _ (c .before .before .before .before .follow .ensures) (c .before .before .at .given .1) in
+    let c1 = c .before .before in
+    let c2 = c1 .before .before in
+    let c3 = c2 .before .before in
+    let c4 = c3 .before .before in
+    let h = holds _ _ _ _ (c4 .held .ensures) (c3 .operands .given .1) in
+    let d = found _ _ (c2 .follow .ensures) (c1 .at .given .1) in
     omega (arith, stretch-small _ (h .within .known) d (c .half-of .ensures))
 
 cast-end : tie.Need-cast-end
@@ -65,14 +77,22 @@ cast-end c = search needs
 
 add-end : tie.Need-add-end
 add-end c =
-    let h = holds _ _ _ _ (c .before .before .before .before .before .before .before .before .held .ensures) (c .before .before .before .before .before .before .operands .given .1) in
-    let d = found _ _ (c .before .before .before .before .follow .ensures) (c .before .before .at .given .1) in
+    let c1 = c .before .before in
+    let c2 = c1 .before .before in
+    let c3 = c2 .before .before in
+    let c4 = c3 .before .before in
+    let h = holds _ _ _ _ (c4 .held .ensures) (c3 .operands .given .1) in
+    let d = found _ _ (c2 .follow .ensures) (c1 .at .given .1) in
     omega (arith, stretch-small _ (h .within .known) d (c .half-of .ensures))
 
 mul-result : tie.Need-mul-result
 mul-result c =
-    let h = holds _ _ _ _ (c .before .before .before .before .before .before .before .before .held .ensures) (c .before .before .before .before .before .before .operands .given .1) in
-    let d = found _ _ (c .before .before .before .before .follow .ensures) (c .before .before .at .given .1) in
+    let c1 = c .before .before in
+    let c2 = c1 .before .before in
+    let c3 = c2 .before .before in
+    let c4 = c3 .before .before in
+    let h = holds _ _ _ _ (c4 .held .ensures) (c3 .operands .given .1) in
+    let d = found _ _ (c2 .follow .ensures) (c1 .at .given .1) in
     omega (arith, stretch-small _ (h .within .known) d (c .half-of .ensures))
 
 sub-result : tie.Need-sub-result
@@ -83,15 +103,24 @@ part-result-start c = search needs
 
 part-result-end : tie.Need-part-result-end
 part-result-end c =
-    let h = holds _ _ _ _ (c .before .before .before .before .before .before .before .before .held .ensures) (c .before .before .before .before .before .before .operands .given .1) in
-    let d = found _ _ (c .before .before .before .before .follow .ensures) (c .before .before .at .given .1) in
+    let c1 = c .before .before in
+    let c2 = c1 .before .before in
+    let c3 = c2 .before .before in
+    let c4 = c3 .before .before in
+    let h = holds _ _ _ _ (c4 .held .ensures) (c3 .operands .given .1) in
+    let d = found _ _ (c2 .follow .ensures) (c1 .at .given .1) in
     omega (arith, stretch-within _ (h .within .known) d (c .half-of .ensures))
 
 returns-3 : tie.Need-returns-3
 returns-3 c =
-    let h = holds _ _ _ _ (c .before .before .before .before .before .before .before .before .before .held .ensures) (c .before .before .before .before .before .before .before .operands .given .1) in
-    let d = found _ _ (c .before .before .before .before .before .follow .ensures) (c .before .before .before .at .given .1) in
-    rw span (stretched _ (h .within .known) d (c .before .half-of .ensures) _ _ h)
+    let c1 = c .before in
+    let c2 = c1 .before .before in
+    let c3 = c2 .before .before in
+    let c4 = c3 .before .before in
+    let c5 = c4 .before .before in
+    let h = holds _ _ _ _ (c5 .held .ensures) (c4 .operands .given .1) in
+    let d = found _ _ (c3 .follow .ensures) (c2 .at .given .1) in
+    rw span (stretched _ (h .within .known) d (c1 .half-of .ensures) _ _ h)
 
 pub stretch-spec : {M : Type 1} → statement M
 stretch-spec =

@@ -32,13 +32,19 @@ enum-told-2 c = search needs
 
 returns-2 : tie.Need-returns-2
 returns-2 c =
-    let h = holds _ _ _ _ (c .before .before .before .before .before .before .held .ensures) (c .before .before .before .before .operands .given .1) in
-    rw (stretch-lost _ _ _ h (lost _ _ (c .before .before .follow .ensures) (c .enum-told2 .given .1)))
+    let c1 = c .before .before in
+    let c2 = c1 .before .before in
+    let c3 = c2 .before .before in
+    let h = holds _ _ _ _ (c3 .held .ensures) (c2 .operands .given .1) in
+    rw (stretch-lost _ _ _ h (lost _ _ (c1 .follow .ensures) (c .enum-told2 .given .1)))
 
 returns-3 : tie.Need-returns-3
 returns-3 c =
-    let h = holds _ _ _ _ (c .before .before .before .before .before .before .held .ensures) (c .before .before .before .before .operands .given .1) in
-    rw (stretch-found _ _ _ h (found _ _ (c .before .before .follow .ensures) (c .enum-told .given .1) .sound))
+    let c1 = c .before .before in
+    let c2 = c1 .before .before in
+    let c3 = c2 .before .before in
+    let h = holds _ _ _ _ (c3 .held .ensures) (c2 .operands .given .1) in
+    rw (stretch-found _ _ _ h (found _ _ (c1 .follow .ensures) (c .enum-told .given .1) .sound))
 
 pub stretch-answer-spec : {M : Type 1} → statement M
 stretch-answer-spec =

@@ -10,7 +10,8 @@ levels-in-range-requires c κs = search needs
 
 returns : tie.Need-returns
 returns c =
-    let a = c .before .before .before .before .before .before .before .before .before .before .before .before .before .before .before .before .before .before .before .before .args in
+    let c1 = c .before .before .before .before .before .before .before .before .before .before .before .before .before .before .before .before .before .before .before .before in
+    let a = c1 .args in
     in-groups (view (a .self) (a .h0 .now) (a .h1 .now) (a .list .now)) _ (c .levels-in-range .ensures)
 
 pub valid-spec : {M : Type 1} → statement M

@@ -14,7 +14,11 @@ enum-known-v : tie.Need-enum-known-v
 enum-known-v c = search needs
 
 put-plain-requires : tie.Need-put-plain-requires
-put-plain-requires c κs = writable _ _ _ _ (c .before .before .before .before .before .before .before .before .before .before .before .args .value) (c .before .before .before .before .before .write-target .ensures) (c .before .before .before .v .given .1)
+put-plain-requires c κs =
+    let c1 = c .before .before .before in
+    let c2 = c1 .before .before in
+    let c3 = c2 .before .before .before .before .before .before in
+    writable _ _ _ _ (c3 .args .value) (c2 .write-target .ensures) (c1 .v .given .1)
 
 same-length : tie.Need-same-length
 same-length c = search needs
@@ -23,7 +27,11 @@ same-length-2 : tie.Need-same-length-2
 same-length-2 c = search needs
 
 returns : tie.Need-returns
-returns c = rw (unwritten _ _ _ _ (c .before .before .before .before .before .before .before .before .before .args .value) (c .before .before .before .write-target .ensures) (c .before .n .given .1))
+returns c =
+    let c1 = c .before in
+    let c2 = c1 .before .before in
+    let c3 = c2 .before .before .before .before .before .before in
+    rw (unwritten _ _ _ _ (c3 .args .value) (c2 .write-target .ensures) (c1 .n .given .1))
 
 same-length-3 : tie.Need-same-length-3
 same-length-3 c = search needs
@@ -32,7 +40,12 @@ same-length-4 : tie.Need-same-length-4
 same-length-4 c = search needs
 
 returns-2 : tie.Need-returns-2
-returns-2 c = written _ _ _ _ (c .before .before .before .before .before .before .before .before .before .before .before .before .before .before .before .before .args .value) (c .before .before .before .before .before .before .before .before .before .before .write-target .ensures) (c .before .before .before .before .before .before .before .before .v .given .1) (c .before .before .before .before .put-plain .ensures _ _)
+returns-2 c =
+    let c1 = c .before .before .before .before in
+    let c2 = c1 .before .before .before .before in
+    let c3 = c2 .before .before in
+    let c4 = c3 .before .before .before .before .before .before in
+    written _ _ _ _ (c4 .args .value) (c3 .write-target .ensures) (c2 .v .given .1) (c1 .put-plain .ensures _ _)
 
 pub write-spec : {M : Type 1} → statement M
 write-spec =

@@ -18,7 +18,11 @@ enum-known-n : tie.Need-enum-known-n
 enum-known-n c = search needs
 
 returns : tie.Need-returns
-returns c = rw (writing-refused _ _ _ (c .before .before .before .before .before .before .before .args .field) (away _ _ _ _ (c .before .before .before .held .ensures) (c .before .n .given .1)))
+returns c =
+    let c1 = c .before in
+    let c2 = c1 .before .before in
+    let c3 = c2 .before .before .before .before in
+    rw (writing-refused _ _ _ (c3 .args .field) (away _ _ _ _ (c2 .held .ensures) (c1 .n .given .1)))
 
 enum-known-operands : tie.Need-enum-known-operands
 enum-known-operands c = search needs
@@ -36,24 +40,39 @@ enum-told c = search needs
 
 returns-2 : tie.Need-returns-2
 returns-2 c =
-    let h = handed _ _ _ _ (c .before .before .before .before .before .before .held .ensures) (c .before .before .before .before .operands .given .1) in
-    rw (writing-lost _ _ _ (c .before .before .before .before .before .before .before .before .before .before .args .field) h (lost _ _ (c .before .before .follow .ensures) (c .enum-told .given .1)))
+    let c1 = c .before .before in
+    let c2 = c1 .before .before in
+    let c3 = c2 .before .before in
+    let c4 = c3 .before .before .before .before in
+    let h = handed _ _ _ _ (c3 .held .ensures) (c2 .operands .given .1) in
+    rw (writing-lost _ _ _ (c4 .args .field) h (lost _ _ (c1 .follow .ensures) (c .enum-told .given .1)))
 
 returns-3 : tie.Need-returns-3
 returns-3 c =
-    let h = handed _ _ _ _ (c .before .before .before .before .before .before .before .before .held .ensures) (c .before .before .before .before .before .before .operands .given .1) in
-    let d = found _ _ (c .before .before .before .before .follow .ensures) (c .before .before .r .given .1) in
-    rw (writing-beyond _ _ _ (c .before .before .before .before .before .before .before .before .before .before .before .before .args .field) h d (c .if1 .taken))
+    let c1 = c .before .before in
+    let c2 = c1 .before .before in
+    let c3 = c2 .before .before in
+    let c4 = c3 .before .before in
+    let c5 = c4 .before .before .before .before in
+    let h = handed _ _ _ _ (c4 .held .ensures) (c3 .operands .given .1) in
+    let d = found _ _ (c2 .follow .ensures) (c1 .r .given .1) in
+    rw (writing-beyond _ _ _ (c5 .args .field) h d (c .if1 .taken))
 
 bounds-requires : tie.Need-bounds-requires
 bounds-requires c κs =
-    let h = handed _ _ _ _ (c .before .before .before .before .before .before .before .before .held .ensures) (c .before .before .before .before .before .before .operands .given .1) in
+    let c1 = c .before .before .before .before .before .before in
+    let c2 = c1 .before .before in
+    let h = handed _ _ _ _ (c2 .held .ensures) (c1 .operands .given .1) in
     h .holding .within .known .half
 
 replica-for-requires : tie.Need-replica-for-requires
 replica-for-requires c κs =
-    let h = handed _ _ _ _ (c .before .before .before .before .before .before .before .before .before .held .ensures) (c .before .before .before .before .before .before .before .operands .given .1) in
-    let d = found _ _ (c .before .before .before .before .before .follow .ensures) (c .before .before .before .r .given .1) in
+    let c1 = c .before .before .before in
+    let c2 = c1 .before .before in
+    let c3 = c2 .before .before in
+    let c4 = c3 .before .before in
+    let h = handed _ _ _ _ (c4 .held .ensures) (c3 .operands .given .1) in
+    let d = found _ _ (c2 .follow .ensures) (c1 .r .given .1) in
     let q = fronts (h .holding .within .known) in
     (within _ _ (c .bounds .ensures _ _ _ (h .holding .within .known .lent2)) (h .holding .within .known), header-inside _ _ _ _ _ (d .sound) (q .0) (q .1) 2 (omega arith))
 
@@ -65,15 +84,32 @@ enum-told-2 c = search needs
 
 returns-4 : tie.Need-returns-4
 returns-4 c =
-    let h = handed _ _ _ _ (c .before .before .before .before .before .before .before .before .before .before .before .before .held .ensures) (c .before .before .before .before .before .before .before .before .before .before .operands .given .1) in
-    let d = found _ _ (c .before .before .before .before .before .before .before .before .follow .ensures) (c .before .before .before .before .before .before .r .given .1) in
-    rw (writing-astray _ _ _ (c .before .before .before .before .before .before .before .before .before .before .before .before .before .before .before .before .args .field) h d (c .before .before .before .before .if1 .left) (c .before .before .before .bounds .ensures _ _ _ (h .holding .within .known .lent2)) (sym (c .before .before .replica-for .ensures) ∙ ap checked (c .enum-told2 .given .1)))
+    let c1 = c .before .before in
+    let c2 = c1 .before in
+    let c3 = c2 .before in
+    let c4 = c3 .before .before in
+    let c5 = c4 .before .before in
+    let c6 = c5 .before .before in
+    let c7 = c6 .before .before in
+    let c8 = c7 .before .before .before .before in
+    let h = handed _ _ _ _ (c7 .held .ensures) (c6 .operands .given .1) in
+    let d = found _ _ (c5 .follow .ensures) (c4 .r .given .1) in
+    rw (writing-astray _ _ _ (c8 .args .field) h d (c3 .if1 .left) (c2 .bounds .ensures _ _ _ (h .holding .within .known .lent2)) (sym (c1 .replica-for .ensures) ∙ ap checked (c .enum-told2 .given .1)))
 
 returns-5 : tie.Need-returns-5
 returns-5 c =
-    let h = handed _ _ _ _ (c .before .before .before .before .before .before .before .before .before .before .before .before .before .held .ensures) (c .before .before .before .before .before .before .before .before .before .before .before .operands .given .1) in
-    let d = found _ _ (c .before .before .before .before .before .before .before .before .before .follow .ensures) (c .before .before .before .before .before .before .before .r .given .1) in
-    rw (writing-passed _ _ _ (c .before .before .before .before .before .before .before .before .before .before .before .before .before .before .before .before .before .args .field) h d (c .before .before .before .before .before .if1 .left) (c .before .before .before .before .bounds .ensures _ _ _ (h .holding .within .known .lent2)) (sym (c .before .before .before .replica-for .ensures) ∙ ap checked (c .before .t .given .1)))
+    let c1 = c .before in
+    let c2 = c1 .before .before in
+    let c3 = c2 .before in
+    let c4 = c3 .before in
+    let c5 = c4 .before .before in
+    let c6 = c5 .before .before in
+    let c7 = c6 .before .before in
+    let c8 = c7 .before .before in
+    let c9 = c8 .before .before .before .before in
+    let h = handed _ _ _ _ (c8 .held .ensures) (c7 .operands .given .1) in
+    let d = found _ _ (c6 .follow .ensures) (c5 .r .given .1) in
+    rw (writing-passed _ _ _ (c9 .args .field) h d (c4 .if1 .left) (c3 .bounds .ensures _ _ _ (h .holding .within .known .lent2)) (sym (c2 .replica-for .ensures) ∙ ap checked (c1 .t .given .1)))
 
 pub write-target-spec : {M : Type 1} → statement M
 write-target-spec =

@@ -17,7 +17,10 @@ abbrev μ-loop : tie.MeasureT-loop
 μ-loop b h0 h1 old new₀ i₀ new i = 8 - i
 
 loop-holds : tie.Need-loop-holds Inv-loop μ-loop
-loop-holds c = (search needs, search needs, search needs, all-start ((heap (c .before .before .args .b) (c .before .before .args .h0 .now) (c .before .before .args .h1 .now)) .memory) (to (heap (c .before .before .args .b) (c .before .before .args .h0 .now) (c .before .before .args .h1 .now))) (c .before .before .args .t4) (c .before .before .args .t4))
+loop-holds c =
+    let c1 = c .before .before in
+    let a = c1 .args in
+    (search needs, search needs, search needs, all-start ((heap (a .b) (a .h0 .now) (a .h1 .now)) .memory) (to (heap (a .b) (a .h0 .now) (a .h1 .now))) (a .t4) (a .t4))
 
 mul-v : tie.Need-mul-v Inv-loop μ-loop
 mul-v c = search needs
@@ -35,7 +38,12 @@ enum-told : tie.Need-enum-told Inv-loop μ-loop
 enum-told c = search needs
 
 returns : tie.Need-returns Inv-loop μ-loop
-returns c = sym (all-lost ((heap (c .before .before .before .before .before .before .before .args .b) (c .before .before .before .before .before .before .before .args .h0 .now) (c .before .before .before .before .before .before .before .args .h1 .now)) .memory) (to (heap (c .before .before .before .before .before .before .before .args .b) (c .before .before .before .before .before .before .before .args .h0 .now) (c .before .before .before .before .before .before .before .args .h1 .now))) (c .before .before .before .before .before .before .before .args .t4) (c .before .before .before .before .loop .new) (c .before .before .before .before .loop .i) (c .before .before .before .before .loop .inv .3) (omega arith) (sym (c .before .before .forward .ensures) ∙ ap checked (c .enum-told .given .1)))
+returns c =
+    let c1 = c .before .before in
+    let c2 = c1 .before .before in
+    let c3 = c2 .before .before .before in
+    let a = c3 .args in
+    sym (all-lost ((heap (a .b) (a .h0 .now) (a .h1 .now)) .memory) (to (heap (a .b) (a .h0 .now) (a .h1 .now))) (a .t4) (c2 .loop .new) (c2 .loop .i) (c2 .loop .inv .3) (omega arith) (sym (c1 .forward .ensures) ∙ ap checked (c .enum-told .given .1)))
 
 mul-new : tie.Need-mul-new Inv-loop μ-loop
 mul-new c = search needs
@@ -50,10 +58,20 @@ loop-less : tie.Need-loop-less Inv-loop μ-loop
 loop-less c = search needs
 
 loop-again : tie.Need-loop-again Inv-loop μ-loop
-loop-again c = (search needs, search needs, search needs, all-more ((heap (c .before .before .before .before .before .before .before .before .args .b) (c .before .before .before .before .before .before .before .before .args .h0 .now) (c .before .before .before .before .before .before .before .before .args .h1 .now)) .memory) (to (heap (c .before .before .before .before .before .before .before .before .args .b) (c .before .before .before .before .before .before .before .before .args .h0 .now) (c .before .before .before .before .before .before .before .before .args .h1 .now))) (c .before .before .before .before .before .before .before .before .args .t4) (c .before .before .before .before .before .loop .new) (c .before .before .before .before .before .loop .i) (c .before .before .before .before .before .loop .inv .3) (omega arith) _ (sym (c .before .before .before .forward .ensures) ∙ ap checked (c .before .w .given .1)) (omega arith))
+loop-again c =
+    let c1 = c .before in
+    let c2 = c1 .before .before in
+    let c3 = c2 .before .before in
+    let c4 = c3 .before .before .before in
+    let a = c4 .args in
+    (search needs, search needs, search needs, all-more ((heap (a .b) (a .h0 .now) (a .h1 .now)) .memory) (to (heap (a .b) (a .h0 .now) (a .h1 .now))) (a .t4) (c3 .loop .new) (c3 .loop .i) (c3 .loop .inv .3) (omega arith) _ (sym (c2 .forward .ensures) ∙ ap checked (c1 .w .given .1)) (omega arith))
 
 returns-2 : tie.Need-returns-2 Inv-loop μ-loop
-returns-2 c = sym (all-done ((heap (c .before .before .before .before .args .b) (c .before .before .before .before .args .h0 .now) (c .before .before .before .before .args .h1 .now)) .memory) (to (heap (c .before .before .before .before .args .b) (c .before .before .before .before .args .h0 .now) (c .before .before .before .before .args .h1 .now))) (c .before .before .before .before .args .t4) (c .before .loop .new) (c .before .loop .i) (c .before .loop .inv .3) (omega arith) (omega arith))
+returns-2 c =
+    let c1 = c .before in
+    let c2 = c1 .before .before .before in
+    let a = c2 .args in
+    sym (all-done ((heap (a .b) (a .h0 .now) (a .h1 .now)) .memory) (to (heap (a .b) (a .h0 .now) (a .h1 .now))) (a .t4) (c1 .loop .new) (c1 .loop .i) (c1 .loop .inv .3) (omega arith) (omega arith))
 
 pub forward-all-spec : {M : Type 1} → statement M
 forward-all-spec =
