@@ -1,11 +1,10 @@
 -- Phases and levels: shading, and what stores, puts, plain writes, same and allocation do by the session's level.
 use Prim.Native.Nat.{ℕ, _+_}
 use mathlib.Core.Bool.{Bool, true, false, cond, not, _&&_, _||_}
-use mathlib.Core.List.{List, [], _∷_}
 use lib.Dec.{leb, ltb, eqb}
 use lib.ListN.{set, length}
 use Rattle.rules.specs.Refusals.{Tested, passed, check, _>>=_, _>>_}
-use Rattle.rules.specs.Memory.{Memory, half, frontier, null, halfOf, inHalf, shapeWord, sizeOf, white, grey, black, colourAt, newRecord, put, colour, replica, refs, plains, append, nextReference, followed, copyOf, otherCopy, forward}
+use Rattle.rules.specs.Memory.{Memory, half, frontier, null, halfOf, inHalf, shapeWord, sizeOf, white, grey, black, colourAt, newRecord, put, colour, replica, refs, append, nextReference, followed, otherCopy, forward}
 use Rattle.rules.specs.Control.{Store, withMemory, withList, withSessions}
 use Rattle.rules.specs.Phases.{otherHalf, fromspace, tospace, unmarked}
 use Rattle.rules.specs.declared.Writes.{Writes}

@@ -1,16 +1,15 @@
 -- Session calls: for each the tests in the table's order, then what it writes. Arguments in the script's order.
 use Prim.Native.Nat.{ℕ, _+_}
-use mathlib.Core.Bool.{Bool, true, false, cond, not, _&&_}
-use mathlib.Core.List.{List, []}
+use mathlib.Core.Bool.{Bool, true, false, not, _&&_}
+use mathlib.Core.List.{List}
 use lib.Dec.{leb, ltb, eqb}
 use lib.ListN.{getD, set, take, drop, replicate}
 use Rattle.rules.specs.Refusals.{Tested, passed, check, _>>=_, _>>_, Outcome, done, answered}
-use Rattle.rules.specs.Memory.{Memory, half, null, halfOf, wordOf, header, word, refs, plains, refField, plainField, followed}
+use Rattle.rules.specs.Memory.{half, null, halfOf, wordOf, header, word, refs, plains, refField, plainField, followed}
 use Rattle.rules.specs.Control.{Store, withMemory, withGlobals, inRange, registerCount}
 use Rattle.rules.specs.Phases.{levelOf, sessionAt, withSession, register, withRegisters}
 use Rattle.rules.specs.Barriers.{heapOf, shade, replicaFor, storeWrites, putWrites, putBoth, sameAt, allocationRoom, allocated, allocatedReference}
 use Rattle.rules.specs.declared.Session.{Session}
-use Rattle.rules.specs.declared.Writes.{Writes}
 use Rattle.rules.specs.declared.Answer.the-variants.{Word, Same}
 
 -- ---- tests that calls share

@@ -2,17 +2,17 @@
 use Prim.Native.Nat.{ℕ, _<_}
 use mathlib.Core.Path.{_≡_}
 use mathlib.Core.Logic.{_≢_, _⊎_}
-use mathlib.Core.Bool.{Bool, true, false}
-use mathlib.Core.List.{List, [], _∷_, map, List·Memᴰ}
+use mathlib.Core.Bool.{true}
+use mathlib.Core.List.{List, _∷_, map, List·Memᴰ}
 use lib.ListN.{getD, length}
-use Rattle.rules.specs.Refusals.{Reply, answer, Outcome}
+use Rattle.rules.specs.Refusals.{answer}
 use Rattle.rules.specs.Memory.{frontier}
 use Rattle.rules.specs.Control.{Store, make, inRange}
 use Rattle.rules.specs.Phases.{otherHalf}
 use Rattle.rules.specs.Runs.{Call, Step, apply, run, after, sessionCalls, sessionRun, feeds}
 use Rattle.rules.specs.Free.{newFree, freeRun}
 use Rattle.rules.specs.Tracking.{Beside, newBeside, beside, Reached, recordsOf, wordsAt}
-use Rattle.rules.specs.Examples.{Example, starred}
+use Rattle.rules.specs.Examples.{starred}
 use Rattle.rules.specs.declared.Answer.the-variants.{Refused, Done}
 
 -- a store from a making that wasn't refused, "whatever words halves and list then hold"

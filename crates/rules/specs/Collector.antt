@@ -1,6 +1,6 @@
 -- Phases and levels: the collector step. Each phase has a rule for one unit of its work; the table at the end has them by number.
-use Prim.Native.Nat.{ℕ, suc, _+_, _-_}
-use mathlib.Core.Bool.{Bool, true, false, cond, not, _&&_, _||_}
+use Prim.Native.Nat.{ℕ, _+_, _-_}
+use mathlib.Core.Bool.{Bool, true, cond, not, _&&_}
 use mathlib.Core.List.{List, [], _∷_}
 use lib.Dec.{leb, ltb, eqb}
 use lib.ListN.{getD, set, length}
@@ -9,7 +9,6 @@ use Rattle.rules.specs.Memory.{Memory, half, frontier, withFrontier, nul
 use Rattle.rules.specs.Control.{Store, withMemory, withWalk, withList, withGlobals, withCurrent, inRange, globalCount}
 use Rattle.rules.specs.Phases.{levelOf, otherHalf, tospace, sessionAt, withSession, withRegisters, withMark, allAt, lowestUnmarked, moveOn}
 use Rattle.rules.specs.Barriers.{heapOf, toShade, listRoom, shading, shade}
-use Rattle.rules.specs.declared.Session.{Session}
 use Rattle.rules.specs.declared.Answer.the-variants.{Phase}
 
 -- ---- the walk over the records of the current half

@@ -3,7 +3,7 @@ use Prim.Native.Nat.{ℕ, _/_}
 use mathlib.Core.Bool.{Bool, true, false, cond, _&&_, _||_}
 use mathlib.Core.List.{List, [], _∷_}
 use lib.Dec.{leb, eqb}
-use lib.ListN.{getD, set, replicate, length}
+use lib.ListN.{replicate, length}
 use Rattle.rules.specs.Memory.{Memory, null, header}
 use Rattle.rules.specs.Refusals.{Tested, refused, passed, check, _>>_, Outcome, answer}
 use Rattle.rules.specs.declared.Session.{Session}

@@ -1,11 +1,10 @@
 -- Examples: the starred ones as one table. Each row has what the rules give and what document 01 says.
 use Prim.Native.Nat.{ℕ}
-use mathlib.Core.Bool.{Bool, true, false, cond}
 use mathlib.Core.List.{List, [], _∷_, map}
 use lib.ListN.{replicate}
 use Rattle.rules.specs.Refusals.{Reply, answer, words, refusalOf, numberOf, valueOf}
 use Rattle.rules.specs.Memory.{reference}
-use Rattle.rules.specs.Control.{Lengths, Store, newStore, making}
+use Rattle.rules.specs.Control.{Store, newStore, making}
 use Rattle.rules.specs.Runs.{Call, Attach, Allocate, Load, Read, SameAs, run}
 
 pub record Example : Type 0 where

@@ -5,7 +5,7 @@ use mathlib.Core.Bool.{Bool, true, false, cond, not, _&&_}
 use mathlib.Core.List.{List, [], _∷_, _++_}
 use lib.Dec.{leb, ltb, eqb}
 use lib.ListN.{getD, set, length, replicate}
-use Rattle.rules.specs.Refusals.{Tested, refused, passed, check, _>>=_, _>>_, Outcome, Reply, answer, words, settle, wordsOr, doneOr, done, answered}
+use Rattle.rules.specs.Refusals.{Tested, passed, check, _>>=_, _>>_, Outcome, Reply, answer, words, settle, wordsOr, doneOr, done, answered}
 use Rattle.rules.specs.Memory.{null}
 use Rattle.rules.specs.Control.{globalCount, sessionCount, registerCount}
 use Rattle.rules.specs.Calls.{isRegister, isGlobal, isShape}

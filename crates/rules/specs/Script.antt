@@ -1,10 +1,10 @@
 -- The script program: the entries of its input, the call of each, and the lines that it writes.
 use Prim.Native.Nat.{ℕ, zero, suc, _+_, _*_, _-_, _/_, _%_}
-use mathlib.Core.Bool.{Bool, true, false, cond, _&&_}
+use mathlib.Core.Bool.{cond, _&&_}
 use mathlib.Core.List.{List, [], _∷_, _++_}
 use lib.Dec.{leb, ltb, eqb}
 use lib.ListN.{length, getD, take, drop}
-use Rattle.rules.specs.Refusals.{Tested, refused, passed, check, _>>=_, _>>_, Outcome, Reply, answer, words, numberOf, valueOf}
+use Rattle.rules.specs.Refusals.{Tested, refused, passed, check, _>>=_, _>>_, Reply, answer, words, numberOf, valueOf}
 use Rattle.rules.specs.Control.{Store}
 use Rattle.rules.specs.Runs.{Call, Attach, Detach, SafePoint, Allocate, Load, StoreRef, Read, Write, Move, Clear, SameAs, Get, Put, Step, apply}
 

@@ -1,18 +1,16 @@
 -- Runs, beside the collector-free store: which of its records each reference stands for, what its registers and globals reach,
 -- and the records that a half holds.
-use Prim.Native.Nat.{ℕ, zero, suc, _+_, _<_}
-use mathlib.Core.Path.{_≡_}
+use Prim.Native.Nat.{ℕ, zero, suc, _+_}
 use mathlib.Core.Logic.{_≢_}
-use mathlib.Core.Bool.{Bool, true, false, cond}
+use mathlib.Core.Bool.{cond}
 use mathlib.Core.List.{List, [], _∷_}
 use lib.Dec.{ltb, eqb}
 use lib.ListN.{getD, length}
-use Rattle.rules.specs.Refusals.{Outcome}
 use Rattle.rules.specs.Memory.{Memory, frontier, null, reference, size, sizeOf, nextReference}
 use Rattle.rules.specs.Control.{Store}
 use Rattle.rules.specs.Collector.{walked}
-use Rattle.rules.specs.Runs.{Call, Step, apply, isSession, isAllocation, fedBy}
-use Rattle.rules.specs.Free.{Free, Record, recordAt, freeSession, freeRegister, freeApply, newFree}
+use Rattle.rules.specs.Runs.{Call, apply, isSession, isAllocation, fedBy}
+use Rattle.rules.specs.Free.{Free, recordAt, freeSession, freeRegister, freeApply, newFree}
 
 -- ---- tracked places
 

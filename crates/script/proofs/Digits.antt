@@ -1,6 +1,6 @@
 -- The decimal digits of a number: what they are made of, and how many there are.
 use Prim.Native.Nat.{ℕ, zero, suc, _+_, _*_, _/_, _%_, _^_, _≤_, _<_}
-use mathlib.Core.Path.{_≡_, refl}
+use mathlib.Core.Path.{_≡_}
 use mathlib.Core.List.{List, [], _∷_, _++_, append-assoc}
 use native.Mathlib.Omega.{arith}
 use native.Mathlib.Nat.{div-lt-self, div-lt-iff-lt-mul, div-add-mod, pow-suc, mod-lt, add-suc, add-zero}

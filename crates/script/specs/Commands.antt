@@ -1,5 +1,4 @@
 -- The code's commands as the rules' calls, and what it finds in an input as the rules' entries.
-use Prim.Native.Nat.{ℕ}
 use Rattle.rules.specs.Refusals.{Tested, refused, passed}
 use Rattle.rules.specs.Runs as rules
 use Rattle.rules.specs.Script as script

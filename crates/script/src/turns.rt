@@ -25,6 +25,19 @@ pub struct Turn {
     pub more: bool,
 }
 
+// What is left where the turns end.
+fn left(control: store::Control, at: usize, number: u64, end: usize, more: bool) -> Turn
+    ensures { λ r. ⌜ r ≡ record { control = control; at = at; number = number; end = end; more = more } ⌝ }
+{
+    Turn {
+        control,
+        at,
+        number,
+        end,
+        more,
+    }
+}
+
 // Does the entries from a place of the input on, the first of them being entry number count: the call of each on the
 // store, and its line at the end of the output. Goes on until none begins before stop, one is 15, the input ends, the
 // output has not the room for any line, or the entry number can't be counted.
@@ -50,36 +63,18 @@ pub fn take_turns(
     let mut end = start;
     let size = out.len();
     if size < LONGEST {
-        return Turn {
-            control,
-            at,
-            number,
-            end,
-            more: true,
-        };
+        return left(control, at, number, end, true);
     }
     let limit = size - LONGEST;
     while (at < stop) & (end <= limit) & (number < u64::MAX) {
         let parsed = parse(input, at);
         match parsed {
             Parsed::Ended => {
-                return Turn {
-                    control,
-                    at,
-                    number,
-                    end,
-                    more: false,
-                };
+                return left(control, at, number, end, false);
             }
             Parsed::Bad => {
                 let after = write_line(out, end, number, 15, 0);
-                return Turn {
-                    control,
-                    at,
-                    number,
-                    end: after,
-                    more: false,
-                };
+                return left(control, at, number, after, false);
             }
             Parsed::Call(command, next) => {
                 // The calls stand here since the control record is copied for each call of a function of ours.
@@ -94,8 +89,8 @@ pub fn take_turns(
                     Command::Put(s, g, from) => control.put(h0, h1, list, s, g, from),
                     Command::Step => control.step(h0, h1, list),
                 };
-                let left = reply.control;
-                control = left;
+                let next_control = reply.control;
+                control = next_control;
                 let answer = reply.answer;
                 let refusal = number_of(answer);
                 let value = value_of(answer);
@@ -105,11 +100,5 @@ pub fn take_turns(
             }
         }
     }
-    Turn {
-        control,
-        at,
-        number,
-        end,
-        more: true,
-    }
+    left(control, at, number, end, true)
 }

@@ -4,9 +4,8 @@ use mathlib.Core.Path.{_≡_}
 use mathlib.Core.Bool.{Bool, true, false, cond}
 use native.Mathlib.Omega.{arith}
 use lib.Dec.{eqb}
-use lib.ListN.{length}
 use Rattle.rules.specs.Refusals.{Outcome, answer}
-use Rattle.rules.specs.Memory.{Memory, frontier, withFrontier, put, refs, plains, size, sound, followed}
+use Rattle.rules.specs.Memory.{Memory, frontier, withFrontier, put, size, sound, followed}
 use Rattle.rules.specs.Control.{Store, withMemory, withWalk}
 use Rattle.rules.specs.Phases.{otherHalf, moveOn}
 use Rattle.rules.specs.Collector.{walked, below, haveLevel, pastRecord, reclaim}

@@ -1,7 +1,6 @@
 -- Each step keeps the lengths of what it is lent, and the count of steps left falls.
 use Prim.Native.Nat.{_-_, _≤_}
 use mathlib.Core.Path.{_≡_}
-use native.Mathlib.Omega.{arith}
 use lib.ListN.{length}
 use borrow.Author.Needs.{needs}
 use Rattle.examples.proofs.steps_to_rest.Statement.{statement}

@@ -94,11 +94,14 @@ joined c =
     v)
     (c .match2 .came)
 
+left-requires : tie.Need-left-requires Inv-loop μ-loop
+left-requires c κs = search needs
+
 returns : tie.Need-returns Inv-loop μ-loop
 returns c =
-    let c1 = c .before .before .before .before .before .before in
+    let c1 = c .before .before .before .before .before .before .before in
     let a = c1 .args in
-    (full (a .stop) (a .stop) (a .input .now) _ _ _ _ _ (c .if1 .taken), (search needs, λ l. l))
+    rw (c .left .ensures) (full (a .stop) (a .stop) (a .input .now) _ _ _ _ _ (c .before .if1 .taken), (search needs, λ l. l))
 
 loop-holds : tie.Need-loop-holds Inv-loop μ-loop
 loop-holds c = (begin _ _ _, search needs, refl, refl, refl, refl)
@@ -121,12 +124,15 @@ same-length-3 c = search needs
 same-length-4 : tie.Need-same-length-4 Inv-loop μ-loop
 same-length-4 c = search needs
 
+left-requires-2 : tie.Need-left-requires-2 Inv-loop μ-loop
+left-requires-2 c κs = search needs
+
 returns-2 : tie.Need-returns-2 Inv-loop μ-loop
 returns-2 c =
-    let c1 = c .before .before in
-    let c2 = c1 .before in
-    let turn = a-turn c2 in
-    (ends _ _ _ _ turn _ (turn-ended _ _ _ _ _ _ (sym (c1 .parse .ensures) ∙ ap found (c .enum-told .given .1))) refl, (turn .progress .counted, turn .progress .within))
+    let c1 = c .before .before .before in
+    let turn = a-turn (c1 .before) in
+    let here = sym (c1 .parse .ensures) ∙ ap found (c .before .enum-told .given .1) in
+    rw (c .left2 .ensures) (ends _ _ _ _ turn _ (turn-ended _ _ _ _ _ _ here) refl, (turn .progress .counted, turn .progress .within))
 
 enum-told-2 : tie.Need-enum-told-2 Inv-loop μ-loop
 enum-told-2 c = search needs
@@ -146,15 +152,19 @@ same-length-7 c = search needs
 same-length-8 : tie.Need-same-length-8 Inv-loop μ-loop
 same-length-8 c = search needs
 
+left-requires-3 : tie.Need-left-requires-3 Inv-loop μ-loop
+left-requires-3 c κs = search needs
+
 returns-3 : tie.Need-returns-3 Inv-loop μ-loop
 returns-3 c =
-    let c1 = c .before .before in
+    let c1 = c .before .before .before in
     let c2 = c1 .before .before in
     let c3 = c2 .before .before in
-    let c4 = c3 .before in
-    let turn = a-turn c4 in
+    let turn = a-turn (c3 .before) in
     let line = c1 .write-line in
-    (ends _ _ _ _ turn _ (turn-bad _ _ _ _ _ _ (sym (c3 .parse .ensures) ∙ ap found (c2 .enum-told2 .given .1)) (line .ensures .0) (line .ensures .1 .0)) refl, (turn .progress .counted, λ h. omega (arith, line .ensures .1 .1, line .kept, turn .room)))
+    let here = sym (c3 .parse .ensures) ∙ ap found (c2 .enum-told2 .given .1) in
+    rw (c .left3 .ensures)
+    (ends _ _ _ _ turn _ (turn-bad _ _ _ _ _ _ here (line .ensures .0) (line .ensures .1 .0)) refl, (turn .progress .counted, λ h. omega (arith, line .ensures .1 .1, line .kept, turn .room)))
 
 enum-known-parsed : tie.Need-enum-known-parsed Inv-loop μ-loop
 enum-known-parsed c = search needs
@@ -260,10 +270,13 @@ same-length-11 c = search needs
 same-length-12 : tie.Need-same-length-12 Inv-loop μ-loop
 same-length-12 c = search needs
 
+left-requires-4 : tie.Need-left-requires-4 Inv-loop μ-loop
+left-requires-4 c κs = search needs
+
 returns-4 : tie.Need-returns-4 Inv-loop μ-loop
 returns-4 c =
-    let inv = c .before .loop .inv in
-    (stopped _ _ _ _ _ _ _ _ _ (inv .0) (inv .1) (c .loop-test .left), (inv .0 .counted, inv .0 .within))
+    let inv = c .before .before .loop .inv in
+    rw (c .left4 .ensures) (stopped _ _ _ _ _ _ _ _ _ (inv .0) (inv .1) (c .before .loop-test .left), (inv .0 .counted, inv .0 .within))
 
 pub take-turns-spec : {M : Type 1} → statement M
 take-turns-spec =
@@ -271,10 +284,12 @@ take-turns-spec =
     (tie.spec
     Inv-loop
     μ-loop
+    left-requires
     returns
     loop-holds
     parse-requires
     enum-told
+    left-requires-2
     same-length
     same-length-2
     same-length-3
@@ -282,6 +297,7 @@ take-turns-spec =
     returns-2
     enum-told-2
     write-line-requires
+    left-requires-3
     same-length-5
     same-length-6
     same-length-7
@@ -312,6 +328,7 @@ take-turns-spec =
     add-number
     loop-less
     loop-again
+    left-requires-4
     same-length-9
     same-length-10
     same-length-11

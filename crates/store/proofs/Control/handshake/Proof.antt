@@ -1,5 +1,4 @@
 -- Some session lacks the level, or the step moves on.
-use mathlib.Core.Path.{_∙_, ap}
 use Rattle.rules.specs.Collector.{handshake}
 use Rattle.store.proofs.Flags.{no, yes}
 use borrow.Author.Needs.{needs}

@@ -1,6 +1,4 @@
 -- The level of the phase, and the test of the attached sessions.
-use mathlib.Core.Path.{_∙_, ap}
-use Rattle.rules.specs.Phases.{allAt}
 use Rattle.rules.specs.Collector.{haveLevel}
 use borrow.Author.Needs.{needs}
 use Rattle.store.proofs.Control.have_level.Statement.{statement}

@@ -1,7 +1,6 @@
 -- Waiting for level 0, the other half emptied, damage, or the next record's replica word cleared.
 use mathlib.Core.Path.{_∙_, ap}
 use native.Mathlib.Omega.{arith}
-use Rattle.rules.specs.Phases.{moveOn}
 use Rattle.rules.specs.Control.{Store}
 use Rattle.rules.proofs.Ranges.{in-range, place-small, fronts}
 use Rattle.heap.proofs.Soundness.{found, lost}

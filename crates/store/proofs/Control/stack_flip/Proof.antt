@@ -1,11 +1,9 @@
 -- Tospace current after the last session; before it damage, or the registers of the next session forwarded.
-use mathlib.Core.Path.{_≡_, _∙_, ap, sym}
+use mathlib.Core.Path.{_≡_}
 use lib.ListN.{length}
 use Rattle.store.proofs.Marked.{unmapped}
-use native.Mathlib.Omega.{arith}
 use Rattle.rules.specs.Phases.{sessionAt, withSession}
 use Rattle.rules.proofs.Ranges.{in-range}
-use Rattle.store.specs.Steps.{went}
 use Rattle.store.specs.View.{view}
 use Rattle.store.proofs.Shaded.{within}
 use Rattle.store.proofs.Forwards.{bounds-over, all-told, tospace-told}
