@@ -16,7 +16,7 @@ import sys
 import tempfile
 import time
 
-from workloads import WORKLOADS, encode
+from workloads import GROWTH, WORKLOADS, encode
 
 ROOT = os.path.join(os.path.dirname(os.path.abspath(__file__)), "..")
 OURS = os.path.join(ROOT, "target", "bin", "script_main")
@@ -87,7 +87,7 @@ def compare(name, entries):
 def growth(title, ours, plain, counts):
     """Instructions per entry by the number of live records; the entries that make those records are in the count."""
     print(f"\ninstructions per entry, ours / plain, by live records, {title}")
-    for name, make in WORKLOADS.items():
+    for name, make in GROWTH.items():
         cells = []
         for live in counts:
             entries = make(40000 + 5 * live, live)

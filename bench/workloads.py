@@ -61,5 +61,15 @@ def stores_under_collection(length, live=100):
     return entries[:length]
 
 
+def steps_alone(length, live=100):
+    """Nineteen steps in twenty entries, after the records are made: the cost of a step."""
+    entries = chain(live)
+    while len(entries) < length:
+        entries += [(STEP, [])] * 38 + [(SAFE, [0]), (SAFE, [1])]
+    return entries[:length]
+
+
 WORKLOADS = {"reads and writes": reads_and_writes, "allocation and collection": allocation_and_collection,
              "stores under a collection": stores_under_collection}
+# how the cost of a call and of a step grows: the first script of the benchmark has no step, this one next to nothing else
+GROWTH = {**WORKLOADS, "steps alone": steps_alone}
