@@ -20,3 +20,5 @@ pub mod Writing
 pub mod Buffer
 -- the output of turn after turn: the text of the script's lines
 pub mod Output
+-- read, write and same leave the control record as it came
+pub mod Keeping

@@ -15,6 +15,8 @@ use Rattle.rules.specs.Runs.{Call, apply}
 use Rattle.rules.specs.Script.{ended, bad, call, entryAt, badLine, textOf}
 use Rattle.rules.proofs.Ranges.{both}
 use Rattle.rules.proofs.memory.Cases.{lt-or}
+use Rattle.rules.specs.declared.Answer.{Answer}
+use Rattle.store.specs.declared.Control.{Control}
 use Rattle.store.specs.declared.Reply.{Reply}
 use Rattle.store.specs.View.{view, outcome}
 use Rattle.script.specs.Commands.{calling}
@@ -157,11 +159,12 @@ pub record Answered (s : Store) (k : Call) (h0 h1 l : List ℕ) (r : Reply) (h0'
   pub half1 : length h1' ≡ length h1
   pub list : length l' ≡ length l
 
-pub answered : {s : Store} {h0 h1 l : List ℕ} {c c' : Command} {r r' : Reply} {a0 a0' a1 a1' a a' : List ℕ} → c ≡ c' → a0 ≡ a0' → a1 ≡ a1' → a ≡ a' → r ≡ r' →
-    outcome r' a0' a1' a' ≡ apply s (calling c') → length a0' ≡ length h0 → length a1' ≡ length h1 → length a' ≡ length l →
-    Answered s (calling c) h0 h1 l r a0 a1 a
-answered p q0 q1 q t o n0 n1 n =
-    record { left = rw (p, q0, q1, q, t) o; half0 = rw q0 n0; half1 = rw q1 n1; list = rw q n }
+pub answered : {s : Store} {h0 h1 l : List ℕ} {c c' : Command} {k k' : Control} {r r' : Answer} {a0 a0' a1 a1' a a' : List ℕ}
+    → c ≡ c' → k ≡ k' → a0 ≡ a0' → a1 ≡ a1' → a ≡ a' → r ≡ r'
+    → outcome (record { control = k'; answer = r' }) a0' a1' a' ≡ apply s (calling c') → length a0' ≡ length h0 → length a1' ≡ length h1 → length a' ≡ length l
+    → Answered s (calling c) h0 h1 l (record { control = k; answer = r }) a0 a1 a
+answered p u q0 q1 q t o n0 n1 n =
+    record { left = rw (p, u, q0, q1, q, t) o; half0 = rw q0 n0; half1 = rw q1 n1; list = rw q n }
 
 -- ---- a bad version
 

@@ -77,21 +77,43 @@ pub fn take_turns(
                 return left(control, at, number, after, false);
             }
             Parsed::Call(command, next) => {
-                // The calls stand here since the control record is copied for each call of a function of ours.
-                let reply = match command {
-                    Command::Session(c) => call_session(control, h0, h1, list, c),
-                    Command::Allocate(s, k, r, p) => control.allocate(h0, h1, list, s, k, r, p),
-                    Command::Load(s, to, k, i) => control.load(h0, h1, list, s, to, k, i),
-                    Command::Store(s, k, i, from) => control.store(h0, h1, list, s, k, i, from),
-                    Command::Read(s, k, i) => control.read(h0, h1, list, s, k, i),
-                    Command::Write(s, k, i, a) => control.write(h0, h1, list, s, k, i, a),
-                    Command::Same(s, a, b) => control.same(h0, h1, list, s, a, b),
-                    Command::Put(s, g, from) => control.put(h0, h1, list, s, g, from),
-                    Command::Step => control.step(h0, h1, list),
+                // The calls stand here since the control record is copied for each call of a function of ours; read, write
+                // and same leave it alone, so theirs is not copied back.
+                let answer = match command {
+                    Command::Session(c) => {
+                        let reply = call_session(control, h0, h1, list, c);
+                        control = reply.control;
+                        reply.answer
+                    }
+                    Command::Allocate(s, k, r, p) => {
+                        let reply = control.allocate(h0, h1, list, s, k, r, p);
+                        control = reply.control;
+                        reply.answer
+                    }
+                    Command::Load(s, to, k, i) => {
+                        let reply = control.load(h0, h1, list, s, to, k, i);
+                        control = reply.control;
+                        reply.answer
+                    }
+                    Command::Store(s, k, i, from) => {
+                        let reply = control.store(h0, h1, list, s, k, i, from);
+                        control = reply.control;
+                        reply.answer
+                    }
+                    Command::Read(s, k, i) => control.read(h0, h1, list, s, k, i).answer,
+                    Command::Write(s, k, i, a) => control.write(h0, h1, list, s, k, i, a).answer,
+                    Command::Same(s, a, b) => control.same(h0, h1, list, s, a, b).answer,
+                    Command::Put(s, g, from) => {
+                        let reply = control.put(h0, h1, list, s, g, from);
+                        control = reply.control;
+                        reply.answer
+                    }
+                    Command::Step => {
+                        let reply = control.step(h0, h1, list);
+                        control = reply.control;
+                        reply.answer
+                    }
                 };
-                let next_control = reply.control;
-                control = next_control;
-                let answer = reply.answer;
                 let refusal = number_of(answer);
                 let value = value_of(answer);
                 end = write_line(out, end, number, refusal, value);

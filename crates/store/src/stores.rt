@@ -57,7 +57,7 @@ impl Control {
 
     // Store: a reference field of the record in a register gets what register `from` holds.
     pub fn store(
-        self,
+        mut self,
         h0: &mut [u32],
         h1: &mut [u32],
         list: &mut [u32],
@@ -70,25 +70,21 @@ impl Control {
             ≡ apply (view self (now (h0 .entry)) (now (h1 .entry)) (now (list .entry))) (StoreRef s register field from) ⌝ }
     {
         let plan = self.store_plan(h0, h1, list, s, register, field, from);
-        match plan {
-            Storing::Refusal(n) => Reply {
-                control: self,
-                answer: rules::Answer::Refused(n),
-            },
+        let answer = match plan {
+            Storing::Refusal(n) => rules::Answer::Refused(n),
             Storing::Into(v, w) => {
                 let j = 3 + (field as usize);
-                // With nothing to shade the control record stays where it is.
-                let next = if w.shade == 0 {
-                    self
-                } else {
-                    self.shade(h0, h1, list, w.shade)
-                };
-                put_both(h0, h1, v, j, w.own, w.replica, j, w.copy);
-                Reply {
-                    control: next,
-                    answer: rules::Answer::Done,
+                // with nothing to shade the control record stays where it is
+                if w.shade != 0 {
+                    self = self.shade(h0, h1, list, w.shade);
                 }
+                put_both(h0, h1, v, j, w.own, w.replica, j, w.copy);
+                rules::Answer::Done
             }
+        };
+        Reply {
+            control: self,
+            answer,
         }
     }
 
@@ -127,7 +123,7 @@ impl Control {
 
     // Put: a global gets what register `from` holds.
     pub fn put(
-        self,
+        mut self,
         h0: &mut [u32],
         h1: &mut [u32],
         list: &mut [u32],
@@ -139,25 +135,21 @@ impl Control {
             ≡ apply (view self (now (h0 .entry)) (now (h1 .entry)) (now (list .entry))) (Put s global from) ⌝ }
     {
         let plan = self.put_plan(h0, h1, list, s, global, from);
-        match plan {
-            Storing::Refusal(n) => Reply {
-                control: self,
-                answer: rules::Answer::Refused(n),
-            },
+        let answer = match plan {
+            Storing::Refusal(n) => rules::Answer::Refused(n),
             Storing::Into(_, w) => {
                 let g = global as usize;
-                // With nothing to shade the control record stays where it is.
-                let mut next = if w.shade == 0 {
-                    self
-                } else {
-                    self.shade(h0, h1, list, w.shade)
-                };
-                next.globals[g] = w.own;
-                Reply {
-                    control: next,
-                    answer: rules::Answer::Done,
+                // with nothing to shade the control record stays where it is
+                if w.shade != 0 {
+                    self = self.shade(h0, h1, list, w.shade);
                 }
+                self.globals[g] = w.own;
+                rules::Answer::Done
             }
+        };
+        Reply {
+            control: self,
+            answer,
         }
     }
 }

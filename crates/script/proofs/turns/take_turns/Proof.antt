@@ -11,6 +11,7 @@ use Rattle.store.specs.View.{view}
 use Rattle.script.specs.Commands.{calling, found}
 use Rattle.script.specs.Turns.{Left, begun}
 use Rattle.script.proofs.Places.{moves-on}
+use Rattle.script.proofs.Keeping.{read-kept, write-kept, same-kept}
 use Rattle.script.proofs.Turning.{Progress, Open, Answered, answered, begin, opened, stopped, full, ends, goes-on, turn-ended, turn-bad, turn-called}
 use Rattle.script.proofs.turns.take_turns.Statement.{statement}
 use Rattle.script.proofs.turns.take_turns.Tie as tie
@@ -63,28 +64,28 @@ joined : (c : tie.At-match2-came Inv-loop μ-loop) →
     (c .before .before .before .before .before .before .loop .h0)
     (c .before .before .before .before .before .before .loop .h1)
     (c .before .before .before .before .before .before .loop .list)
-    (c .match2 .reply)
+    (record { control = c .match2 .control; answer = c .match2 .answer })
     (c .match2 .h0)
     (c .match2 .h1)
     (c .match2 .list)
 joined c =
     ⊎-elim
-    (λ w. answered (w .1 .given .1) (w .7) (w .8) (w .9) (w .10) (w .6 .ensures) (search needs) (search needs) (search needs))
+    (λ w. answered (w .1 .given .1) (w .8) (w .9) (w .10) (w .11) (w .12) (w .6 .ensures) (search needs) (search needs) (search needs))
     (λ v. ⊎-elim
-    (λ w. answered (w .1 .given .1) (w .11) (w .12) (w .13) (w .14) (w .6 .ensures) (search needs) (search needs) (search needs))
+    (λ w. answered (w .1 .given .1) (w .12) (w .13) (w .14) (w .15) (w .16) (w .6 .ensures) (search needs) (search needs) (search needs))
     (λ v. ⊎-elim
-    (λ w. answered (w .1 .given .1) (w .7) (w .8) (w .9) (w .10) (w .6 .ensures) (search needs) (search needs) (search needs))
+    (λ w. answered (w .1 .given .1) (w .8) (w .9) (w .10) (w .11) (w .12) (w .6 .ensures) (search needs) (search needs) (search needs))
     (λ v. ⊎-elim
-    (λ w. answered (w .1 .given .1) (w .13) (w .14) (w .15) (w .16) (w .6 .ensures) (search needs) (search needs) (search needs))
+    (λ w. answered (w .1 .given .1) (w .14) (w .15) (w .16) (w .17) (w .18) (w .6 .ensures) (search needs) (search needs) (search needs))
     (λ v. ⊎-elim
-    (λ w. answered (w .1 .given .1) (w .7) (w .8) (w .9) (w .10) (w .6 .ensures) (search needs) (search needs) (search needs))
+    (λ w. answered (w .1 .given .1) (w .7) (w .8) (w .9) (w .10) (w .11) (read-kept _ _ _ _ _ _ _ _ (w .6 .ensures)) (search needs) (search needs) (search needs))
     (λ v. ⊎-elim
-    (λ w. answered (w .1 .given .1) (w .11) (w .12) (w .13) (w .14) (w .6 .ensures) (search needs) (search needs) (search needs))
+    (λ w. answered (w .1 .given .1) (w .11) (w .12) (w .13) (w .14) (w .15) (write-kept _ _ _ _ _ _ _ _ _ (w .6 .ensures)) (search needs) (search needs) (search needs))
     (λ v. ⊎-elim
-    (λ w. answered (w .1 .given .1) (w .7) (w .8) (w .9) (w .10) (w .6 .ensures) (search needs) (search needs) (search needs))
+    (λ w. answered (w .1 .given .1) (w .7) (w .8) (w .9) (w .10) (w .11) (same-kept _ _ _ _ _ _ _ _ (w .6 .ensures)) (search needs) (search needs) (search needs))
     (λ v. ⊎-elim
-    (λ w. answered (w .1 .given .1) (w .13) (w .14) (w .15) (w .16) (w .6 .ensures) (search needs) (search needs) (search needs))
-    (λ w. answered (w .1 .given .1) (w .12) (w .13) (w .14) (w .15) (w .5 .ensures) (search needs) (search needs) (search needs))
+    (λ w. answered (w .1 .given .1) (w .14) (w .15) (w .16) (w .17) (w .18) (w .6 .ensures) (search needs) (search needs) (search needs))
+    (λ w. answered (w .1 .given .1) (w .13) (w .14) (w .15) (w .16) (w .17) (w .5 .ensures) (search needs) (search needs) (search needs))
     v)
     v)
     v)
@@ -230,14 +231,14 @@ value-of-requires : tie.Need-value-of-requires Inv-loop μ-loop
 value-of-requires c κs = search needs
 
 write-line-requires-2 : tie.Need-write-line-requires-2 Inv-loop μ-loop
-write-line-requires-2 c κs = a-turn (c .before .before .before .before .before .before .before .before .before) .room
+write-line-requires-2 c κs = a-turn (c .before .before .before .before .before .before .before .before) .room
 
 add-number : tie.Need-add-number Inv-loop μ-loop
-add-number c = omega (arith, a-turn (c .before .before .before .before .before .before .before .before .before .before .before .before) .countable)
+add-number c = omega (arith, a-turn (c .before .before .before .before .before .before .before .before .before .before .before) .countable)
 
 loop-less : tie.Need-loop-less Inv-loop μ-loop
 loop-less c =
-    let c1 = c .before .before .before .before .before .before .before .before .before in
+    let c1 = c .before .before .before .before .before .before .before .before in
     let c2 = c1 .before .before .before in
     omega (arith, a-turn c2 .before, moves-on _ _ (stands c1))
 
@@ -246,7 +247,7 @@ loop-again c =
     let c1 = c .before .before in
     let c2 = c1 .before .before in
     let c3 = c2 .before in
-    let c4 = c3 .before .before in
+    let c4 = c3 .before in
     let c5 = c4 .before .before in
     let c6 = c5 .before .before .before in
     let c7 = c6 .before in
@@ -255,7 +256,7 @@ loop-again c =
     let here = stands c5 in
     let line = c1 .write-line2 in
     let inv = c7 .loop .inv in
-    let taken = turn-called _ _ _ _ _ _ (c4 .match2 .reply) here (call .left) (c3 .number-of .ensures) (c2 .value-of .ensures) (line .ensures .0) (line .ensures .1 .0) in
+    let taken = turn-called _ _ _ _ _ _ (record { control = c4 .match2 .control; answer = c4 .match2 .answer }) here (call .left) (c3 .number-of .ensures) (c2 .value-of .ensures) (line .ensures .0) (line .ensures .1 .0) in
     (goes-on _ _ _ _ turn _ taken refl (moves-on _ _ here) (omega (arith, line .ensures .1 .1, line .kept, turn .room)), omega (arith, inv .1, line .kept), call .half0 ∙ inv .2, call .half1 ∙ inv .3, call .list ∙ inv .4, omega (arith, inv .5, line .kept))
 
 same-length-9 : tie.Need-same-length-9 Inv-loop μ-loop

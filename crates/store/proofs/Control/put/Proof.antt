@@ -28,27 +28,27 @@ shade-requires c κs =
 abbrev entered : tie.Joined1 → Store
 entered j =
     let a = j .before .before .before .before .before .before .before .before .before .before .before .before .args in
-    view (a .self) (a .h0 .now) (a .h1 .now) (a .list .now)
+    view (a .t1) (a .h0 .now) (a .h1 .now) (a .list .now)
 
 abbrev plan : tie.Joined1 → Writes
 plan j = j .before .before .before .plan2 .given .0 .1 .0
 
 -- there the record is shaded, or there was none to shade
-shaded : (j : tie.Joined1) → Next (entered j) (plan j .shade) (j .if1 .next) (j .if1 .h0) (j .if1 .h1) (j .if1 .list)
+shaded : (j : tie.Joined1) → Next (entered j) (plan j .shade) (j .if1 .self) (j .if1 .h0) (j .if1 .h1) (j .if1 .list)
 shaded j =
     ⊎-elim
-    (λ w. met (unshaded _ _ _ _ _ (w .0 .taken)) (w .1) (w .2) (w .3) (w .4))
     (λ w. met (record { shaded = w .4 .ensures; low = w .4 .kept .1 .0; high = w .4 .kept .1 .1 .0; listed = w .4 .kept .1 .1 .1 .0 }) (w .11) (w .12) (w .13) (w .14))
+    (λ w. met (unshaded _ _ _ _ _ (w .0 .left)) (w .1) (w .2) (w .3) (w .4))
     (j .if1 .came)
 
-mul-next : tie.Need-mul-next
-mul-next c =
+mul-self : tie.Need-mul-self
+mul-self c =
     let c1 = c .before .before .before in
     let c2 = c1 .before .before in
     omega (arith, put-known-by _ _ _ _ (c2 .put-plan .ensures) (c1 .plan2 .given .1) .0)
 
-element-write-next : tie.Need-element-write-next
-element-write-next c =
+element-write-self : tie.Need-element-write-self
+element-write-self c =
     let c1 = c .before .before .before in
     let c2 = c1 .before .before in
     omega (arith, put-known-by _ _ _ _ (c2 .put-plan .ensures) (c1 .plan2 .given .1) .0)
@@ -88,8 +88,8 @@ put-spec =
     enum-known-plan
     enum-known-plan-2
     shade-requires
-    mul-next
-    element-write-next
+    mul-self
+    element-write-self
     same-length
     same-length-2
     same-length-3

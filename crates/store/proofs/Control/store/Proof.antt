@@ -38,11 +38,11 @@ abbrev plan : tie.Joined1 → Writes
 plan j = j .before .before .before .plan2 .given .0 .1 .0
 
 -- there the record is shaded, or there was none to shade
-shaded : (j : tie.Joined1) → Next (entered j) (plan j .shade) (j .if1 .next) (j .if1 .h0) (j .if1 .h1) (j .if1 .list)
+shaded : (j : tie.Joined1) → Next (entered j) (plan j .shade) (j .if1 .self) (j .if1 .h0) (j .if1 .h1) (j .if1 .list)
 shaded j =
     ⊎-elim
-    (λ w. met (unshaded _ _ _ _ _ (w .0 .taken)) (w .1) (w .2) (w .3) (w .4))
-    (λ w. met (record { shaded = w .4 .ensures; low = w .4 .kept .1 .0; high = w .4 .kept .1 .1 .0; listed = w .4 .kept .1 .1 .1 .0 }) (w .11) (w .12) (w .13) (w .14))
+    (λ w. met (record { shaded = w .4 .ensures; low = w .4 .kept .1 .0; high = w .4 .kept .1 .1 .0; listed = w .4 .kept .1 .1 .1 .0 }) (w .12) (w .13) (w .14) (w .11))
+    (λ w. met (unshaded _ _ _ _ _ (w .0 .left)) (w .2) (w .3) (w .4) (w .1))
     (j .if1 .came)
 
 put-both-requires : tie.Need-put-both-requires
