@@ -43,7 +43,8 @@ impl Control {
         let i = s as usize;
         let k = register as usize;
         let j = other as usize;
-        let session = self.sessions[i];
+        let sessions = self.sessions;
+        let session = sessions[i];
         let reference = session.registers[k];
         let word = session.registers[j];
         if reference == 0 {

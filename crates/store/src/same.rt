@@ -35,7 +35,8 @@ impl Control {
                 answer: rules::Answer::Refused(8),
             };
         }
-        let session = self.sessions[s as usize];
+        let sessions = self.sessions;
+        let session = sessions[s as usize];
         let first = session.registers[a as usize];
         let second = session.registers[b as usize];
         let bounds = self.bounds();

@@ -112,7 +112,8 @@ impl Control {
         }
         let i = s as usize;
         let j = from as usize;
-        let session = self.sessions[i];
+        let sessions = self.sessions;
+        let session = sessions[i];
         let q = session.registers[j];
         let b = self.bounds();
         let Planned::Plan(w) = put_writes(b, h0, h1, session.level, q) else {

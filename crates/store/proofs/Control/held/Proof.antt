@@ -28,9 +28,9 @@ returns-2 c =
 mul-session : tie.Need-mul-session
 mul-session c = search needs
 
-element-copy-out-session : tie.Need-element-copy-out-session
-element-copy-out-session c =
-    let k = known _ _ (c .before .before .session-tests .ensures) (c .before .if1 .left) in
+array-copy-out-session : tie.Need-array-copy-out-session
+array-copy-out-session c =
+    let k = known _ _ (c .before .before .before .session-tests .ensures) (c .before .before .if1 .left) in
     omega arith
 
 mul-reference : tie.Need-mul-reference
@@ -38,8 +38,8 @@ mul-reference c = search needs
 
 element-copy-out-reference : tie.Need-element-copy-out-reference
 element-copy-out-reference c =
-    let a = c .before .before .before .before .before .before .before .args in
-    let k = registers-known (a .register) (a .other) (c .before .if2 .left) in
+    let a = c .before .before .before .before .before .before .before .before .args in
+    let k = registers-known (a .register) (a .other) (c .before .before .if2 .left) in
     omega arith
 
 mul-word : tie.Need-mul-word
@@ -47,19 +47,19 @@ mul-word c = search needs
 
 element-copy-out-word : tie.Need-element-copy-out-word
 element-copy-out-word c =
-    let a = c .before .before .before .before .before .before .before .before .args in
-    let k = registers-known (a .register) (a .other) (c .before .before .if2 .left) in
+    let a = c .before .before .before .before .before .before .before .before .before .args in
+    let k = registers-known (a .register) (a .other) (c .before .before .before .if2 .left) in
     omega arith
 
 returns-3 : tie.Need-returns-3
 unfolding holding register sessionAt
 returns-3 c =
-    let c1 = c .before .before .before .before in
+    let c1 = c .before .before .before .before .before in
     let c2 = c1 .before in
     let c3 = c2 .before in
     let c4 = c3 .before .before .before .before in
     let a = c4 .args in
-    let v = getD (getD (a .t1 .sessions) (a .s) absent .registers) (a .register) 0 in
+    let v = getD (getD (a .self .sessions) (a .s) absent .registers) (a .register) 0 in
     rw (
       let-in _ _ (c3 .session-tests .ensures) (c2 .if1 .left),
       registers-in (a .register) (a .other) (c1 .if2 .left),
@@ -69,12 +69,12 @@ returns-3 c =
 returns-4 : tie.Need-returns-4
 unfolding holding register sessionAt
 returns-4 c =
-    let c1 = c .before .before .before .before in
+    let c1 = c .before .before .before .before .before in
     let c2 = c1 .before in
     let c3 = c2 .before in
     let c4 = c3 .before .before .before .before in
     let a = c4 .args in
-    let v = getD (getD (a .t1 .sessions) (a .s) absent .registers) (a .register) 0 in
+    let v = getD (getD (a .self .sessions) (a .s) absent .registers) (a .register) 0 in
     rw (
       let-in _ _ (c3 .session-tests .ensures) (c2 .if1 .left),
       registers-in (a .register) (a .other) (c1 .if2 .left),
@@ -89,7 +89,7 @@ held-spec =
     returns
     returns-2
     mul-session
-    element-copy-out-session
+    array-copy-out-session
     mul-reference
     element-copy-out-reference
     mul-word

@@ -29,9 +29,9 @@ returns-3 c =
 mul-session : tie.Need-mul-session
 mul-session c = search needs
 
-element-copy-out-session : tie.Need-element-copy-out-session
-element-copy-out-session c =
-    let k = known _ _ (c .before .before .before .session-tests .ensures) (c .before .before .if1 .left) in
+array-copy-out-session : tie.Need-array-copy-out-session
+array-copy-out-session c =
+    let k = known _ _ (c .before .before .before .before .session-tests .ensures) (c .before .before .before .if1 .left) in
     omega arith
 
 mul-q : tie.Need-mul-q
@@ -42,13 +42,13 @@ element-copy-out-q c = search needs
 
 bounds-requires : tie.Need-bounds-requires
 bounds-requires c κs =
-    let c1 = c .before .before .before .before in
+    let c1 = c .before .before .before .before .before in
     let c2 = c1 .before in
     known _ _ (c2 .session-tests .ensures) (c1 .if1 .left) .known .half
 
 put-writes-requires : tie.Need-put-writes-requires
 put-writes-requires c κs =
-    let c1 = c .before .before .before .before .before in
+    let c1 = c .before .before .before .before .before .before in
     let c2 = c1 .before in
     let k = known _ _ (c2 .session-tests .ensures) (c1 .if1 .left) .known in
     within _ _ (c .bounds .ensures _ _ _ (k .lent2)) k
@@ -64,7 +64,7 @@ unfolding register sessionAt
 returns-4 c =
     let c1 = c .before .before in
     let c2 = c1 .before in
-    let c3 = c2 .before .before .before in
+    let c3 = c2 .before .before .before .before in
     let c4 = c3 .before in
     let c5 = c4 .before in
     let c6 = c5 .before in
@@ -77,7 +77,7 @@ returns-5 c =
     let c1 = c .before in
     let c2 = c1 .before .before in
     let c3 = c2 .before in
-    let c4 = c3 .before .before .before in
+    let c4 = c3 .before .before .before .before in
     let c5 = c4 .before in
     let c6 = c5 .before in
     let c7 = c6 .before in
@@ -93,7 +93,7 @@ put-plan-spec =
     returns-2
     returns-3
     mul-session
-    element-copy-out-session
+    array-copy-out-session
     mul-q
     element-copy-out-q
     bounds-requires

@@ -27,9 +27,9 @@ returns-2 c =
 mul-session : tie.Need-mul-session
 mul-session c = search needs
 
-element-copy-out-session : tie.Need-element-copy-out-session
-element-copy-out-session c =
-    let k = known _ _ (c .before .before .session-tests .ensures) (c .before .if1 .left) in
+array-copy-out-session : tie.Need-array-copy-out-session
+array-copy-out-session c =
+    let k = known _ _ (c .before .before .before .session-tests .ensures) (c .before .before .if1 .left) in
     omega (arith, k .number)
 
 mul-first : tie.Need-mul-first
@@ -37,27 +37,27 @@ mul-first c = search needs
 
 element-copy-out-first : tie.Need-element-copy-out-first
 element-copy-out-first c =
-    let a = c .before .before .before .before .before .before .before .args in
-    omega (arith, registers-known (a .a) (a .b) (c .before .if2 .left) .0)
+    let a = c .before .before .before .before .before .before .before .before .args in
+    omega (arith, registers-known (a .a) (a .b) (c .before .before .if2 .left) .0)
 
 mul-second : tie.Need-mul-second
 mul-second c = search needs
 
 element-copy-out-second : tie.Need-element-copy-out-second
 element-copy-out-second c =
-    let a = c .before .before .before .before .before .before .before .before .args in
-    omega (arith, registers-known (a .a) (a .b) (c .before .before .if2 .left) .1)
+    let a = c .before .before .before .before .before .before .before .before .before .args in
+    omega (arith, registers-known (a .a) (a .b) (c .before .before .before .if2 .left) .1)
 
 bounds-requires : tie.Need-bounds-requires
 bounds-requires c κs =
-    let c1 = c .before .before .before .before in
+    let c1 = c .before .before .before .before .before in
     let c2 = c1 .before in
     let k = known _ _ (c2 .session-tests .ensures) (c1 .if1 .left) in
     k .known .half
 
 same-at-requires : tie.Need-same-at-requires
 same-at-requires c κs =
-    let c1 = c .before .before .before .before .before in
+    let c1 = c .before .before .before .before .before .before in
     let c2 = c1 .before in
     let k = known _ _ (c2 .session-tests .ensures) (c1 .if1 .left) in
     within _ _ (c .bounds .ensures _ _ _ (k .known .lent2)) (k .known)
@@ -73,7 +73,7 @@ unfolding register sessionAt
 returns-3 c =
     let c1 = c .before .before in
     let c2 = c1 .before in
-    let c3 = c2 .before .before .before .before in
+    let c3 = c2 .before .before .before .before .before in
     let c4 = c3 .before in
     let c5 = c4 .before in
     let c6 = c5 .before .before .before .before in
@@ -87,7 +87,7 @@ returns-4 c =
     let c1 = c .before in
     let c2 = c1 .before .before in
     let c3 = c2 .before in
-    let c4 = c3 .before .before .before .before in
+    let c4 = c3 .before .before .before .before .before in
     let c5 = c4 .before in
     let c6 = c5 .before in
     let c7 = c6 .before .before .before .before in
@@ -103,7 +103,7 @@ same-spec =
     returns
     returns-2
     mul-session
-    element-copy-out-session
+    array-copy-out-session
     mul-first
     element-copy-out-first
     mul-second
