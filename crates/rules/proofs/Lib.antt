@@ -8,6 +8,8 @@ pub mod Script
 pub mod claims
 -- what the tests 4, 5 and 6 say: the ranges of the control record, the session of a call
 pub mod Ranges
+-- scanned marks, and that shading clears them
+pub mod Scanned
 -- The run theorem, in layers, lowest first.
 -- the memory interface: what a record is, and what the operations on memory keep
 pub mod memory

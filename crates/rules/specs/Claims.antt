@@ -9,7 +9,7 @@ use Rattle.rules.specs.Refusals.{answer}
 use Rattle.rules.specs.Memory.{frontier}
 use Rattle.rules.specs.Control.{Store, make, inRange}
 use Rattle.rules.specs.Phases.{otherHalf}
-use Rattle.rules.specs.Runs.{Call, Step, apply, run, after, sessionCalls, sessionRun, feeds}
+use Rattle.rules.specs.Runs.{Call, Step, apply, after, sessionCalls, sessionRun, feeds}
 use Rattle.rules.specs.Free.{newFree, freeRun}
 use Rattle.rules.specs.Tracking.{Beside, newBeside, beside, Reached, recordsOf, wordsAt}
 use Rattle.rules.specs.Examples.{starred}

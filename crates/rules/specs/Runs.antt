@@ -7,7 +7,6 @@ use Rattle.rules.specs.Refusals.{Outcome, Reply, answer, words, settle, 
 use Rattle.rules.specs.Control.{Store}
 use Rattle.rules.specs.Calls as calls
 use Rattle.rules.specs.Collector as collector
-use Rattle.rules.specs.declared.Answer.{Answer}
 use Rattle.rules.specs.declared.Answer.the-variants.{Refused, Done, Word, Same, Phase}
 
 -- the calls, with their arguments in the script's order; the stretch and its companion are in no script

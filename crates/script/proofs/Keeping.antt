@@ -1,6 +1,6 @@
 -- Read, write and same leave the control record as it came: its next copy needn't be taken from the reply.
 use Prim.Native.Nat.{ℕ}
-use mathlib.Core.Path.{_≡_, _∙_, refl, sym, ap}
+use mathlib.Core.Path.{_≡_, refl, sym, ap}
 use mathlib.Core.Bool.{Bool, true, false, cond, _&&_}
 use mathlib.Core.List.{List}
 use lib.Dec.{eqb, ltb}
@@ -10,7 +10,7 @@ use Rattle.rules.specs.Control.{Store, withMemory}
 use Rattle.rules.specs.Phases.{register}
 use Rattle.rules.specs.Barriers.{heapOf, putBoth, replicaFor, sameAt}
 use Rattle.rules.specs.Calls.{sessionOf, isRegister, recordIn, read, write, same}
-use Rattle.rules.specs.Runs.{Call, apply, Read, Write, SameAs}
+use Rattle.rules.specs.Runs.{apply, Read, Write, SameAs}
 use Rattle.store.specs.declared.Control.{Control}
 use Rattle.store.specs.declared.Reply.{Reply}
 use Rattle.store.specs.View.{view, outcome}

@@ -45,5 +45,7 @@ pub mod Allocating
 pub mod Forwards
 pub mod Flips
 pub mod FieldCopies
+-- the control record after a unit of work
+pub mod Changes
 -- the collector step by the number of its phase
 pub mod Units

@@ -1,18 +1,18 @@
 -- The arms of the phases that mark. A law takes the control record test of its store, by which a proof names the store.
 use Prim.Native.Nat.{ℕ, suc, _+_, _-_, _≤_, _<_}
-use mathlib.Core.Path.{_≡_, _∙_, sym, ap}
+use mathlib.Core.Path.{_≡_, _∙_, sym, refl, ap}
 use mathlib.Core.Bool.{Bool, true, false, cond, not, _&&_, false≢true}
 use mathlib.Core.List.{List, map}
 use native.Mathlib.Omega.{arith}
 use native.Mathlib.Numerals.{add-one}
 use lib.Dec.{leb}
-use lib.ListN.{length, length-map, getD, drop, take, drop-of-length-le}
-use lib.Seq.{drop-cons, getD-take, length-take-le}
+use lib.ListN.{length, length-map, getD, set, drop, take, drop-of-length-le}
+use lib.Seq.{drop-cons, getD-take, length-take-le, sets}
 use borrow.Author.Tests.{lt-ltb, le-ltb, le-leb, lt-leb, leb-true, leb-false, not-true, not-false}
 use Rattle.rules.specs.Refusals.{refused, passed}
-use Rattle.rules.specs.Memory.{Memory, word, put, refs, sound, follow, followed, colourAt, black}
-use Rattle.rules.specs.Control.{Store, inRange, withMemory, withWalk, withList}
-use Rattle.rules.specs.Phases.{moveOn, lowestUnmarked, sessionAt, withSession, withMark}
+use Rattle.rules.specs.Memory.{Memory, word, put, refs, sound, follow, followed, colourAt, grey, black}
+use Rattle.rules.specs.Control.{Store, inRange, withMemory, withWalk, withList, withSessions}
+use Rattle.rules.specs.Phases.{moveOn, lowestUnmarked, sessionAt, withSession, withMark, unmarked}
 use Rattle.rules.specs.Barriers.{Heap, heapOf, listRoom, shading, shade}
 use Rattle.rules.specs.Collector.{rootMark, scanRecord, scanSession, heapMark, toShadeAll, shadeAll}
 use Rattle.rules.specs.declared.Session.{Session}
@@ -25,30 +25,43 @@ use Rattle.heap.specs.declared.Checked.the-variants as check
 use Rattle.heap.proofs.Soundness.{found, lost, header-inside}
 use Rattle.heap.proofs.Fields.{ref-inside}
 use Rattle.heap.proofs.Plans.{shading-known}
-use Rattle.store.specs.Marking.{shadeNext, whites}
+use Rattle.store.specs.Marking.{shadeNext, whites, greyed}
 use Rattle.store.specs.declared.scanning.Whites.{Whites}
 use Rattle.store.proofs.Collected.{whites-sound}
+use Rattle.store.proofs.Shaded.{shade-null, shade-record}
+use Rattle.store.proofs.ShadedAll.{all-shaded}
 
--- ---- shading as a step of a walk
+-- ---- shading as a step of a walk, by what the test of its reference answered
 
-tested : (r a : Checked) {z : Heap} (s : Store) (q : ℕ) → checked r ≡ shading z q → z ≡ heapOf s → r ≡ a → shading (heapOf s) q ≡ checked a
-tested r a s q e b d = rw (← b) (sym e ∙ ap checked d)
+module _ {r : Checked} (s : Store) (q : ℕ) (e : checked r ≡ shading (heapOf s) q) where
+  answered : (a : Checked) → r ≡ a → shading (heapOf s) q ≡ checked a
+  answered a d = sym e ∙ ap checked d
 
-module _ {r : Checked} {z : Heap} (s : Store) (q : ℕ) (e : checked r ≡ shading z q) (b : z ≡ heapOf s) where
   pub next-damage : r ≡ check.Damage → (k i : ℕ) → shadeNext s q k i ≡ refused 12
   unfolding shadeNext
-  next-damage d k i = rw (tested r check.Damage s q e b d)
+  next-damage d k i = rw (answered check.Damage d)
 
   module _ {w : ℕ} (d : r ≡ check.Word w) where
-    pub next-shaded : (k i : ℕ) → shadeNext s q k i ≡ passed (withWalk (shade s w) k i)
+    next-found : (k i : ℕ) → shadeNext s q k i ≡ passed (withWalk (shade s w) k i)
     unfolding shadeNext
-    next-shaded k i = rw (tested r (check.Word w) s q e b d)
+    next-found k i = rw (answered (check.Word w) d)
+
+    -- nothing to shade
+    pub next-walked : w ≡ 0 → (k i : ℕ) → shadeNext s q k i ≡ passed (withWalk s k i)
+    next-walked z k i = next-found k i ∙ ap (λ (t : Store). passed (withWalk t k i)) (sym (shade-null s w z))
+
+    -- the record shaded, by the words that are written
+    pub next-shaded : {N : Memory} {ws : List ℕ} → (w ≡ 0 → ⊥) → N ≡ put (s .memory) w colourAt grey → ws ≡ set (s .list .words) (s .list .tail) w
+        → (k i : ℕ) → shadeNext s q k i
+        ≡ passed (withWalk (withSessions (withList (withMemory s N) ws (s .list .head) (s .list .tail + 1)) (unmarked (s .sessions))) k i)
+    next-shaded n m l k i = next-found k i ∙ ap (λ (t : Store). passed (withWalk t k i)) (sym (shade-record s w n m l refl))
 
     -- what shading asks of its caller
-    pub next-allowed : InRange s → (w ≡ 0 → ⊥)
+    pub next-allowed : inRange s ≡ true → (w ≡ 0 → ⊥)
         → Inside (s .memory .half0) (s .memory .half1) w colourAt × (s .list .tail < length (s .list .words))
-    next-allowed k n =
-        let f = shading-known (heapOf s) q w (tested r (check.Word w) s q e b d) n in
+    next-allowed t n =
+        let k = in-range s t in
+        let f = shading-known (heapOf s) q w (answered (check.Word w) d) n in
         (header-inside (s .memory .half0) (s .memory .half1) (s .memory .frontier0) (s .memory .frontier1) w (f .sound) (omega arith) (omega arith) 1 (omega arith), f .room)
 
 -- ---- RootMark
@@ -159,7 +172,7 @@ module _ {s : Store} {n : ℕ} {w : Whites} (k : Scanning s n w) where
         × (s .list .tail + w .count ≤ length (s .list .words))
     accepted = accepted-whites s (k .known) n (w .count) (take (w .count) (w .words)) counted (w .sound) (k .answer) t
 
-    pub session-accepted : scanSession s n ≡ passed (shadeAll (withSession s n (withMark (sessionAt s n) true)) (take (w .count) (w .words)))
+    session-accepted : scanSession s n ≡ passed (shadeAll (withSession s n (withMark (sessionAt s n) true)) (take (w .count) (w .words)))
     session-accepted = session-scanned s n (take (w .count) (w .words)) (accepted .0) (rw counted (accepted .1))
 
     pub session-room : s .list .tail + w .count ≤ length (s .list .words)
@@ -172,6 +185,20 @@ module _ {s : Store} {n : ℕ} {w : Whites} (k : Scanning s n w) where
         let f = whites-sound (s .memory) (sessionAt s n .registers) (take (w .count) (w .words)) (accepted .0) j l in
         header-inside (s .memory .half0) (s .memory .half1) (s .memory .frontier0) (s .memory .frontier1) (getD (w .words) j 0)
         (rw (getD-take (w .count) (w .words) j 0 h) at f) (omega arith) (omega arith) 1 (omega arith)
+
+    -- no white record: the session is marked
+    pub session-marked : w .count ≡ 0 → scanSession s n ≡ passed (withSession s n (withMark (sessionAt s n) true))
+    session-marked z = session-accepted ∙ rw z
+
+    -- the white records shaded, by the words that are written
+    pub session-shaded : {N : Memory} {ws : List ℕ} → (w .count ≡ 0 → ⊥) → N ≡ greyed (s .memory) (take (w .count) (w .words))
+        → ws ≡ sets (s .list .words) (s .list .tail) (take (w .count) (w .words))
+        → scanSession s n
+        ≡ passed (withSessions (withList (withMemory s N) ws (s .list .head) (s .list .tail + w .count)) (unmarked (s .sessions)))
+    session-shaded z m l =
+        let named : (j : ℕ) → j < length (take (w .count) (w .words)) → getD (take (w .count) (w .words)) j 0 ≡ 0 → ⊥ =
+        λ j h e. let h : j < w .count = rw counted at h in let i = session-inside j h in omega (arith, i .named, getD-take (w .count) (w .words) j 0 h) in
+        session-accepted ∙ ap passed (all-shaded s n (take (w .count) (w .words)) named (rw counted (omega arith)) m l ∙ rw counted)
 
 -- ---- the lowest session without a mark
 

@@ -22,11 +22,11 @@ pub shade-null : (s : Store) (v : ℕ) → v ≡ 0 → s ≡ shade s v
 unfolding shade
 shade-null s v z = rw (eq-eqb v 0 z)
 
-pub shade-record : {N : Memory} {xs : List Session} (s : Store) (v : ℕ) → (v ≡ 0 → ⊥)
-    → N ≡ put (s .memory) v colourAt grey → xs ≡ unmarked (s .sessions)
-    → withSessions (withList (withMemory s N) (set (s .list .words) (s .list .tail) v) (s .list .head) (s .list .tail + 1)) xs ≡ shade s v
+pub shade-record : {N : Memory} {ws : List ℕ} {xs : List Session} (s : Store) (v : ℕ) → (v ≡ 0 → ⊥)
+    → N ≡ put (s .memory) v colourAt grey → ws ≡ set (s .list .words) (s .list .tail) v → xs ≡ unmarked (s .sessions)
+    → withSessions (withList (withMemory s N) ws (s .list .head) (s .list .tail + 1)) xs ≡ shade s v
 unfolding shade
-shade-record s v n e u = rw (ne-eqb v 0 n, e, u)
+shade-record s v n e d u = rw (ne-eqb v 0 n, e, d, u)
 
 -- the globals stay
 kept-globals : (b : Bool) (s t : Store) → t .globals ≡ s .globals → cond b s t .globals ≡ s .globals

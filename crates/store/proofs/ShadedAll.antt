@@ -1,78 +1,108 @@
--- Shading one record after another: what stays, and one turn of the loop.
-use Prim.Native.Nat.{ℕ, _+_, _-_, _≤_, _<_}
+-- Shading one record after another: a turn of the loop that writes the words, and the store that all of them leave.
+use Prim.Native.Nat.{ℕ, suc, _+_, _≤_, _<_}
 use mathlib.Core.Path.{_≡_, _∙_, sym, refl, ap}
-use mathlib.Core.Bool.{Bool, true, false, cond}
-use mathlib.Core.List.{List}
+use mathlib.Core.Bool.{true, false}
+use mathlib.Core.List.{List, [], _∷_}
 use native.Mathlib.Omega.{arith}
 use native.Mathlib.Numerals.{add-one}
-use lib.Dec.{eqb}
 use lib.ListN.{length, take, drop, set, getD, length-set, drop-of-length-le}
-use lib.Seq.{drop-cons, getD-take, length-take-le}
-use Rattle.rules.specs.Memory.{put, colourAt, grey}
+use lib.Seq.{drop-cons, getD-take, length-take-le, sets}
+use Rattle.rules.specs.Memory.{Memory, put, colourAt, grey}
 use Rattle.rules.specs.Control.{Store, withMemory, withList, withSessions}
-use Rattle.rules.specs.Phases.{unmarked}
+use Rattle.rules.specs.Phases.{unmarked, sessionAt, withSession, withMark}
 use Rattle.rules.specs.Barriers.{shade}
 use Rattle.rules.specs.Collector.{shadeAll}
+use Rattle.rules.specs.declared.Session.{Session}
+use Rattle.rules.proofs.Scanned.{shade-scanned}
+use Rattle.heap.specs.View.{memory}
 use Rattle.heap.proofs.Fields.{put-long}
+use Rattle.store.specs.Marking.{greyed}
+use Rattle.store.proofs.Shaded.{shade-record}
 
--- the lengths of halves and list stay, and the list grows by one entry at most
-pub record Kept (t s : Store) : Type 0 where
-  pub half0 : length (t .memory .half0) ≡ length (s .memory .half0)
-  pub half1 : length (t .memory .half1) ≡ length (s .memory .half1)
-  pub words : length (t .list .words) ≡ length (s .list .words)
-  pub tail : t .list .tail ≤ s .list .tail + 1
-
-either : (b : Bool) (t s : Store) → Kept t s → Kept (cond b s t) s
-either true t s k = record { half0 = refl; half1 = refl; words = refl; tail = omega arith }
-either false t s k = k
-
-pub shade-kept : (s : Store) (v : ℕ) → Kept (shade s v) s
-unfolding shade
-shade-kept s v =
-    let m = put-long (s .memory) v colourAt grey in
-    either (eqb v 0)
-    (withSessions (withList (withMemory s (put (s .memory) v colourAt grey)) (set (s .list .words) (s .list .tail) v) (s .list .head) (s .list .tail + 1)) (unmarked (s .sessions)))
-    s
-    (record { half0 = m .low; half1 = m .high; words = length-set (s .list .words) (s .list .tail) v; tail = omega arith })
-
-kept : {t : Store} (s : Store) (v : ℕ) → t ≡ shade s v → Kept t s
-kept s v e = rw e (shade-kept s v)
-
--- ---- the loop that shades the first n words, at its turn i: the store s has become t
-pub record Turn (s t : Store) (words : List ℕ) (n i : ℕ) : Type 0 where
+-- ---- the loop that writes the first n words, at its turn i: the halves a0 and a1 and the list a have become h0, h1 and l
+pub record Turn (a0 a1 a h0 h1 l words : List ℕ) (end n i : ℕ) : Type 0 where
   pub index : i ≤ n
   pub few : n ≤ length words
-  pub half0 : length (t .memory .half0) ≡ length (s .memory .half0)
-  pub half1 : length (t .memory .half1) ≡ length (s .memory .half1)
-  pub list : length (t .list .words) ≡ length (s .list .words)
-  pub room : t .list .tail + (n - i) ≤ length (t .list .words)
-  pub rest : shadeAll s (take n words) ≡ shadeAll t (drop i (take n words))
+  pub half0 : length h0 ≡ length a0
+  pub half1 : length h1 ≡ length a1
+  pub list : length l ≡ length a
+  pub grey : (f0 f1 : ℕ) → greyed (memory a0 a1 f0 f1) (take n words) ≡ greyed (memory h0 h1 f0 f1) (drop i (take n words))
+  pub listed : sets a end (take n words) ≡ sets l (end + i) (drop i (take n words))
 
-pub first-turn : (s : Store) (words : List ℕ) (n : ℕ) → n ≤ length words → s .list .tail + n ≤ length (s .list .words) → Turn s s words n 0
-first-turn s words n m r =
-    record { index = omega arith; few = m; half0 = refl; half1 = refl; list = refl; room = omega arith; rest = refl }
+pub first-turn : (a0 a1 a words : List ℕ) (end n : ℕ) → n ≤ length words → Turn a0 a1 a a0 a1 a words end n 0
+first-turn a0 a1 a words end n m =
+    let z : end + 0 ≡ end = omega arith in
+    record { index = omega arith; few = m; half0 = refl; half1 = refl; list = refl; grey = λ f0 f1. refl; listed = rw z }
 
-module _ {s t : Store} {words : List ℕ} {n i : ℕ} (k : Turn s t words n i) where
-  shaded : {u : Store} → i < n → u ≡ shade t (getD words i 0)
-      → shadeAll t (drop i (take n words)) ≡ shadeAll u (drop (i + 1) (take n words))
-  shaded h e =
-      let l : i < length (take n words) = rw (length-take-le n words (k .few)) h in
-      rw (drop-cons (take n words) i 0 l, add-one i, getD-take n words i 0 h, e)
+module _ {a0 a1 a h0 h1 l words : List ℕ} {end n i : ℕ} (k : Turn a0 a1 a h0 h1 l words end n i) where
+  -- the word of this turn, and those after it
+  left : i < n → drop i (take n words) ≡ getD words i 0 ∷ drop (i + 1) (take n words)
+  left h =
+      let m : i < length (take n words) = rw (length-take-le n words (k .few)) h in
+      rw (drop-cons (take n words) i 0 m, add-one i, getD-take n words i 0 h)
 
-  pub next-turn : {u : Store} → i < n → u ≡ shade t (getD words i 0) → Turn s u words n (i + 1)
-  next-turn h e =
-      let g = kept t (getD words i 0) e in
-      record {
-        index = omega arith;
-        few = k .few;
-        half0 = omega arith;
-        half1 = omega arith;
-        list = omega arith;
-        room = omega arith;
-        rest = k .rest ∙ shaded h e;
-      }
+  module _ {g0 g1 g : List ℕ} (h : i < n)
+      (e : (f0 f1 : ℕ) → memory g0 g1 f0 f1 ≡ put (memory h0 h1 f0 f1) (getD words i 0) colourAt grey)
+      (d : g ≡ set l (end + i) (getD words i 0)) where
+    listed-more : sets l (end + i) (drop i (take n words)) ≡ sets g (end + (i + 1)) (drop (i + 1) (take n words))
+    listed-more =
+        let z : end + (i + 1) ≡ suc (end + i) = omega arith in
+        rw (left h, d, z)
 
-  pub last-turn : n ≤ i → t ≡ shadeAll s (take n words)
-  last-turn h =
-      let l : length (take n words) ≤ i = rw (length-take-le n words (k .few)) h in
-      sym (k .rest ∙ ap (shadeAll t) (drop-of-length-le (take n words) {i = i} l))
+    pub next-turn : Turn a0 a1 a g0 g1 g words end n (i + 1)
+    next-turn =
+        let p = put-long (memory h0 h1 0 0) (getD words i 0) colourAt grey in
+        record {
+          index = omega arith;
+          few = k .few;
+          half0 = ap (λ (M : Memory). length (M .half0)) (e 0 0) ∙ p .low ∙ k .half0;
+          half1 = ap (λ (M : Memory). length (M .half1)) (e 0 0) ∙ p .high ∙ k .half1;
+          list = ap length d ∙ length-set l (end + i) (getD words i 0) ∙ k .list;
+          grey = λ f0 f1. k .grey f0 f1 ∙ rw (left h, e f0 f1);
+          listed = k .listed ∙ listed-more;
+        }
+
+  none-left : n ≤ i → drop i (take n words) ≡ []
+  none-left h =
+      let m : length (take n words) ≤ i = rw (length-take-le n words (k .few)) h in
+      drop-of-length-le (take n words) {i = i} m
+
+  pub last-turn : n ≤ i → ((f0 f1 : ℕ) → memory h0 h1 f0 f1 ≡ greyed (memory a0 a1 f0 f1) (take n words)) × (l ≡ sets a end (take n words))
+  last-turn h = (
+    λ f0 f1. sym (k .grey f0 f1 ∙ ap (greyed (memory h0 h1 f0 f1)) (none-left h)),
+    sym (k .listed ∙ ap (sets l (end + i)) (none-left h)),
+  )
+
+-- ---- all of them shaded
+
+-- the store that shading them leaves
+abbrev shaded : Store → List ℕ → Store
+shaded s vs =
+    withSessions
+    (withList (withMemory s (greyed (s .memory) vs)) (sets (s .list .words) (s .list .tail) vs) (s .list .head) (s .list .tail + length vs))
+    (unmarked (s .sessions))
+
+unmarked-again : (xs : List Session) → unmarked (unmarked xs) ≡ unmarked xs
+unfolding unmarked
+unmarked-again [] = refl
+unmarked-again (x ∷ xs) = ap (λ (ys : List Session). withMark x false ∷ ys) (unmarked-again xs)
+
+-- no entry is null
+abbrev Named : List ℕ → Type 0
+Named vs = (j : ℕ) → j < length vs → getD vs j 0 ≡ 0 → ⊥
+
+shade-shaded : (s : Store) (v : ℕ) (vs : List ℕ) → Named (v ∷ vs) → shadeAll (shade s v) vs ≡ shaded s (v ∷ vs)
+shade-shaded s v [] n = sym (shade-record s v (n 0 (omega arith)) refl refl refl)
+shade-shaded s v (w ∷ vs) n =
+    let m : s .list .tail + 1 ≡ suc (s .list .tail) = omega arith in
+    let z : s .list .tail + 1 + length (w ∷ vs) ≡ s .list .tail + length (v ∷ w ∷ vs) = omega arith in
+    let e = shade-record s v (n 0 (omega arith)) refl refl refl in
+    shade-shaded (shade s v) w vs (λ j h. n (suc j) (omega arith)) ∙ rw (← e) (rw (z, m, unmarked-again (s .sessions)))
+
+module _ {N : Memory} {ws : List ℕ} (s : Store) (n : ℕ) where
+  -- the records shaded after session n is marked, by the words that shading them leaves
+  pub all-shaded : (vs : List ℕ) → Named vs → 0 < length vs → N ≡ greyed (s .memory) vs → ws ≡ sets (s .list .words) (s .list .tail) vs
+      → shadeAll (withSession s n (withMark (sessionAt s n) true)) vs
+      ≡ withSessions (withList (withMemory s N) ws (s .list .head) (s .list .tail + length vs)) (unmarked (s .sessions))
+  all-shaded [] m l e d = absurd (omega arith)
+  all-shaded (v ∷ vs) m l e d = rw (shade-scanned s n v (m 0 (omega arith)), shade-shaded s v vs m, e, d)

@@ -19,6 +19,9 @@ use Rattle.heap.specs.View.{memory}
 use Rattle.heap.proofs.Soundness.{Found}
 use Rattle.heap.proofs.Written.{appended}
 use Rattle.store.specs.Steps.{went, stepped}
+use Rattle.store.specs.Work.{worked}
+use Rattle.store.specs.declared.work.Work.{Work}
+use Rattle.store.specs.declared.work.Work.the-variants.{Walks}
 use Rattle.store.specs.Shells.{Shelled}
 use Rattle.store.proofs.Walks.{header-at, size-found}
 
@@ -83,9 +86,6 @@ shell-ready {s} {other} {at} {v} g f o l =
 
 -- ---- the arms of the phase
 
-moved : {o : Outcome Store} {t u : Store} (n : ℕ) → t ≡ u → o ≡ went (withWalk t (t .walk .place + n) 0) → o ≡ went (withWalk u (u .walk .place + n) 0)
-moved n e w = rw (← e) w
-
 module _ (s : Store) where
   pub shells-done : {o : Outcome Store} → below s ≡ false → o ≡ stepped s (handshake s) → o ≡ stepped s (allocateShells s)
   unfolding allocateShells
@@ -97,9 +97,9 @@ module _ (s : Store) where
     shells-lost d = rw (b, ← w, d)
 
     module _ {k r p : ℕ} (f : Found (s .memory) v k r p) where
-      pub shells-passed : {o : Outcome Store} → needsShell (s .memory) v ≡ false → o ≡ went (withWalk s (s .walk .place + (r + p + 3)) 0) → o ≡ stepped s (allocateShells s)
+      pub shells-passed : {o : Work} → needsShell (s .memory) v ≡ false → o ≡ Walks (s .walk .place + (r + p + 3)) 0 → worked s o ≡ stepped s (allocateShells s)
       unfolding allocateShells followed pastRecord
-      shells-passed d e = rw (b, ← w, f .sound, d, size-found f) e
+      shells-passed d e = rw (b, ← w, f .sound, d, size-found f, e)
 
       module _ {other at : ℕ} (d : needsShell (s .memory) v ≡ true) (h : other ≡ otherHalf (s .current)) (a : at ≡ frontier (s .memory) other) (g : length (half (s .memory) other) ≡ s .lengths .half0) where
         pub shells-full : s .lengths .half0 < at + (r + p + 3) → record { store = s; reply = answer (Refused 12) } ≡ stepped s (allocateShells s)
@@ -107,8 +107,8 @@ module _ (s : Store) where
         shells-full l =
             rw (b, ← w, f .sound, d, size-found f, ← h, ← a, g, lt-leb (at + (r + p + 3)) (s .lengths .half0) l)
 
-        pub shells-made : {o : Outcome Store} {t : Store} {N : Memory} → at + (r + p + 3) ≤ s .lengths .half0 → N ≡ withShell (s .memory) other v
-            → t ≡ withMemory s N → o ≡ went (withWalk t (t .walk .place + (r + p + 3)) 0) → o ≡ stepped s (allocateShells s)
+        pub shells-made : {N : Memory} → at + (r + p + 3) ≤ s .lengths .half0 → N ≡ withShell (s .memory) other v
+            → went (withWalk (withMemory s N) (s .walk .place + (r + p + 3)) 0) ≡ stepped s (allocateShells s)
         unfolding allocateShells followed pastRecord
-        shells-made {o} l n t e =
-            rw (b, ← w, f .sound, d, size-found f, ← h, ← a, g, le-leb (at + (r + p + 3)) (s .lengths .half0) l, ← n) (moved {o = o} (r + p + 3) t e)
+        shells-made l n =
+            rw (b, ← w, f .sound, d, size-found f, ← h, ← a, g, le-leb (at + (r + p + 3)) (s .lengths .half0) l, ← n)

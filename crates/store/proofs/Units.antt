@@ -3,16 +3,20 @@ use Prim.Native.Nat.{ℕ, zero, suc}
 use mathlib.Core.Path.{_≡_, _∙_, refl, sym, ap}
 use mathlib.Core.Bool.{true, false}
 use mathlib.Core.List.{List}
-use lib.ListN.{getD, length-replicate}
+use lib.ListN.{length, getD, length-replicate}
 use Rattle.rules.specs.Refusals.{Tested, refused, passed, _>>=_, Outcome, answer, answered, settle}
 use Rattle.rules.specs.Control.{Store, inRange}
 use Rattle.rules.specs.Phases.{sessionAt}
-use Rattle.rules.specs.Collector.{handshake, units, step}
-use Rattle.rules.specs.declared.Answer.the-variants.{Refused, Phase}
+use Rattle.rules.specs.Collector.{rest, handshake, units, step}
+use Rattle.rules.specs.declared.Answer.the-variants as answers
 use Rattle.rules.proofs.Ranges.{in-range, in-range-tested}
 use Rattle.store.specs.View.{view}
 use Rattle.store.specs.Steps.{stepped, over, unit}
+use Rattle.store.specs.Work.{change, InPhase, worked}
 use Rattle.store.specs.declared.Control.{Control}
+use Rattle.store.specs.declared.work.Work.{Work}
+use Rattle.store.specs.declared.work.Work.the-variants.{Refused, Starts}
+use Rattle.store.proofs.Changes.{any-work}
 
 -- the ranges over one list are those over any as long
 pub over-range : (c : Control) (h0 h1 l : List ℕ) → inRange (view c h0 h1 l) ≡ true → inRange (over c h0 h1) ≡ true
@@ -66,14 +70,40 @@ unit-waits s e w = w ∙ sym (ap (λ (f : Store → Tested Store). stepped s (f 
 
 -- ---- the step
 
-settled : (s : Store) (t : Tested Store) → settle s (t >>= λ (u : Store). answered u (Phase (u .phase))) ≡ stepped s t
+settled : (s : Store) (t : Tested Store) → settle s (t >>= λ (u : Store). answered u (answers.Phase (u .phase))) ≡ stepped s t
 settled s (refused n) = refl
 settled s (passed u) = refl
 
-pub step-refused : (s : Store) → inRange s ≡ false → record { store = s; reply = answer (Refused 4) } ≡ settle s (step s)
+step-refused : (s : Store) → inRange s ≡ false → record { store = s; reply = answer (answers.Refused 4) } ≡ settle s (step s)
 unfolding step
 step-refused s e = rw e
 
-pub step-done : {o : Outcome Store} (s : Store) → inRange s ≡ true → o ≡ stepped s (unit s) → o ≡ settle s (step s)
+step-done : {o : Outcome Store} (s : Store) → inRange s ≡ true → o ≡ stepped s (unit s) → o ≡ settle s (step s)
 unfolding step
 step-done s e w = rw e (rw (settled s (unit s)) w)
+
+-- ---- where the arms of the step meet
+
+-- the words left of those lent, as long as they were, and the work w handed out
+pub record Met (c : Control) (h0 h1 l k0 k1 m : List ℕ) (w : Work) : Type 0 where
+  pub low : length k0 ≡ length h0
+  pub high : length k1 ≡ length h1
+  pub listed : length m ≡ length l
+  pub phased : InPhase (c .phase) (change w)
+  pub left : worked (view c k0 k1 m) w ≡ settle (view c h0 h1 l) (step (view c h0 h1 l))
+
+module _ (c : Control) (h0 h1 l : List ℕ) {k0 k1 m : List ℕ} {w : Work} where
+  pub met-refused : inRange (view c h0 h1 l) ≡ false → k0 ≡ h0 → k1 ≡ h1 → m ≡ l → w ≡ Refused 4 → Met c h0 h1 l k0 k1 m w
+  met-refused r a b d e =
+      rw (a, b, d, e) (record { low = refl; high = refl; listed = refl; phased = tt {0}; left = step-refused (view c h0 h1 l) r })
+
+  pub met-done : {j0 j1 n : List ℕ} {x : Work} → inRange (view c h0 h1 l) ≡ true → length j0 ≡ length h0 → length j1 ≡ length h1 → length n ≡ length l
+      → worked (view c j0 j1 n) x ≡ stepped (view c h0 h1 l) (unit (view c h0 h1 l)) → k0 ≡ j0 → k1 ≡ j1 → m ≡ n → w ≡ x → Met c h0 h1 l k0 k1 m w
+  met-done {x = x} r p q o f a b d e =
+      rw (a, b, d, e)
+      (record { low = p; high = q; listed = o; phased = any-work (c .phase) (in-range (view c h0 h1 l) r .phases) (change x); left = step-done (view c h0 h1 l) r f })
+
+-- phase 0 empties the list and moves on
+pub rests : (s : Store) → worked s Starts ≡ stepped s (rest s)
+unfolding rest
+rests s = refl

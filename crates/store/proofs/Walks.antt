@@ -4,9 +4,9 @@ use mathlib.Core.Path.{_≡_}
 use mathlib.Core.Bool.{Bool, true, false, cond}
 use native.Mathlib.Omega.{arith}
 use lib.Dec.{eqb}
-use Rattle.rules.specs.Refusals.{Outcome, answer}
+use Rattle.rules.specs.Refusals.{answer}
 use Rattle.rules.specs.Memory.{Memory, frontier, withFrontier, put, size, sound, followed}
-use Rattle.rules.specs.Control.{Store, withMemory, withWalk}
+use Rattle.rules.specs.Control.{Store, withMemory}
 use Rattle.rules.specs.Phases.{otherHalf, moveOn}
 use Rattle.rules.specs.Collector.{walked, below, haveLevel, pastRecord, reclaim}
 use Rattle.rules.specs.declared.Answer.the-variants.{Refused}
@@ -14,6 +14,9 @@ use Rattle.rules.proofs.Ranges.{InRange, fronts}
 use Rattle.heap.specs.View.{Inside}
 use Rattle.heap.proofs.Soundness.{Found, header-inside}
 use Rattle.store.specs.Steps.{went, stepped}
+use Rattle.store.specs.Work.{worked}
+use Rattle.store.specs.declared.work.Work.{Work}
+use Rattle.store.specs.declared.work.Work.the-variants.{Walks}
 
 -- ---- the ranges
 
@@ -38,21 +41,21 @@ size-found f = omega arith
 -- ---- reclaim
 
 module _ (s : Store) where
-  pub reclaim-waits : {o : Outcome Store} → haveLevel s ≡ false → o ≡ went s → o ≡ stepped s (reclaim s)
+  pub reclaim-waits : haveLevel s ≡ false → went s ≡ stepped s (reclaim s)
   unfolding reclaim
-  reclaim-waits h e = rw h e
+  reclaim-waits h = rw h
 
-  pub reclaim-ends : {o : Outcome Store} {t : Store} {other : ℕ} → haveLevel s ≡ true → below s ≡ false → other ≡ otherHalf (s .current)
-      → t ≡ withMemory s (withFrontier (s .memory) other 0) → o ≡ went (moveOn t) → o ≡ stepped s (reclaim s)
+  pub reclaim-ends : {other : ℕ} → haveLevel s ≡ true → below s ≡ false → other ≡ otherHalf (s .current)
+      → went (moveOn (withMemory s (withFrontier (s .memory) other 0))) ≡ stepped s (reclaim s)
   unfolding reclaim
-  reclaim-ends h b x t e = rw (h, b, ← x, ← t) e
+  reclaim-ends h b x = rw (h, b, ← x)
 
   module _ {v : ℕ} (h : haveLevel s ≡ true) (b : below s ≡ true) (w : v ≡ walked s) where
     pub reclaim-lost : sound (s .memory) v ≡ false → record { store = s; reply = answer (Refused 12) } ≡ stepped s (reclaim s)
     unfolding reclaim followed
     reclaim-lost d = rw (h, b, ← w, d)
 
-    pub reclaim-clears : {o : Outcome Store} {N : Memory} {at r p : ℕ} → Found (s .memory) v at r p → N ≡ put (s .memory) v 2 0
-        → o ≡ went (withWalk (withMemory s N) (s .walk .place + (r + p + 3)) 0) → o ≡ stepped s (reclaim s)
+    pub reclaim-clears : {o : Work} {N : Memory} {at r p : ℕ} → Found (s .memory) v at r p → N ≡ put (s .memory) v 2 0
+        → o ≡ Walks (s .walk .place + (r + p + 3)) 0 → worked (withMemory s N) o ≡ stepped s (reclaim s)
     unfolding reclaim followed pastRecord
-    reclaim-clears f n e = rw (h, b, ← w, f .sound, size-found f, ← n) e
+    reclaim-clears f n e = rw (h, b, ← w, f .sound, size-found f, ← n, e)

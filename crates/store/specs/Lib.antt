@@ -8,14 +8,14 @@ pub mod Plain
 pub mod Stores
 -- What a collector step leaves.
 pub mod Steps
+-- What a unit of the collector's work leaves, by what the code hands out of it.
+pub mod Work
 -- Marking: white registers, and shading as a step of a walk.
 pub mod Marking
 -- What making a shell asks for.
 pub mod Shells
 -- What the functions of allocation ask of their callers.
 pub mod Allocation
--- What making a shell asks for.
--- Marking: white registers, and shading as a step of a walk.
 -- Copying the fields of a record to its replica.
 pub mod Copies
 -- Registers forwarded.

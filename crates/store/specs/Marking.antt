@@ -5,6 +5,7 @@ use mathlib.Core.List.{List, [], _∷_}
 use lib.Dec.{eqb}
 use lib.ListN.{take}
 use Rattle.rules.specs.Refusals.{Tested, refused, passed, _>>=_}
+use Rattle.rules.specs.Memory.{Memory, put, colourAt, grey}
 use Rattle.rules.specs.Control.{Store, withWalk}
 use Rattle.rules.specs.Barriers.{heapOf, shading, shade}
 use Rattle.store.specs.declared.scanning.Whites.{Whites}
@@ -17,6 +18,11 @@ among v (w ∷ ws) = eqb v w || among v ws
 -- the code's answer as the rules' answer
 abbrev pub whites : Whites → Tested (List ℕ)
 whites w = cond (w .sound) (passed (take (w .count) (w .words))) (refused 12)
+
+-- the records that vs name coloured grey
+abbrev pub greyed : Memory → List ℕ → Memory
+greyed M [] = M
+greyed M (v ∷ vs) = greyed (put M v colourAt grey) vs
 
 -- the record that q names is shaded, and the walk goes on to place k and field i
 unfoldable pub shadeNext : Store → ℕ → ℕ → ℕ → Tested Store

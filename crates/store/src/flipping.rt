@@ -7,11 +7,13 @@ ghost use Rattle.rules.specs.Control.{inRange};
 ghost use Rattle.rules.specs.Barriers.{to};
 ghost use Rattle.rules.specs.Collector.{rootFlip, forwardAll, stackFlip};
 ghost use Rattle.heap.specs.View.{heap, Within};
-ghost use Rattle.store.specs.View.{view, outcome};
+ghost use Rattle.store.specs.View.{view};
 ghost use Rattle.store.specs.Steps.{stepped, over};
+ghost use Rattle.store.specs.Work.{worked};
 ghost use Rattle.store.specs.Flips.{forwarded};
 use crate::Control;
-use crate::Reply;
+use crate::work::Stack;
+use crate::work::Work;
 use heap::Bounds;
 use heap::Checked;
 use heap::forwarding::forward;
@@ -49,35 +51,29 @@ fn forward_all<'a>(b: Bounds, h0: &'a [u32], h1: &'a [u32], old: [u32; 8]) -> Re
 
 impl Control {
     // Phase 10: the next global forwarded; after the last one the step moves on.
-    pub(crate) fn root_flip<'a>(mut self, h0: &'a [u32], h1: &'a [u32]) -> Reply
+    pub(crate) fn root_flip<'a>(self, h0: &'a [u32], h1: &'a [u32]) -> Work
         requires { ⌜ inRange (over self (now h0) (now h1)) ≡ true ⌝ }
-        ensures { λ r. ⌜ ((l : List ℕ) → outcome r (now (h0 .entry)) (now (h1 .entry)) l
+        ensures { λ r. ⌜ ((l : List ℕ) → worked (view self (now (h0 .entry)) (now (h1 .entry)) l) r
             ≡ stepped (view self (now (h0 .entry)) (now (h1 .entry)) l)
             (rootFlip (view self (now (h0 .entry)) (now (h1 .entry)) l))) ⌝ }
     {
         let place = self.place;
         if Control::GLOBALS <= place {
-            let next = self.move_on();
-            return next.stepped();
+            return Work::MovesOn;
         }
         let v = self.globals[place];
         let b = self.bounds();
         let Checked::Word(q) = forward(b, h0, h1, v) else {
-            return Reply {
-                control: self,
-                answer: rules::Answer::Refused(12),
-            };
+            return Work::Refused(12);
         };
-        self.globals[place] = q;
-        self.place = place + 1;
-        self.stepped()
+        Work::Forwards(q, place + 1)
     }
 
     // Phase 11: the registers of the lowest attached session without a mark forwarded, and the session marked; with
     // none left, tospace becomes current and the step moves on.
-    pub(crate) fn stack_flip<'a>(mut self, h0: &'a [u32], h1: &'a [u32]) -> Reply
+    pub(crate) fn stack_flip<'a>(self, h0: &'a [u32], h1: &'a [u32]) -> Work
         requires { ⌜ inRange (over self (now h0) (now h1)) ≡ true ⌝ }
-        ensures { λ r. ⌜ ((l : List ℕ) → outcome r (now (h0 .entry)) (now (h1 .entry)) l
+        ensures { λ r. ⌜ ((l : List ℕ) → worked (view self (now (h0 .entry)) (now (h1 .entry)) l) r
             ≡ stepped (view self (now (h0 .entry)) (now (h1 .entry)) l)
             (stackFlip (view self (now (h0 .entry)) (now (h1 .entry)) l))) ⌝ }
     {
@@ -85,23 +81,16 @@ impl Control {
         let sessions = self.sessions;
         let n = Control::lowest_unmarked(sessions);
         if 16 <= n {
-            let mut next = self.move_on();
-            next.current = other_half(b.from);
-            return next.stepped();
+            return Work::Flips(other_half(b.from));
         }
-        let mut session = self.sessions[n];
+        let session = self.sessions[n];
         let registers = session.registers;
         let moved = forward_all(b, h0, h1, registers);
         if !moved.sound {
-            return Reply {
-                control: self,
-                answer: rules::Answer::Refused(12),
-            };
+            return Work::Refused(12);
         }
         let words = moved.words;
-        session.registers = words;
-        session.scanned = true;
-        self.sessions[n] = session;
-        self.stepped()
+        let stack = Stack::of(words);
+        Work::Marks(n, stack)
     }
 }

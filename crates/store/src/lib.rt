@@ -19,6 +19,7 @@ mod fields; // fields.rt: load and read
 mod stretch; // stretch.rt: the stretch and its companion
 mod writing; // writing.rt: write
 mod same; // same.rt: same
+mod work; // work.rt: what a unit of the collector's work hands out, and the control record after it
 mod moving; // moving.rt: moving on to the next phase, and the phases that only wait
 mod scanning; // scanning.rt: the white records among a session's registers, and shading them
 mod marking; // marking.rt: the phases RootMark and HeapMark

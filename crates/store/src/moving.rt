@@ -3,11 +3,12 @@ ghost use mathlib.Core.Path.{_≡_};
 ghost use Prim.Native.Nat.{ℕ, _≤_};
 ghost use mathlib.Core.List.{List};
 ghost use Rattle.rules.specs.Phases.{nextPhase, allAt, moveOn};
-ghost use Rattle.rules.specs.Collector.{haveLevel, rest, handshake};
-ghost use Rattle.store.specs.View.{view, outcome};
-ghost use Rattle.store.specs.Steps.{went, stepped};
+ghost use Rattle.rules.specs.Collector.{haveLevel, handshake};
+ghost use Rattle.store.specs.View.{view};
+ghost use Rattle.store.specs.Steps.{stepped};
+ghost use Rattle.store.specs.Work.{worked};
 use crate::Control;
-use crate::Reply;
+use crate::work::Work;
 
 impl Control {
     // Whether every attached session is at the level.
@@ -59,38 +60,13 @@ impl Control {
         self
     }
 
-    // What a step answers that is done: the phase after it.
-    pub(crate) fn stepped(self) -> Reply
-        ensures { λ r. ⌜ ((h0 h1 l : List ℕ) → outcome r h0 h1 l ≡ went (view self h0 h1 l)) ⌝ }
-    {
-        let phase = self.phase;
-        Reply {
-            control: self,
-            answer: rules::Answer::Phase(phase),
-        }
-    }
-
-    // Phase 0: the grey list emptied, and phase 1 started.
-    pub(crate) fn rest(mut self) -> Reply
-        requires { ⌜ self .phase ≤ 12 ⌝ }
-        ensures { λ r. ⌜ ((h0 h1 l : List ℕ) → outcome r h0 h1 l ≡ stepped (view self h0 h1 l) (rest (view self h0 h1 l))) ⌝ }
-    {
-        self.head = 0;
-        self.tail = 0;
-        let next = self.move_on();
-        next.stepped()
-    }
-
     // Phases 1, 2, 6, 8 and 9: moves on if every attached session has the level, else changes nothing.
-    pub(crate) fn handshake(self) -> Reply
+    pub(crate) fn handshake(self) -> Work
         requires { ⌜ self .phase ≤ 12 ⌝ }
-        ensures { λ r. ⌜ ((h0 h1 l : List ℕ) → outcome r h0 h1 l ≡ stepped (view self h0 h1 l) (handshake (view self h0 h1 l))) ⌝ }
+        ensures { λ r. ⌜ ((h0 h1 l : List ℕ) → worked (view self h0 h1 l) r
+            ≡ stepped (view self h0 h1 l) (handshake (view self h0 h1 l))) ⌝ }
     {
         let ready = self.have_level();
-        if !ready {
-            return self.stepped();
-        }
-        let next = self.move_on();
-        next.stepped()
+        if ready { Work::MovesOn } else { Work::Waits }
     }
 }

@@ -2,19 +2,22 @@
 ghost use mathlib.Core.Path.{_≡_};
 ghost use Prim.Native.Nat.{ℕ, _+_, _≤_, _<_};
 ghost use mathlib.Core.Bool.{true, cond, _||_};
-ghost use mathlib.Core.List.{List};
 ghost use lib.Dec.{eqb};
 ghost use lib.ListN.{length, getD, take};
+ghost use lib.Seq.{sets};
 ghost use Rattle.rules.specs.Memory.{null, colourAt};
 ghost use Rattle.rules.specs.Control.{inRange};
-ghost use Rattle.rules.specs.Phases.{lowestUnmarked, sessionAt, withSession, withMark};
-ghost use Rattle.rules.specs.Collector.{toShadeAll, shadeAll, scanSession};
-ghost use Rattle.heap.specs.View.{heap, Within, Inside};
-ghost use Rattle.store.specs.View.{view, outcome};
+ghost use Rattle.rules.specs.Phases.{lowestUnmarked};
+ghost use Rattle.rules.specs.Collector.{toShadeAll, scanSession};
+ghost use Rattle.heap.specs.View.{heap, memory, Within, Inside};
+ghost use Rattle.store.specs.View.{view};
 ghost use Rattle.store.specs.Steps.{stepped};
-ghost use Rattle.store.specs.Marking.{among, whites};
+ghost use Rattle.store.specs.Work.{worked};
+ghost use Rattle.store.specs.Marking.{among, whites, greyed};
 use crate::Control;
-use crate::Reply;
+use crate::shade::put_grey;
+use crate::work::Stack;
+use crate::work::Work;
 use heap::Bounds;
 use heap::Checked;
 use heap::shades::to_shade;
@@ -73,6 +76,28 @@ fn white_registers<'a>(b: Bounds, h0: &'a [u32], h1: &'a [u32], registers: [u32;
     }
 }
 
+// The first `count` words coloured grey and put on the list from `end` on.
+fn shade_all(
+    h0: &mut [u32],
+    h1: &mut [u32],
+    list: &mut [u32],
+    end: usize,
+    count: usize,
+    words: [u32; 8],
+)
+    requires { ⌜ (count ≤ 8) × (end + count ≤ length (now list))
+        × ((j : ℕ) → j < count → Inside (now h0) (now h1) (getD words j 0) colourAt) ⌝ }
+    ensures { λ _. ⌜ ((f0 f1 : ℕ) → memory (now (h0 .exit)) (now (h1 .exit)) f0 f1
+        ≡ greyed (memory (now (h0 .entry)) (now (h1 .entry)) f0 f1) (take count words))
+        × (now (list .exit) ≡ sets (now (list .entry)) end (take count words)) ⌝ }
+{
+    let mut i: usize = 0;
+    while i < count {
+        put_grey(h0, h1, list, end + i, words[i]);
+        i += 1;
+    }
+}
+
 impl Control {
     // The number of the lowest attached session without a scanned mark, or the number of sessions, 16.
     pub(crate) fn lowest_unmarked(sessions: [rules::Session; 16]) -> usize
@@ -89,41 +114,6 @@ impl Control {
         16
     }
 
-    // The control record with session n marked scanned.
-    pub(crate) fn with_mark(mut self, n: usize) -> Self
-        requires { ⌜ n < 16 ⌝ }
-        ensures { λ r. ⌜ ((h0 h1 l : List ℕ) → view r h0 h1 l
-            ≡ withSession (view self h0 h1 l) n (withMark (sessionAt (view self h0 h1 l) n) true)) ⌝ }
-    {
-        let mut session = self.sessions[n];
-        session.scanned = true;
-        self.sessions[n] = session;
-        self
-    }
-
-    // The first `count` words shaded, one after another.
-    fn shade_all(
-        self,
-        h0: &mut [u32],
-        h1: &mut [u32],
-        list: &mut [u32],
-        count: usize,
-        words: [u32; 8],
-    ) -> Self
-        requires { ⌜ (count ≤ 8) × (self .tail + count ≤ length (now list))
-            × ((j : ℕ) → j < count → Inside (now h0) (now h1) (getD words j 0) colourAt) ⌝ }
-        ensures { λ r. ⌜ view r (now (h0 .exit)) (now (h1 .exit)) (now (list .exit))
-            ≡ shadeAll (view self (now (h0 .entry)) (now (h1 .entry)) (now (list .entry))) (take count words) ⌝ }
-    {
-        let mut next = self;
-        let mut i: usize = 0;
-        while i < count {
-            next = next.shade(h0, h1, list, words[i]);
-            i += 1;
-        }
-        next
-    }
-
     // The white records among the registers of session n are shaded, after it is marked scanned.
     pub(crate) fn scan_session(
         self,
@@ -131,9 +121,9 @@ impl Control {
         h1: &mut [u32],
         list: &mut [u32],
         n: usize,
-    ) -> Reply
+    ) -> Work
         requires { ⌜ (n < 16) × (inRange (view self (now h0) (now h1) (now list)) ≡ true) ⌝ }
-        ensures { λ r. ⌜ outcome r (now (h0 .exit)) (now (h1 .exit)) (now (list .exit))
+        ensures { λ r. ⌜ worked (view self (now (h0 .exit)) (now (h1 .exit)) (now (list .exit))) r
             ≡ stepped (view self (now (h0 .entry)) (now (h1 .entry)) (now (list .entry)))
             (scanSession (view self (now (h0 .entry)) (now (h1 .entry)) (now (list .entry))) n) ⌝ }
     {
@@ -146,13 +136,15 @@ impl Control {
         let sound = found.sound;
         let fits = count <= self.capacity - self.tail;
         if !(sound & fits) {
-            return Reply {
-                control: self,
-                answer: rules::Answer::Refused(12),
-            };
+            return Work::Refused(12);
         }
-        let marked = self.with_mark(n);
-        let next = marked.shade_all(h0, h1, list, count, words);
-        next.stepped()
+        if count == 0 {
+            let stack = Stack::of(registers);
+            return Work::Marks(n, stack);
+        }
+        let end = self.tail;
+        shade_all(h0, h1, list, end, count, words);
+        let next = end + count;
+        Work::Shades(next, self.place, self.field)
     }
 }

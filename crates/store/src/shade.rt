@@ -3,16 +3,27 @@ ghost use mathlib.Core.Path.{_≡_};
 ghost use Prim.Native.Nat.{ℕ, _≤_, _<_};
 ghost use mathlib.Core.Bool.{true, false};
 ghost use mathlib.Core.List.{List};
-ghost use lib.ListN.{length, getD};
-ghost use Rattle.rules.specs.Memory.{colourAt};
+ghost use lib.ListN.{length, getD, set};
+ghost use Rattle.rules.specs.Memory.{colourAt, grey, put};
 ghost use Rattle.rules.specs.Phases.{fromspace, absent, unmarked};
 ghost use Rattle.rules.specs.Barriers.{heapOf, shade};
-ghost use Rattle.heap.specs.View.{heap, Inside};
+ghost use Rattle.heap.specs.View.{heap, memory, Inside};
 ghost use Rattle.store.specs.View.{view};
 use crate::Control;
 use heap::Bounds;
 use heap::forwarding::other_half;
 use heap::words::put_word;
+
+// What shading writes: the record v coloured grey, and put on the list at its end.
+pub(crate) fn put_grey(h0: &mut [u32], h1: &mut [u32], list: &mut [u32], end: usize, v: u32)
+    requires { ⌜ Inside (now h0) (now h1) v colourAt × (end < length (now list)) ⌝ }
+    ensures { λ _. ⌜ ((f0 f1 : ℕ) → memory (now (h0 .exit)) (now (h1 .exit)) f0 f1
+        ≡ put (memory (now (h0 .entry)) (now (h1 .entry)) f0 f1) v colourAt grey)
+        × (now (list .exit) ≡ set (now (list .entry)) end v) ⌝ }
+{
+    put_word(h0, h1, v, 1, 1);
+    list[end] = v;
+}
 
 impl Control {
     // Fromspace: the current half until phase 12, and the other one there.
@@ -80,9 +91,8 @@ impl Control {
             ≡ shade (view self (now (h0 .entry)) (now (h1 .entry)) (now (list .entry))) v ⌝ }
     {
         if v != 0 {
-            put_word(h0, h1, v, 1, 1);
             let end = self.tail;
-            list[end] = v;
+            put_grey(h0, h1, list, end, v);
             self.tail = end + 1;
             let sessions = self.sessions;
             let unscanned = Control::unmarked(sessions);

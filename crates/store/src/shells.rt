@@ -7,13 +7,14 @@ ghost use Rattle.rules.specs.Memory.{frontier, withFrontier};
 ghost use Rattle.rules.specs.Control.{inRange};
 ghost use Rattle.rules.specs.Collector.{needsShell, withShell, allocateShells};
 ghost use Rattle.heap.specs.View.{memory, Inside};
-ghost use Rattle.store.specs.View.{view, outcome};
+ghost use Rattle.store.specs.View.{view};
 ghost use Rattle.store.specs.Steps.{stepped, over};
+ghost use Rattle.store.specs.Work.{worked};
 ghost use Rattle.store.specs.Shells.{Shelled};
 use crate::Control;
-use crate::Reply;
 use crate::walking::frontier;
 use crate::walking::reference;
+use crate::work::Work;
 use heap::following::follow;
 use heap::forwarding::other_half;
 use heap::records::append_record;
@@ -46,9 +47,9 @@ fn put_shell(h0: &mut [u32], h1: &mut [u32], other: u32, at: usize, v: u32, n: u
 
 impl Control {
     // Phase 5: the next record gets its shell where it needs one; at the frontier the handshake.
-    pub(crate) fn allocate_shells(self, h0: &mut [u32], h1: &mut [u32]) -> Reply
+    pub(crate) fn allocate_shells(self, h0: &mut [u32], h1: &mut [u32]) -> Work
         requires { ⌜ inRange (over self (now h0) (now h1)) ≡ true ⌝ }
-        ensures { λ r. ⌜ ((l : List ℕ) → outcome r (now (h0 .exit)) (now (h1 .exit)) l
+        ensures { λ r. ⌜ ((l : List ℕ) → worked (view self (now (h0 .exit)) (now (h1 .exit)) l) r
             ≡ stepped (view self (now (h0 .entry)) (now (h1 .entry)) l)
             (allocateShells (view self (now (h0 .entry)) (now (h1 .entry)) l))) ⌝ }
     {
@@ -58,10 +59,7 @@ impl Control {
         }
         let v = self.walked();
         let Followed::Sound(_, r, p) = follow(h0, h1, self.frontier0, self.frontier1, v) else {
-            return Reply {
-                control: self,
-                answer: rules::Answer::Refused(12),
-            };
+            return Work::Refused(12);
         };
         let n = (r as usize) + (p as usize);
         let needed = needs_shell(h0, h1, v);
@@ -71,13 +69,9 @@ impl Control {
         let other = other_half(self.current);
         let at = frontier(self.frontier0, self.frontier1, other);
         if self.length0 < at + (n + 3) {
-            return Reply {
-                control: self,
-                answer: rules::Answer::Refused(12),
-            };
+            return Work::Refused(12);
         }
         put_shell(h0, h1, other, at, v, n);
-        let next = self.with_frontier(other, at + (n + 3));
-        next.past_record(n + 3)
+        Work::Shells(other, at + (n + 3), self.place + (n + 3))
     }
 }

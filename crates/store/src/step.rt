@@ -4,6 +4,7 @@ ghost use Rattle.rules.specs.Runs.{apply, Step};
 ghost use Rattle.store.specs.View.{view, outcome};
 use crate::Control;
 use crate::Reply;
+use crate::work::Work;
 
 impl Control {
     // Collector step: one unit of its phase, after the control record test.
@@ -13,23 +14,30 @@ impl Control {
     {
         // test 4 is the first of the session tests, whatever the session
         let refusal = self.session_tests(h0, h1, list, 0);
-        if refusal == 4 {
-            return Reply {
-                control: self,
-                answer: rules::Answer::Refused(4),
-            };
-        }
         let phase = self.phase;
-        match phase {
-            0 => self.rest(),
-            3 => self.root_mark(h0, h1, list),
-            4 => self.heap_mark(h0, h1, list),
-            5 => self.allocate_shells(h0, h1),
-            7 => self.copy(h0, h1),
-            10 => self.root_flip(h0, h1),
-            11 => self.stack_flip(h0, h1),
-            12 => self.reclaim(h0, h1),
-            _ => self.handshake(),
+        let work = if refusal == 4 {
+            Work::Refused(4)
+        } else {
+            match phase {
+                0 => Work::Starts,
+                3 => self.root_mark(h0, h1, list),
+                4 => self.heap_mark(h0, h1, list),
+                5 => self.allocate_shells(h0, h1),
+                7 => self.copy(h0, h1),
+                10 => self.root_flip(h0, h1),
+                11 => self.stack_flip(h0, h1),
+                12 => self.reclaim(h0, h1),
+                _ => self.handshake(),
+            }
+        };
+        let next = self.after(work);
+        let answer = match work {
+            Work::Refused(n) => rules::Answer::Refused(n),
+            _ => rules::Answer::Phase(next.phase),
+        };
+        Reply {
+            control: next,
+            answer,
         }
     }
 }

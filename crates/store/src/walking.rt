@@ -3,13 +3,13 @@ ghost use mathlib.Core.Path.{_≡_};
 ghost use Prim.Native.Nat.{ℕ, _+_, _≤_};
 ghost use mathlib.Core.List.{List};
 ghost use Rattle.rules.specs.Memory.{reference, frontier, withFrontier};
-ghost use Rattle.rules.specs.Control.{withMemory, withWalk};
+ghost use Rattle.rules.specs.Control.{withMemory};
 ghost use Rattle.rules.specs.Collector.{walked, below};
 ghost use Rattle.heap.specs.View.{memory};
-ghost use Rattle.store.specs.View.{view, outcome};
-ghost use Rattle.store.specs.Steps.{went};
+ghost use Rattle.store.specs.View.{view};
+ghost use Rattle.store.specs.declared.work.Work.the-variants.{Walks};
 use crate::Control;
-use crate::Reply;
+use crate::work::Work;
 
 // The reference of word k of half h.
 pub(crate) fn reference(h: u32, k: usize) -> u32
@@ -43,14 +43,12 @@ impl Control {
         reference(self.current, self.place)
     }
 
-    // The walk goes on past a record of n words, and the step is done.
-    pub(crate) fn past_record(mut self, n: usize) -> Reply
+    // The walk goes on past a record of n words.
+    pub(crate) fn past_record(self, n: usize) -> Work
         requires { ⌜ (self .place ≤ 1048576) × (n ≤ 513) ⌝ }
-        ensures { λ r. ⌜ ((h0 h1 l : List ℕ) → outcome r h0 h1 l ≡ went (withWalk (view self h0 h1 l) (self .place + n) 0)) ⌝ }
+        ensures { λ r. ⌜ r ≡ Walks (self .place + n) 0 ⌝ }
     {
-        self.place += n;
-        self.field = 0;
-        self.stepped()
+        Work::Walks(self.place + n, 0)
     }
 
     // The control record with the frontier of half h set.

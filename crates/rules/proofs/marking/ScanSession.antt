@@ -3,19 +3,19 @@
 use Prim.Native.Nat.{ℕ, _+_, _≤_}
 use mathlib.Core.Path.{_≡_, refl, ap}
 use mathlib.Core.Logic.{_≢_}
-use mathlib.Core.Bool.{true, false}
+use mathlib.Core.Bool.{true}
 use mathlib.Core.List.{List, [], _∷_}
 use native.Mathlib.Omega.{arith}
 use lib.ListN.{getD, length}
-use lib.Seq.{map-set-same}
-use borrow.Author.Tests.{ne-eqb, le-leb}
+use borrow.Author.Tests.{le-leb}
 use Rattle.rules.specs.Refusals.{passed}
 use Rattle.rules.specs.Memory.{null}
 use Rattle.rules.specs.Control.{Store}
-use Rattle.rules.specs.Phases.{sessionAt, withSession, withMark, unmarked, absent}
-use Rattle.rules.specs.Barriers.{listRoom, shade}
+use Rattle.rules.specs.Phases.{sessionAt, withMark, withSession, absent}
+use Rattle.rules.specs.Barriers.{listRoom}
 use Rattle.rules.specs.Collector.{shadeAll, toShadeAll, scanSession}
 use Rattle.rules.specs.Free.{Free, freeSession}
+use Rattle.rules.proofs.Scanned.{scanned, shade-scanned}
 use Rattle.rules.proofs.invariant.Words.{Clean}
 use Rattle.rules.proofs.invariant.Sim.{Sim}
 use Rattle.rules.proofs.invariant.Laws.{in-nonnull}
@@ -24,15 +24,6 @@ use Rattle.rules.proofs.relation.Stepped.{Stepped, stepped, stepped-sam
 use Rattle.rules.proofs.sessions.Session.{SessionFits, session-fits, session-sim-same}
 use Rattle.rules.proofs.marking.Whites.{Whites, one-white, Found, found}
 use Rattle.rules.proofs.marking.ShadeAll.{ShadedAll, shade-all}
-
--- session n marked scanned
-abbrev pub scanned : Store → ℕ → Store
-scanned s n = withSession s n (withMark (sessionAt s n) true)
-
--- shading clears its mark
-shade-scanned : (s : Store) (n v : ℕ) → v ≢ null → shade (scanned s n) v ≡ shade s v
-unfolding shade withSession sessionAt unmarked
-shade-scanned s n v d = rw (ne-eqb v null d, map-set-same (λ x. withMark x false) (s .sessions) n (withMark (getD (s .sessions) n absent) true) absent refl)
 
 module _ {K : ℕ → Type 0} {m : ℕ → ℕ} {s : Store} {f : Free} (h : Sim K m s f) (is : s .phase ≡ 4) (done : s .list .head ≡ s .list .tail)
     (n : ℕ) (l : n ≤ 15) where

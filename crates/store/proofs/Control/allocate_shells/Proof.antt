@@ -1,7 +1,6 @@
 -- The handshake at the frontier; below it damage, the record passed over, no room, or its shell.
-use mathlib.Core.Path.{sym, ap}
+use mathlib.Core.Path.{sym}
 use native.Mathlib.Omega.{arith}
-use Rattle.rules.specs.Control.{Store}
 use Rattle.rules.proofs.Ranges.{in-range, place-small, fronts}
 use Rattle.heap.proofs.Soundness.{found, lost}
 use Rattle.store.proofs.Flags.{no, yes}
@@ -95,7 +94,7 @@ returns-3 c =
     let c6 = c5 .before in
     let c7 = c6 .before in
     λ l. shells-passed _ (yes (c7 .below .ensures _ _ l) (c6 .if1 .left)) (c5 .walked .ensures _ _ l) (found _ _ (c4 .follow .ensures) (c3 .r .given .1))
-    (no (c2 .needs-shell .ensures _ _) (c1 .if2 .taken)) (c .past-record .ensures _ _ l)
+    (no (c2 .needs-shell .ensures _ _) (c1 .if2 .taken)) (c .past-record .ensures)
 
 other-half-requires : tie.Need-other-half-requires
 other-half-requires c κs =
@@ -148,28 +147,23 @@ put-shell-requires c κs =
     let c5 = c4 .before .before .before .before .before .before .before .before in
     shell-ready (in-range _ (c5 .pre)) (found _ _ (c4 .follow .ensures) (c3 .r .given .1)) (c2 .other-half .ensures) (c1 .if3 .left)
 
-add-with-frontier : tie.Need-add-with-frontier
-add-with-frontier c = search needs
+add-t19 : tie.Need-add-t19
+add-t19 c = search needs
 
-add-with-frontier-2 : tie.Need-add-with-frontier-2
-add-with-frontier-2 c = search needs
+add-t18 : tie.Need-add-t18
+add-t18 c = search needs
 
-with-frontier-requires : tie.Need-with-frontier-requires
-with-frontier-requires c κs = search needs
+add-t30 : tie.Need-add-t30
+add-t30 c = search needs
 
-add-past-record-2 : tie.Need-add-past-record-2
-add-past-record-2 c = search needs
-
-past-record-requires-2 : tie.Need-past-record-requires-2
-past-record-requires-2 c κs =
+add-t31 : tie.Need-add-t31
+add-t31 c =
     let c1 = c .before .before .before .before .before .before .before .before .before .before .before .before .before .before .before .before .before in
     let c2 = c1 .before .before in
     let c3 = c2 .before .before .before .before .before .before .before .before in
-    let a = c3 .args in
     let f = found _ _ (c2 .follow .ensures) (c1 .r .given .1) in
-    let e = ap (λ (s : Store). s .walk .place) (c .with-frontier .ensures (a .h0 .now) (a .h1 .now) (a .h0 .now)) in
     let k = place-small (in-range _ (c3 .pre)) in
-    (omega arith, omega arith)
+    omega arith
 
 same-length-7 : tie.Need-same-length-7
 same-length-7 c = search needs
@@ -179,22 +173,21 @@ same-length-8 c = search needs
 
 returns-5 : tie.Need-returns-5
 returns-5 c =
-    let c1 = c .before in
-    let c2 = c1 .before .before .before .before .before in
-    let c3 = c2 .before .before .before in
-    let c4 = c3 .before .before in
+    let c1 = c .before .before .before .before .before in
+    let c2 = c1 .before .before .before in
+    let c3 = c2 .before .before in
+    let c4 = c3 .before in
     let c5 = c4 .before in
     let c6 = c5 .before in
-    let c7 = c6 .before in
-    let c8 = c7 .before .before .before .before in
-    let c9 = c8 .before .before in
-    let c10 = c9 .before .before .before in
+    let c7 = c6 .before .before .before .before in
+    let c8 = c7 .before .before in
+    let c9 = c8 .before .before .before in
+    let c10 = c9 .before in
     let c11 = c10 .before in
-    let c12 = c11 .before in
-    let c13 = c12 .before .before .before in
-    λ l. shells-made _ (yes (c12 .below .ensures _ _ l) (c11 .if1 .left)) (c10 .walked .ensures _ _ l) (found _ _ (c9 .follow .ensures) (c8 .r .given .1))
-    (yes (c7 .needs-shell .ensures _ _) (c6 .if2 .left)) (c5 .other-half .ensures) (c4 .frontier .ensures _ _) (other-long _ _ _ (in-range _ (c13 .pre))) (c3 .if3 .left)
-    (c2 .put-shell .ensures _ _ (sym (c4 .frontier .ensures _ _))) (c1 .with-frontier .ensures _ _ l) (c .past-record2 .ensures _ _ l)
+    let c12 = c11 .before .before .before in
+    λ l. shells-made _ (yes (c11 .below .ensures _ _ l) (c10 .if1 .left)) (c9 .walked .ensures _ _ l) (found _ _ (c8 .follow .ensures) (c7 .r .given .1))
+    (yes (c6 .needs-shell .ensures _ _) (c5 .if2 .left)) (c4 .other-half .ensures) (c3 .frontier .ensures _ _) (other-long _ _ _ (in-range _ (c12 .pre))) (c2 .if3 .left)
+    (c1 .put-shell .ensures _ _ (sym (c3 .frontier .ensures _ _)))
 
 pub allocate-shells-spec : {M : Type 1} → statement M
 allocate-shells-spec =
@@ -227,11 +220,10 @@ allocate-shells-spec =
     same-length-6
     returns-4
     put-shell-requires
-    add-with-frontier
-    add-with-frontier-2
-    with-frontier-requires
-    add-past-record-2
-    past-record-requires-2
+    add-t19
+    add-t18
+    add-t30
+    add-t31
     same-length-7
     same-length-8
     returns-5)

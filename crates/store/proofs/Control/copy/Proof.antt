@@ -1,9 +1,7 @@
 -- At the frontier the step moves on; below it damage, the record passed over, or its next field copied.
-use mathlib.Core.Path.{_∙_, ap}
 use native.Mathlib.Omega.{arith}
 use Rattle.rules.proofs.Ranges.{in-range, place-small, fronts}
 use Rattle.heap.proofs.Soundness.{found, lost}
-use Rattle.store.specs.Steps.{went}
 use Rattle.store.proofs.Flags.{no, yes}
 use Rattle.store.proofs.Walks.{header-at}
 use Rattle.store.proofs.FieldCopies.{replica-word, field-left, copy-ends, copy-lost, copy-passes, copy-copies}
@@ -14,20 +12,8 @@ use Rattle.store.proofs.Control.copy.Tie as tie
 below-requires : tie.Need-below-requires
 below-requires c κs = search needs
 
-move-on-requires : tie.Need-move-on-requires
-move-on-requires c κs =
-    let k = in-range _ (c .before .before .before .before .pre) in
-    k .phases
-
-stepped-requires : tie.Need-stepped-requires
-stepped-requires c κs = search needs
-
 returns : tie.Need-returns
-returns c =
-    let c1 = c .before in
-    let c2 = c1 .before in
-    let c3 = c2 .before in
-    λ l. copy-ends _ (no (c3 .below .ensures _ _ l) (c2 .if1 .taken)) (c .stepped .ensures _ _ l ∙ ap went (c1 .move-on .ensures _ _ l))
+returns c = λ l. copy-ends _ (no (c .before .below .ensures _ _ l) (c .if1 .taken))
 
 walked-requires : tie.Need-walked-requires
 walked-requires c κs =
@@ -100,7 +86,7 @@ returns-3 c =
     let c6 = c5 .before in
     let c7 = c6 .before in
     λ l. copy-passes _ (yes (c7 .below .ensures _ _ l) (c6 .if1 .left)) (c5 .walked .ensures _ _ l) (found _ _ (c4 .follow .ensures) (c3 .r .given .1))
-    (replica-word _ _ (c2 .get-word .ensures _ _)) (c1 .if2 .taken) (c .past-record .ensures _ _ l)
+    (replica-word _ _ (c2 .get-word .ensures _ _)) (c1 .if2 .taken) (c .past-record .ensures)
 
 copy-field-requires : tie.Need-copy-field-requires
 copy-field-requires c κs =
@@ -137,8 +123,6 @@ copy-spec =
     tie.close
     (tie.spec
     below-requires
-    move-on-requires
-    stepped-requires
     returns
     walked-requires
     follow-requires

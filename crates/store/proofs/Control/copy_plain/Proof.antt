@@ -100,7 +100,7 @@ returns-2 c =
     let c7 = c6 .before .before .before .before .before in
     let a = c7 .args in
     λ l. plain-copied (view (a .self) (a .h0 .now) (a .h1 .now) l) (a .v) (a .t) (a .i) (c6 .plains-of .ensures (a .self .frontier0) (a .self .frontier1)) (c5 .if1 .left) (c4 .refs-of .ensures (a .self .frontier0) (a .self .frontier1)) (c3 .refs-of2 .ensures (a .self .frontier0) (a .self .frontier1)) (c2 .get-word .ensures (a .self .frontier0) (a .self .frontier1))
-    (c1 .put-word .ensures (a .self .frontier0) (a .self .frontier1)) (c .past-field .ensures _ _ l)
+    (c1 .put-word .ensures (a .self .frontier0) (a .self .frontier1)) (c .past-field .ensures)
 
 pub copy-plain-spec : {M : Type 1} → statement M
 copy-plain-spec =

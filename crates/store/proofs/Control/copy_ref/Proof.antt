@@ -119,7 +119,7 @@ returns-3 c =
     let a = c8 .args in
     λ l. ref-copied (view (a .self) (a .h0 .now) (a .h1 .now) l) (a .v) (a .t) (a .self .field) (c7 .refs-of .ensures (a .self .frontier0) (a .self .frontier1)) (c6 .if1 .left) (c5 .get-word .ensures (a .self .frontier0) (a .self .frontier1))
     (forward-told (a .self) (a .h0 .now) (a .h1 .now) l (bounds-over (a .self) (a .h0 .now) (a .h1 .now) (c4 .bounds .ensures)) _ (c3 .forward .ensures) (ap checked (c2 .w .given .1)))
-    (c1 .put-word .ensures (a .self .frontier0) (a .self .frontier1)) (c .past-field .ensures _ _ l)
+    (c1 .put-word .ensures (a .self .frontier0) (a .self .frontier1)) (c .past-field .ensures)
 
 pub copy-ref-spec : {M : Type 1} → statement M
 copy-ref-spec =

@@ -1,9 +1,8 @@
 -- The oldest listed record; the list done, the lowest session without a mark; none left, the next phase.
-use mathlib.Core.Path.{_≡_, _∙_, ap}
+use mathlib.Core.Path.{_≡_}
 use native.Mathlib.Omega.{arith}
 use lib.ListN.{length}
 use Rattle.rules.proofs.Ranges.{in-range}
-use Rattle.store.specs.Steps.{went}
 use Rattle.store.proofs.Marked.{unmapped, listed-next, session-next, marking-done}
 use borrow.Author.Needs.{needs}
 use Rattle.store.proofs.Control.heap_mark.Statement.{statement}
@@ -16,10 +15,7 @@ slice-read-v : tie.Need-slice-read-v
 slice-read-v c = let k = in-range _ (c .before .before .before .before .before .before .pre) in omega arith
 
 scan-record-requires : tie.Need-scan-record-requires
-scan-record-requires c κs =
-    let c1 = c .before .before .before .before in
-    let c2 = c1 .before .before .before .before .before in
-    (c1 .if1 .taken, c2 .pre)
+scan-record-requires c κs = search needs
 
 same-length : tie.Need-same-length
 same-length c = search needs
@@ -41,10 +37,7 @@ lowest-unmarked-requires : tie.Need-lowest-unmarked-requires
 lowest-unmarked-requires c κs = search needs
 
 scan-session-requires : tie.Need-scan-session-requires
-scan-session-requires c κs =
-    let c1 = c .before .before .before in
-    let c2 = c1 .before .before .before .before .before .before .before .before in
-    (c1 .if2 .taken, c2 .pre)
+scan-session-requires c κs = search needs
 
 same-length-4 : tie.Need-same-length-4
 same-length-4 c = search needs
@@ -60,26 +53,19 @@ returns-2 c =
     let c1 = c .before .before .before .before .before .before in
     let c2 = c1 .before .before .before .before .before in
     let c3 = c2 .before .before in
-    let c4 = c3 .before .before .before .before .before in
-    let sessions = c4 .good .0 .1 .1 .1 .1 .1 .1 .1 .1 .1 .1 .1 .1 .1 .1 .0 in
-    let l : length (c4 .args .self .sessions) ≡ 16 = search (needs, unmapped) in
-    rw (session-next _ (c4 .pre) (c3 .if1 .left) (c2 .lowest-unmarked .ensures) (omega arith)) (c1 .scan-session .ensures)
-
-move-on-requires : tie.Need-move-on-requires
-move-on-requires c κs = in-range _ (c .before .before .before .before .before .before .before .before .pre) .phases
-
-stepped-requires : tie.Need-stepped-requires
-stepped-requires c κs = search needs
+    let start = c3 .before .before .before .before .before in
+    let sessions = start .good .0 .1 .1 .1 .1 .1 .1 .1 .1 .1 .1 .1 .1 .1 .1 .0 in
+    let l : length (start .args .self .sessions) ≡ 16 = search (needs, unmapped) in
+    rw (session-next _ (start .pre) (c3 .if1 .left) (c2 .lowest-unmarked .ensures) (omega arith)) (c1 .scan-session .ensures)
 
 returns-3 : tie.Need-returns-3
 returns-3 c =
-    let c1 = c .before in
-    let c2 = c1 .before .before in
+    let c2 = c .before in
     let c3 = c2 .before .before in
-    let c4 = c3 .before .before .before .before .before in
-    let sessions = c4 .good .0 .1 .1 .1 .1 .1 .1 .1 .1 .1 .1 .1 .1 .1 .1 .0 in
-    let l : length (c4 .args .self .sessions) ≡ 16 = search (needs, unmapped) in
-    rw (marking-done _ (c4 .pre) (c3 .if1 .left) (c2 .lowest-unmarked .ensures) (omega arith)) (c .stepped .ensures _ _ _ ∙ ap went (c1 .move-on .ensures _ _ _))
+    let start = c3 .before .before .before .before .before in
+    let sessions = start .good .0 .1 .1 .1 .1 .1 .1 .1 .1 .1 .1 .1 .1 .1 .1 .0 in
+    let l : length (start .args .self .sessions) ≡ 16 = search (needs, unmapped) in
+    rw (marking-done _ (start .pre) (c3 .if1 .left) (c2 .lowest-unmarked .ensures) (omega arith))
 
 pub heap-mark-spec : {M : Type 1} → statement M
 heap-mark-spec =
@@ -98,6 +84,4 @@ heap-mark-spec =
     same-length-5
     same-length-6
     returns-2
-    move-on-requires
-    stepped-requires
     returns-3)

@@ -1,10 +1,7 @@
 -- Waiting for level 0, the other half emptied, damage, or the next record's replica word cleared.
-use mathlib.Core.Path.{_∙_, ap}
 use native.Mathlib.Omega.{arith}
-use Rattle.rules.specs.Control.{Store}
 use Rattle.rules.proofs.Ranges.{in-range, place-small, fronts}
 use Rattle.heap.proofs.Soundness.{found, lost}
-use Rattle.store.specs.Steps.{went}
 use Rattle.store.proofs.Flags.{no, yes}
 use Rattle.store.proofs.Walks.{header-at, reclaim-waits, reclaim-ends, reclaim-lost, reclaim-clears}
 use borrow.Author.Needs.{needs}
@@ -16,11 +13,8 @@ have-level-requires c κs =
     let k = in-range _ (c .before .before .pre) in
     k .phases
 
-stepped-requires : tie.Need-stepped-requires
-stepped-requires c κs = search needs
-
 returns : tie.Need-returns
-returns c = λ l. reclaim-waits _ (no (c .before .before .have-level .ensures _ _ l) (c .before .if1 .taken)) (c .stepped .ensures _ _ l)
+returns c = λ l. reclaim-waits _ (no (c .before .have-level .ensures _ _ l) (c .if1 .taken))
 
 below-requires : tie.Need-below-requires
 below-requires c κs = search needs
@@ -30,31 +24,13 @@ other-half-requires c κs =
     let k = in-range _ (c .before .before .before .before .before .before .pre) in
     k .half
 
-with-frontier-requires : tie.Need-with-frontier-requires
-with-frontier-requires c κs = search needs
-
-move-on-requires : tie.Need-move-on-requires
-move-on-requires c κs =
-    let c1 = c .before .before .before .before .before .before .before .before in
-    let a = c1 .args in
-    let k = in-range _ (c1 .pre) in
-    let e = ap (λ (s : Store). s .phase) (c .with-frontier .ensures (a .h0 .now) (a .h1 .now) (a .h0 .now)) in
-    omega arith
-
-stepped-requires-2 : tie.Need-stepped-requires-2
-stepped-requires-2 c κs = search needs
-
 returns-2 : tie.Need-returns-2
 returns-2 c =
     let c1 = c .before in
     let c2 = c1 .before in
     let c3 = c2 .before in
     let c4 = c3 .before in
-    let c5 = c4 .before in
-    let c6 = c5 .before in
-    let c7 = c6 .before in
-    λ l. reclaim-ends _ (yes (c7 .have-level .ensures _ _ l) (c6 .if1 .left)) (no (c5 .below .ensures _ _ l) (c4 .if2 .taken)) (c3 .other-half .ensures)
-    (c2 .with-frontier .ensures _ _ l) (c .stepped2 .ensures _ _ l ∙ ap went (c1 .move-on .ensures _ _ l))
+    λ l. reclaim-ends _ (yes (c4 .have-level .ensures _ _ l) (c3 .if1 .left)) (no (c2 .below .ensures _ _ l) (c1 .if2 .taken)) (c .other-half .ensures)
 
 walked-requires : tie.Need-walked-requires
 walked-requires c κs =
@@ -131,20 +107,16 @@ returns-4 c =
     let c7 = c6 .before in
     let c8 = c7 .before in
     λ l. reclaim-clears _ (yes (c8 .have-level .ensures _ _ l) (c7 .if1 .left)) (yes (c6 .below .ensures _ _ l) (c5 .if2 .left)) (c4 .walked .ensures _ _ l)
-    (found _ _ (c3 .follow .ensures) (c2 .r .given .1)) (c1 .put-word .ensures _ _) (c .past-record .ensures _ _ l)
+    (found _ _ (c3 .follow .ensures) (c2 .r .given .1)) (c1 .put-word .ensures _ _) (c .past-record .ensures)
 
 pub reclaim-spec : {M : Type 1} → statement M
 reclaim-spec =
     tie.close
     (tie.spec
     have-level-requires
-    stepped-requires
     returns
     below-requires
     other-half-requires
-    with-frontier-requires
-    move-on-requires
-    stepped-requires-2
     returns-2
     walked-requires
     follow-requires

@@ -1,8 +1,7 @@
 -- The step moves on after the last global; before it damage, or the next global forwarded.
-use mathlib.Core.Path.{_∙_, ap}
+use mathlib.Core.Path.{ap}
 use Rattle.rules.proofs.Ranges.{in-range}
 use Rattle.heap.specs.View.{checked}
-use Rattle.store.specs.Steps.{went}
 use Rattle.store.proofs.Shaded.{within}
 use Rattle.store.proofs.Forwards.{bounds-over, forward-told}
 use Rattle.store.proofs.Flips.{roots-done, root-lost, root-flips}
@@ -10,16 +9,8 @@ use borrow.Author.Needs.{needs}
 use Rattle.store.proofs.Control.root_flip.Statement.{statement}
 use Rattle.store.proofs.Control.root_flip.Tie as tie
 
-move-on-requires : tie.Need-move-on-requires
-move-on-requires c κs =
-    let k = in-range _ (c .before .before .before .pre) in
-    k .phases
-
-stepped-requires : tie.Need-stepped-requires
-stepped-requires c κs = search needs
-
 returns : tie.Need-returns
-returns c = λ l. roots-done _ (c .before .before .if1 .taken) (c .stepped .ensures _ _ l ∙ ap went (c .before .move-on .ensures _ _ l))
+returns c = λ l. roots-done _ (c .if1 .taken)
 
 mul-v : tie.Need-mul-v
 mul-v c = search needs
@@ -52,34 +43,23 @@ returns-2 c =
     λ l. root-lost _ (c3 .if1 .left)
     (forward-told (c4 .args .t1) _ _ l (bounds-over (c4 .args .t1) _ _ (c2 .bounds .ensures)) _ (c1 .forward .ensures) (ap checked (c .enum-told .given .1)))
 
-mul-self : tie.Need-mul-self
-mul-self c = search needs
-
-element-write-self : tie.Need-element-write-self
-element-write-self c = search needs
-
-add-self : tie.Need-add-self
-add-self c = search needs
-
-stepped-requires-2 : tie.Need-stepped-requires-2
-stepped-requires-2 c κs = search needs
+add-t10 : tie.Need-add-t10
+add-t10 c = search needs
 
 returns-3 : tie.Need-returns-3
 returns-3 c =
-    let c1 = c .before .before in
+    let c1 = c .before in
     let c2 = c1 .before .before in
     let c3 = c2 .before in
     let c4 = c3 .before .before in
     let c5 = c4 .before .before .before in
     λ l. root-flips _ (c4 .if1 .left)
-    (forward-told (c5 .args .t1) _ _ l (bounds-over (c5 .args .t1) _ _ (c3 .bounds .ensures)) _ (c2 .forward .ensures) (ap checked (c1 .q .given .1))) (c .stepped2 .ensures _ _ l)
+    (forward-told (c5 .args .t1) _ _ l (bounds-over (c5 .args .t1) _ _ (c3 .bounds .ensures)) _ (c2 .forward .ensures) (ap checked (c1 .q .given .1)))
 
 pub root-flip-spec : {M : Type 1} → statement M
 root-flip-spec =
     tie.close
     (tie.spec
-    move-on-requires
-    stepped-requires
     returns
     mul-v
     element-copy-out-v
@@ -88,8 +68,5 @@ root-flip-spec =
     enum-known-q
     enum-told
     returns-2
-    mul-self
-    element-write-self
-    add-self
-    stepped-requires-2
+    add-t10
     returns-3)

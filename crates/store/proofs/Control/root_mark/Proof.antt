@@ -1,24 +1,11 @@
 -- The next global, or on to the next phase.
-use mathlib.Core.Path.{_∙_, ap}
-use Rattle.rules.proofs.Ranges.{in-range}
-use Rattle.store.specs.Steps.{went}
 use Rattle.store.proofs.Marked.{roots-done, root-next}
 use borrow.Author.Needs.{needs}
 use Rattle.store.proofs.Control.root_mark.Statement.{statement}
 use Rattle.store.proofs.Control.root_mark.Tie as tie
 
-move-on-requires : tie.Need-move-on-requires
-move-on-requires c κs = in-range _ (c .before .before .before .before .pre) .phases
-
-stepped-requires : tie.Need-stepped-requires
-stepped-requires c κs = search needs
-
 returns : tie.Need-returns
-returns c =
-    let c1 = c .before in
-    let c2 = c1 .before in
-    let c3 = c2 .before .before .before .before in
-    rw (roots-done _ (c3 .pre) (c2 .if1 .taken)) (c .stepped .ensures _ _ _ ∙ ap went (c1 .move-on .ensures _ _ _))
+returns c = rw (roots-done _ (c .before .before .before .before .pre) (c .if1 .taken))
 
 mul-v : tie.Need-mul-v
 mul-v c = search needs
@@ -52,8 +39,6 @@ pub root-mark-spec : {M : Type 1} → statement M
 root-mark-spec =
     tie.close
     (tie.spec
-    move-on-requires
-    stepped-requires
     returns
     mul-v
     element-copy-out-v

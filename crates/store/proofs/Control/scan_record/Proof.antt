@@ -74,11 +74,8 @@ put-word-requires c κs =
     let c3 = c2 .before .before .before .before .before .before in
     colour-inside _ (c3 .pre .1) _ (c2 .follow .ensures) (c1 .r .given .1)
 
-add-self : tie.Need-add-self
-add-self c = search needs
-
-stepped-requires : tie.Need-stepped-requires
-stepped-requires c κs = search needs
+add-next : tie.Need-add-next
+add-next c = search needs
 
 same-length-6 : tie.Need-same-length-6
 same-length-6 c = search needs
@@ -88,15 +85,13 @@ same-length-7 c = search needs
 
 returns-3 : tie.Need-returns-3
 returns-3 c =
-    let c1 = c .before .before .before .before .before .before in
+    let c1 = c .before .before .before .before .before in
     let c2 = c1 .before .before .before in
     let c3 = c2 .before .before in
     let c4 = c3 .before .before in
-    let c5 = c4 .before .before .before .before .before .before in
-    let start = c5 in
+    let start = c4 .before .before .before .before .before .before in
     let self = start .args .self in
     rw (record-done _ (start .pre .1) _ (c4 .follow .ensures) (c3 .r .given .1) (c2 .if1 .left) (c1 .put-word .ensures (self .frontier0) (self .frontier1)))
-    (c .stepped .ensures _ _ _)
 
 pub scan-record-spec : {M : Type 1} → statement M
 scan-record-spec =
@@ -118,8 +113,7 @@ scan-record-spec =
     same-length-5
     returns-2
     put-word-requires
-    add-self
-    stepped-requires
+    add-next
     same-length-6
     same-length-7
     returns-3)

@@ -1,14 +1,15 @@
--- The registers are damage or the list is full: refused; else the session is marked and the white records shaded.
-use mathlib.Core.Path.{_≡_, refl, _∙_, ap}
+-- The registers are damage or the list is full: refused; no white record among them: the session is marked; else they are
+-- shaded.
+use mathlib.Core.Path.{_≡_, refl}
 use native.Mathlib.Omega.{arith}
-use lib.ListN.{length, take}
-use Rattle.rules.specs.Control.{Store}
-use Rattle.rules.specs.Phases.{sessionAt, withSession}
-use Rattle.rules.specs.Collector.{shadeAll}
+use lib.ListN.{length}
+use Rattle.rules.specs.Phases.{sessionAt}
+use Rattle.rules.specs.Barriers.{heapOf}
 use Rattle.rules.proofs.Ranges.{in-range}
-use Rattle.store.specs.Steps.{went}
+use Rattle.heap.specs.View.{heap}
+use Rattle.store.specs.View.{view}
 use Rattle.store.proofs.Shaded.{within}
-use Rattle.store.proofs.Marked.{scanning, session-refused, session-accepted, session-room, session-inside}
+use Rattle.store.proofs.Marked.{Scanning, scanning, session-refused, session-marked, session-shaded, session-room, session-inside}
 use borrow.Author.Needs.{needs}
 use Rattle.store.proofs.Control.scan_session.Statement.{statement}
 use Rattle.store.proofs.Control.scan_session.Tie as tie
@@ -22,16 +23,42 @@ mul-session c = search needs
 element-copy-out-session : tie.Need-element-copy-out-session
 element-copy-out-session c = search needs
 
+-- the bounds are the store's
+bounded : (c : tie.After-bounds)
+    → let a = c .before .before .before .before .args in
+    heap (c .bounds .result) (a .h0 .now) (a .h1 .now) ≡ heapOf (view (a .t1) (a .h0 .now) (a .h1 .now) (a .list .now))
+bounded c =
+    let start = c .before .before .before .before in
+    let a = start .args in
+    c .bounds .ensures (a .h0 .now) (a .h1 .now) (a .list .now) (in-range _ (start .pre .1) .lent2)
+
 white-registers-requires : tie.Need-white-registers-requires
 white-registers-requires c κs =
-    let start = c .before .before .before .before .before .before .before .before in
-    let a = start .args in
-    let r = in-range _ (start .pre .1) in
-    let b = c .before .before .before .before .bounds .ensures (a .h0 .now) (a .h1 .now) (a .list .now) (r .lent2) in
-    within _ _ b r
+    let c1 = c .before .before .before .before in
+    let start = c1 .before .before .before .before in
+    within _ _ (bounded c1) (in-range _ (start .pre .1))
+
+-- what is known once the registers were looked at
+known : (c : tie.After-words)
+    → let c1 = c .before in
+    let a = c1 .before .before .before .before .before .before .before .before .before .args in
+    Scanning (view (a .t1) (a .h0 .now) (a .h1 .now) (a .list .now)) (a .n) (c1 .white-registers .result)
+unfolding sessionAt
+known c =
+    let c1 = c .before in
+    let c2 = c1 .before .before .before .before .before in
+    let start = c2 .before .before .before .before in
+    let o = c1 .white-registers in
+    let ok = o .ok .1 .1 in
+    let long : length (o .result .words) ≡ 8 = search needs in
+    scanning _ (start .args .n) (o .result) _ (in-range _ (start .pre .1)) (o .ensures .0) long (o .ensures .1) (bounded c2) refl
 
 sub-fits : tie.Need-sub-fits
-sub-fits c = let r = in-range _ (c .before .before .before .before .before .before .before .before .before .before .pre .1) in omega arith
+sub-fits c =
+    let c1 = c .before in
+    let start = c1 .before .before .before .before .before .before .before .before .before in
+    let r = in-range _ (start .pre .1) in
+    omega arith
 
 same-length : tie.Need-same-length
 same-length c = search needs
@@ -40,39 +67,7 @@ same-length-2 : tie.Need-same-length-2
 same-length-2 c = search needs
 
 returns : tie.Need-returns
-unfolding sessionAt
-returns c =
-    let start = c .before .before .before .before .before .before .before .before .before .before .before in
-    let a = start .args in
-    let r = in-range _ (start .pre .1) in
-    let b = c .before .before .before .before .before .before .before .bounds .ensures (a .h0 .now) (a .h1 .now) (a .list .now) (r .lent2) in
-    let o = c .before .before .white-registers in
-    let ok = o .ok in
-    let long : length (o .result .words) ≡ 8 = search needs in
-    let k = scanning _ (a .n) (o .result) _ r (o .ensures .0) long (o .ensures .1) b refl in
-    rw (session-refused k (c .if1 .taken))
-
-with-mark-requires : tie.Need-with-mark-requires
-with-mark-requires c κs = search needs
-
-shade-all-requires : tie.Need-shade-all-requires
-unfolding sessionAt withSession
-shade-all-requires c κs =
-    let start = c .before .before .before .before .before .before .before .before .before .before .before .before .before .before .before in
-    let a = start .args in
-    let r = in-range _ (start .pre .1) in
-    let b = c .before .before .before .before .before .before .before .before .before .before .before .bounds .ensures (a .h0 .now) (a .h1 .now) (a .list .now) (r .lent2) in
-    let o = c .before .before .before .before .before .before .white-registers in
-    let ok = o .ok in
-    let long : length (o .result .words) ≡ 8 = search needs in
-    let k = scanning _ (a .n) (o .result) _ r (o .ensures .0) long (o .ensures .1) b refl in
-    let m = c .before .before .before .with-mark in
-    let tail : m .result .tail ≡ a .t1 .tail = ap (λ (t : Store). t .list .tail) (m .ensures (a .h0 .now) (a .h1 .now) (a .list .now)) in
-    let room = session-room k (c .before .before .before .before .if1 .left) in
-    (o .ensures .0, omega arith, session-inside k (c .before .before .before .before .if1 .left))
-
-stepped-requires : tie.Need-stepped-requires
-stepped-requires c κs = search needs
+returns c = rw (session-refused (known (c .before)) (c .if1 .taken))
 
 same-length-3 : tie.Need-same-length-3
 same-length-3 c = search needs
@@ -80,23 +75,51 @@ same-length-3 c = search needs
 same-length-4 : tie.Need-same-length-4
 same-length-4 c = search needs
 
-same-length-5 : tie.Need-same-length-5
-same-length-5 c = search needs
+of-requires : tie.Need-of-requires
+of-requires c κs = search needs
 
 returns-2 : tie.Need-returns-2
 unfolding sessionAt
 returns-2 c =
-    let start = c .before .before .before .before .before .before .before .before .before .before .before .before .before .before .before .before .before .before .before .before .before .before .before in
-    let a = start .args in
-    let r = in-range _ (start .pre .1) in
-    let b = c .before .before .before .before .before .before .before .before .before .before .before .before .before .before .before .before .before .before .before .bounds .ensures (a .h0 .now) (a .h1 .now) (a .list .now) (r .lent2) in
-    let o = c .before .before .before .before .before .before .before .before .before .before .before .before .before .before .white-registers in
-    let ok = o .ok in
-    let long : length (o .result .words) ≡ 8 = search needs in
-    let k = scanning _ (a .n) (o .result) _ r (o .ensures .0) long (o .ensures .1) b refl in
-    rw (session-accepted k (c .before .before .before .before .before .before .before .before .before .before .before .before .if1 .left))
-    (c .stepped .ensures _ _ _
-    ∙ ap went (c .before .before .before .before .before .before .before .shade-all .ensures ∙ ap (λ (t : Store). shadeAll t (take (o .result .count) (o .result .words))) (c .before .before .before .before .before .before .before .before .before .before .before .with-mark .ensures _ _ _)))
+    let c1 = c .before in
+    let c2 = c1 .before in
+    rw (session-marked (known (c2 .before)) (c2 .if1 .left) (c1 .if2 .taken), c .of .ensures)
+
+shade-all-requires : tie.Need-shade-all-requires
+shade-all-requires c κs =
+    let c1 = c .before .before .before .before in
+    let c2 = c1 .before in
+    let k = known c2 in
+    let t = c1 .if1 .left in
+    (c2 .before .white-registers .ensures .0, session-room k t, session-inside k t)
+
+add-next : tie.Need-add-next
+add-next c =
+    let c1 = c .before .before .before .before .before .before .before .before .before .before .before in
+    let c2 = c1 .before in
+    let start = c2 .before .before .before .before .before .before .before .before .before .before in
+    let k = known c2 in
+    let room = session-room k (c1 .if1 .left) in
+    omega arith
+
+same-length-5 : tie.Need-same-length-5
+same-length-5 c = search needs
+
+same-length-6 : tie.Need-same-length-6
+same-length-6 c = search needs
+
+same-length-7 : tie.Need-same-length-7
+same-length-7 c = search needs
+
+returns-3 : tie.Need-returns-3
+returns-3 c =
+    let c1 = c .before .before .before .before .before .before in
+    let c2 = c1 .before .before .before .before in
+    let c3 = c2 .before in
+    let c4 = c3 .before in
+    let self = c4 .before .before .before .before .before .before .before .before .before .before .args .t1 in
+    let e = c1 .shade-all .ensures in
+    rw (session-shaded (known c4) (c3 .if1 .left) (c2 .if2 .left) (e .0 (self .frontier0) (self .frontier1)) (e .1))
 
 pub scan-session-spec : {M : Type 1} → statement M
 scan-session-spec =
@@ -110,10 +133,13 @@ scan-session-spec =
     same-length
     same-length-2
     returns
-    with-mark-requires
-    shade-all-requires
-    stepped-requires
+    of-requires
     same-length-3
     same-length-4
+    returns-2
+    shade-all-requires
+    add-next
     same-length-5
-    returns-2)
+    same-length-6
+    same-length-7
+    returns-3)

@@ -5,24 +5,12 @@ use borrow.Author.Needs.{needs}
 use Rattle.store.proofs.Control.shade.Statement.{statement}
 use Rattle.store.proofs.Control.shade.Tie as tie
 
-put-word-requires : tie.Need-put-word-requires
-put-word-requires c κs = c .before .before .before .before .before .before .pre (c .before .before .if1 .taken) .0
-
-mul-list : tie.Need-mul-list
-mul-list c =
-    let c1 = c .before .before .before .before .before .before .before in
-    let c2 = c1 .before .before .before .before in
-    omega (arith, c2 .pre (c1 .if1 .taken) .1)
-
-slice-write-list : tie.Need-slice-write-list
-slice-write-list c =
-    let c1 = c .before .before .before .before .before .before .before in
-    let c2 = c1 .before .before .before .before in
-    omega (arith, c2 .pre (c1 .if1 .taken) .1)
+put-grey-requires : tie.Need-put-grey-requires
+put-grey-requires c κs = c .before .before .before .before .before .before .before .pre (c .before .before .before .if1 .taken)
 
 add-self : tie.Need-add-self
 add-self c =
-    let c1 = c .before .before .before .before .before .before .before in
+    let c1 = c .before .before .before .before .before .before .before .before .before .before in
     let c2 = c1 .before .before .before .before in
     omega (arith, c2 .pre (c1 .if1 .taken) .1)
 
@@ -40,9 +28,9 @@ same-length-3 c = search needs
 
 returns : tie.Need-returns
 returns c =
-    let c1 = c .before .before .before .before .before .before in
-    let c2 = c1 .before .before .before in
-    shade-record _ _ (c2 .if1 .taken) (c1 .put-word .ensures _ _) (c .unmarked .ensures)
+    let c1 = c .before .before .before .before .before .before .before .before in
+    let c2 = c1 .before .before .before .before in
+    shade-record _ _ (c2 .if1 .taken) (c1 .put-grey .ensures .0 _ _) (c1 .put-grey .ensures .1) (c .unmarked .ensures)
 
 returns-2 : tie.Need-returns-2
 returns-2 c = shade-null _ _ (c .if1 .left)
@@ -51,9 +39,7 @@ pub shade-spec : {M : Type 1} → statement M
 shade-spec =
     tie.close
     (tie.spec
-    put-word-requires
-    mul-list
-    slice-write-list
+    put-grey-requires
     add-self
     unmarked-requires
     same-length

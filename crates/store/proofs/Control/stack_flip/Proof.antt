@@ -2,7 +2,7 @@
 use mathlib.Core.Path.{_≡_}
 use lib.ListN.{length}
 use Rattle.store.proofs.Marked.{unmapped}
-use Rattle.rules.specs.Phases.{sessionAt, withSession}
+use Rattle.rules.specs.Phases.{sessionAt}
 use Rattle.rules.proofs.Ranges.{in-range}
 use Rattle.store.specs.View.{view}
 use Rattle.store.proofs.Shaded.{within}
@@ -12,6 +12,12 @@ use borrow.Author.Needs.{needs}
 use Rattle.store.proofs.Control.stack_flip.Statement.{statement}
 use Rattle.store.proofs.Control.stack_flip.Tie as tie
 
+-- the number of sessions
+count : (c : tie.Start) → length (c .args .t1 .sessions) ≡ 16
+count c =
+    let sessions = c .good .0 .1 .1 .1 .1 .1 .1 .1 .1 .1 .1 .1 .1 .1 .1 .0 in
+    search (needs, unmapped)
+
 bounds-requires : tie.Need-bounds-requires
 bounds-requires c κs =
     let k = in-range _ (c .before .before .pre) in
@@ -20,35 +26,23 @@ bounds-requires c κs =
 lowest-unmarked-requires : tie.Need-lowest-unmarked-requires
 lowest-unmarked-requires c κs = search needs
 
-move-on-requires : tie.Need-move-on-requires
-move-on-requires c κs =
-    let k = in-range _ (c .before .before .before .before .before .before .pre) in
-    k .phases
-
 other-half-requires : tie.Need-other-half-requires
 other-half-requires c κs =
-    let c1 = c .before .before .before .before in
+    let c1 = c .before .before .before in
     let c2 = c1 .before .before .before in
     let a = c2 .args in
     let w = within _ _ (bounds-over (a .t1) (a .h0 .now) (a .h1 .now) (c1 .bounds .ensures)) (in-range _ (c2 .pre)) in
     w .side
 
-stepped-requires : tie.Need-stepped-requires
-stepped-requires c κs = search needs
-
 returns : tie.Need-returns
 returns c =
     let c1 = c .before in
     let c2 = c1 .before in
-    let c3 = c2 .before in
-    let c4 = c3 .before in
-    let c5 = c4 .before .before in
-    let c6 = c5 .before .before .before in
-    let a = c6 .args in
-    let sessions = c6 .good .0 .1 .1 .1 .1 .1 .1 .1 .1 .1 .1 .1 .1 .1 .1 .0 in
-    let k : length (a .t1 .sessions) ≡ 16 = search (needs, unmapped) in
-    λ l. stacks-done (view (a .t1) (a .h0 .now) (a .h1 .now) l) (c4 .lowest-unmarked .ensures) k (c3 .if1 .taken)
-    (tospace-told (a .t1) (a .h0 .now) (a .h1 .now) l (bounds-over (a .t1) (a .h0 .now) (a .h1 .now) (c5 .bounds .ensures)) (c1 .other-half .ensures)) (c2 .move-on .ensures _ _ l) (c .stepped .ensures _ _ l)
+    let c3 = c2 .before .before in
+    let c4 = c3 .before .before .before in
+    let a = c4 .args in
+    λ l. stacks-done (view (a .t1) (a .h0 .now) (a .h1 .now) l) (c2 .lowest-unmarked .ensures) (count c4) (c1 .if1 .taken)
+    (tospace-told (a .t1) (a .h0 .now) (a .h1 .now) l (bounds-over (a .t1) (a .h0 .now) (a .h1 .now) (c3 .bounds .ensures)) (c .other-half .ensures))
 
 mul-session : tie.Need-mul-session
 mul-session c = search needs
@@ -71,22 +65,14 @@ returns-2 c =
     let c4 = c3 .before .before in
     let c5 = c4 .before .before .before in
     let a = c5 .args in
-    let sessions = c5 .good .0 .1 .1 .1 .1 .1 .1 .1 .1 .1 .1 .1 .1 .1 .1 .0 in
-    let k : length (a .t1 .sessions) ≡ 16 = search (needs, unmapped) in
-    λ l. stack-lost (view (a .t1) (a .h0 .now) (a .h1 .now) l) (c3 .lowest-unmarked .ensures) k (c2 .if1 .left)
+    λ l. stack-lost (view (a .t1) (a .h0 .now) (a .h1 .now) l) (c3 .lowest-unmarked .ensures) (count c5) (c2 .if1 .left)
     (all-told (a .t1) (a .h0 .now) (a .h1 .now) l (bounds-over (a .t1) (a .h0 .now) (a .h1 .now) (c4 .bounds .ensures)) (sessionAt (view (a .t1) (a .h0 .now) (a .h1 .now) l) (c3 .lowest-unmarked .result) .registers) (c1 .forward-all .ensures) (moved-false (c1 .forward-all .result) (c .if2 .taken)))
 
-mul-session-2 : tie.Need-mul-session-2
-mul-session-2 c = search needs
-
-element-set-from-session : tie.Need-element-set-from-session
-element-set-from-session c = search needs
-
-stepped-requires-2 : tie.Need-stepped-requires-2
-stepped-requires-2 c κs = search needs
+of-requires : tie.Need-of-requires
+of-requires c κs = search needs
 
 returns-3 : tie.Need-returns-3
-unfolding sessionAt withSession
+unfolding sessionAt
 returns-3 c =
     let c1 = c .before .before in
     let c2 = c1 .before .before in
@@ -95,10 +81,8 @@ returns-3 c =
     let c5 = c4 .before .before in
     let c6 = c5 .before .before .before in
     let a = c6 .args in
-    let sessions = c6 .good .0 .1 .1 .1 .1 .1 .1 .1 .1 .1 .1 .1 .1 .1 .1 .0 in
-    let k : length (a .t1 .sessions) ≡ 16 = search (needs, unmapped) in
-    λ l. stack-flips (view (a .t1) (a .h0 .now) (a .h1 .now) l) (c4 .lowest-unmarked .ensures) k (c3 .if1 .left)
-    (all-told (a .t1) (a .h0 .now) (a .h1 .now) l (bounds-over (a .t1) (a .h0 .now) (a .h1 .now) (c5 .bounds .ensures)) (sessionAt (view (a .t1) (a .h0 .now) (a .h1 .now) l) (c4 .lowest-unmarked .result) .registers) (c2 .forward-all .ensures) (moved-true (c2 .forward-all .result) (c1 .if2 .left))) (c .stepped2 .ensures _ _ l)
+    λ l. stack-flips (view (a .t1) (a .h0 .now) (a .h1 .now) l) (c4 .lowest-unmarked .ensures) (count c6) (c3 .if1 .left)
+    (all-told (a .t1) (a .h0 .now) (a .h1 .now) l (bounds-over (a .t1) (a .h0 .now) (a .h1 .now) (c5 .bounds .ensures)) (sessionAt (view (a .t1) (a .h0 .now) (a .h1 .now) l) (c4 .lowest-unmarked .result) .registers) (c2 .forward-all .ensures) (moved-true (c2 .forward-all .result) (c1 .if2 .left))) (c .of .ensures)
 
 pub stack-flip-spec : {M : Type 1} → statement M
 stack-flip-spec =
@@ -106,15 +90,11 @@ stack-flip-spec =
     (tie.spec
     bounds-requires
     lowest-unmarked-requires
-    move-on-requires
     other-half-requires
-    stepped-requires
     returns
     mul-session
     element-copy-out-session
     forward-all-requires
     returns-2
-    mul-session-2
-    element-set-from-session
-    stepped-requires-2
+    of-requires
     returns-3)

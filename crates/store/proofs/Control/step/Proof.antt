@@ -1,7 +1,9 @@
--- Refused with 4, or one unit of the phase by its number; a phase that is none of the others only waits.
+-- Refused with 4, or one unit of the phase by its number (a phase that is none of the others only waits), and then the
+-- control record after its work.
 use Prim.Native.Nat.{ℕ}
 use mathlib.Core.Path.{_≡_, _∙_, sym, refl}
 use mathlib.Core.Bool.{Bool, true, false}
+use mathlib.Core.Logic.{⊎-elim}
 use native.Mathlib.Omega.{arith}
 use lib.Dec.{leb}
 use Rattle.rules.specs.Refusals.{passed, check, refusalOf, _>>_}
@@ -10,7 +12,9 @@ use Rattle.rules.specs.Phases.{sessionAt}
 use Rattle.rules.specs.Calls.{sessionOf}
 use Rattle.rules.proofs.Ranges.{in-range}
 use Rattle.store.specs.View.{view}
-use Rattle.store.proofs.Units.{over-range, unit-of, unit-waits, waits, step-refused, step-done}
+use Rattle.store.specs.Steps.{over}
+use Rattle.store.proofs.Changes.{told-refusal, told-phase}
+use Rattle.store.proofs.Units.{over-range, unit-of, unit-waits, waits, rests, Met, met-refused, met-done}
 use borrow.Author.Needs.{needs}
 use Rattle.store.proofs.Control.step.Statement.{statement}
 use Rattle.store.proofs.Control.step.Tie as tie
@@ -39,261 +43,110 @@ module _ {g : ℕ} (s : Store) (n : ℕ) (e : g ≡ refusalOf (sessionOf s n)) w
 session-tests-requires : tie.Need-session-tests-requires
 session-tests-requires c κs = search needs
 
-same-length : tie.Need-same-length
-same-length c = search needs
+-- past test 4 the ranges hold, over the list lent and over any as long
+module _ (c : tie.Else1) where
+  abbrev lent : tie.Start
+  lent = c .before .before .before .before .before .before .before .before
 
-same-length-2 : tie.Need-same-length-2
-same-length-2 c = search needs
+  passed-4 : inRange (view (lent .args .self) (lent .args .h0 .now) (lent .args .h1 .now) (lent .args .list .now)) ≡ true
+  passed-4 = within _ _ (c .before .session-tests .ensures) (c .if1 .left)
 
-same-length-3 : tie.Need-same-length-3
-same-length-3 c = search needs
-
-returns : tie.Need-returns
-returns c = step-refused _ (out _ _ (c .before .session-tests .ensures) (c .if1 .taken))
-
-rest-requires : tie.Need-rest-requires
-rest-requires c κs = in-range _ (within _ _ (c .before .before .session-tests .ensures) (c .before .if1 .left)) .phases
+  passed-over : inRange (over (lent .args .self) (lent .args .h0 .now) (lent .args .h1 .now)) ≡ true
+  passed-over = over-range (lent .args .self) _ _ (lent .args .list .now) passed-4
 
 root-mark-requires : tie.Need-root-mark-requires
-root-mark-requires c κs =
-    let c1 = c .before .before .before .before in
-    let c2 = c1 .before in
-    within _ _ (c2 .session-tests .ensures) (c1 .if1 .left)
+root-mark-requires c κs = passed-4 (c .before .before .before .before)
 
 heap-mark-requires : tie.Need-heap-mark-requires
-heap-mark-requires c κs =
-    let c1 = c .before .before .before .before in
-    let c2 = c1 .before in
-    within _ _ (c2 .session-tests .ensures) (c1 .if1 .left)
+heap-mark-requires c κs = passed-4 (c .before .before .before .before)
 
 allocate-shells-requires : tie.Need-allocate-shells-requires
-allocate-shells-requires c κs =
-    let c1 = c .before .before .before in
-    let c2 = c1 .before in
-    let c3 = c2 .before .before .before .before .before .before .before in
-    over-range (c3 .args .self) _ _ (c3 .args .list .now) (within _ _ (c2 .session-tests .ensures) (c1 .if1 .left))
+allocate-shells-requires c κs = passed-over (c .before .before .before)
 
 copy-requires : tie.Need-copy-requires
-copy-requires c κs =
-    let c1 = c .before .before .before in
-    let c2 = c1 .before in
-    let c3 = c2 .before .before .before .before .before .before .before in
-    over-range (c3 .args .self) _ _ (c3 .args .list .now) (within _ _ (c2 .session-tests .ensures) (c1 .if1 .left))
+copy-requires c κs = passed-over (c .before .before .before)
 
 root-flip-requires : tie.Need-root-flip-requires
-root-flip-requires c κs =
-    let c1 = c .before .before .before in
-    let c2 = c1 .before in
-    let c3 = c2 .before .before .before .before .before .before .before in
-    over-range (c3 .args .self) _ _ (c3 .args .list .now) (within _ _ (c2 .session-tests .ensures) (c1 .if1 .left))
+root-flip-requires c κs = passed-over (c .before .before .before)
 
 stack-flip-requires : tie.Need-stack-flip-requires
-stack-flip-requires c κs =
-    let c1 = c .before .before .before in
-    let c2 = c1 .before in
-    let c3 = c2 .before .before .before .before .before .before .before in
-    over-range (c3 .args .self) _ _ (c3 .args .list .now) (within _ _ (c2 .session-tests .ensures) (c1 .if1 .left))
+stack-flip-requires c κs = passed-over (c .before .before .before)
 
 reclaim-requires : tie.Need-reclaim-requires
-reclaim-requires c κs =
-    let c1 = c .before .before .before in
-    let c2 = c1 .before in
-    let c3 = c2 .before .before .before .before .before .before .before in
-    over-range (c3 .args .self) _ _ (c3 .args .list .now) (within _ _ (c2 .session-tests .ensures) (c1 .if1 .left))
+reclaim-requires c κs = passed-over (c .before .before .before)
 
 handshake-requires : tie.Need-handshake-requires
-handshake-requires c κs = in-range _ (within _ _ (c .before .before .session-tests .ensures) (c .before .if1 .left)) .phases
+handshake-requires c κs = in-range _ (passed-4 (c .before)) .phases
+
+-- where the arms meet: the words left, and the work
+met : (j : tie.Joined1)
+    → let a = j .before .before .before .before .before .before .before .before .args in
+    Met (a .self) (a .h0 .now) (a .h1 .now) (a .list .now) (j .if1 .h0) (j .if1 .h1) (j .if1 .list) (j .if1 .work)
+met j =
+    let p = j .before in
+    let a = p .before .before .before .before .before .before .before .args in
+    let c = a .self in
+    let h0 = a .h0 .now in
+    let h1 = a .h1 .now in
+    let l = a .list .now in
+    let s = view c h0 h1 l in
+    let e = p .session-tests .ensures in
+    ⊎-elim (λ w. met-refused c h0 h1 l (out s 0 e (w .0 .taken)) (w .1) (w .2) (w .3) (w .4))
+    (⊎-elim (λ w. met-done c h0 h1 l (within s 0 e (w .0 .left)) refl refl refl (unit-of s 0 (w .1 .keys1) (rests s)) (w .2) (w .3) (w .4) (w .5))
+    (⊎-elim (λ w. met-done c h0 h1 l (within s 0 e (w .0 .left)) (w .5 .kept .1 .0) (w .5 .kept .1 .1 .0) (w .5 .kept .1 .1 .1 .0) (unit-of s 3 (w .1 .keys2) (w .5 .ensures)) (w .12) (w .13) (w .14) (w .15))
+    (⊎-elim (λ w. met-done c h0 h1 l (within s 0 e (w .0 .left)) (w .5 .kept .1 .0) (w .5 .kept .1 .1 .0) (w .5 .kept .1 .1 .1 .0) (unit-of s 4 (w .1 .keys3) (w .5 .ensures)) (w .12) (w .13) (w .14) (w .15))
+    (⊎-elim (λ w. met-done c h0 h1 l (within s 0 e (w .0 .left)) (w .4 .kept .1 .0) (w .4 .kept .1 .1 .0) refl (unit-of s 5 (w .1 .keys4) (w .4 .ensures l)) (w .9) (w .10) (w .11) (w .12))
+    (⊎-elim (λ w. met-done c h0 h1 l (within s 0 e (w .0 .left)) (w .4 .kept .1 .0) (w .4 .kept .1 .1 .0) refl (unit-of s 7 (w .1 .keys5) (w .4 .ensures l)) (w .9) (w .10) (w .11) (w .12))
+    (⊎-elim (λ w. met-done c h0 h1 l (within s 0 e (w .0 .left)) refl refl refl (unit-of s 10 (w .1 .keys6) (w .4 .ensures l)) (w .5) (w .6) (w .7) (w .8))
+    (⊎-elim (λ w. met-done c h0 h1 l (within s 0 e (w .0 .left)) refl refl refl (unit-of s 11 (w .1 .keys7) (w .4 .ensures l)) (w .5) (w .6) (w .7) (w .8))
+    (⊎-elim (λ w. met-done c h0 h1 l (within s 0 e (w .0 .left)) (w .4 .kept .1 .0) (w .4 .kept .1 .1 .0) refl (unit-of s 12 (w .1 .keys8) (w .4 .ensures l)) (w .9) (w .10) (w .11) (w .12))
+    (λ w.
+    let r = w .1 .rest in
+    let n = waits (c .phase) (r .0 .0 .0 .0 .0 .0 .0 .1) (r .0 .0 .0 .0 .0 .0 .1) (r .0 .0 .0 .0 .0 .1) (r .0 .0 .0 .0 .1) (r .0 .0 .0 .1) (r .0 .0 .1) (r .0 .1) (r .1) in
+    met-done c h0 h1 l (within s 0 e (w .0 .left)) refl refl refl (unit-waits s n (w .2 .ensures h0 h1 l)) (w .3) (w .4) (w .5) (w .6))))))))))
+    (j .if1 .came)
+
+after-requires : tie.Need-after-requires
+after-requires c κs = met c .phased
+
+enum-known-work : tie.Need-enum-known-work
+enum-known-work c = search needs
+
+same-length : tie.Need-same-length
+same-length c = met (c .before .before .before .before) .low
+
+same-length-2 : tie.Need-same-length-2
+same-length-2 c = met (c .before .before .before .before) .high
+
+same-length-3 : tie.Need-same-length-3
+same-length-3 c = met (c .before .before .before .before) .listed
+
+returns : tie.Need-returns
+returns c =
+    let c1 = c .before .before .before in
+    let j = c1 .before in
+    told-refusal _ (c .before .work .given .1) (c1 .after .ensures (j .if1 .h0) (j .if1 .h1) (j .if1 .list)) ∙ met j .left
 
 same-length-4 : tie.Need-same-length-4
-same-length-4 c = search needs
+same-length-4 c = met (c .before .before) .low
 
 same-length-5 : tie.Need-same-length-5
-same-length-5 c = search needs
+same-length-5 c = met (c .before .before) .high
 
 same-length-6 : tie.Need-same-length-6
-same-length-6 c = search needs
+same-length-6 c = met (c .before .before) .listed
 
 returns-2 : tie.Need-returns-2
 returns-2 c =
     let c1 = c .before in
-    let c2 = c1 .before in
-    let c3 = c2 .before in
-    let c4 = c3 .before .before .before .before .before .before .before in
-    let a = c4 .args in
-    let s = view (a .self) (a .h0 .now) (a .h1 .now) (a .list .now) in
-    step-done s (within _ _ (c3 .session-tests .ensures) (c2 .if1 .left)) (unit-of s 0 (c1 .match .keys1) (c .rest .ensures _ _ _))
-
-same-length-7 : tie.Need-same-length-7
-same-length-7 c = search needs
-
-same-length-8 : tie.Need-same-length-8
-same-length-8 c = search needs
-
-same-length-9 : tie.Need-same-length-9
-same-length-9 c = search needs
-
-returns-3 : tie.Need-returns-3
-returns-3 c =
-    let c1 = c .before .before .before .before .before .before in
-    let c2 = c1 .before .before .before .before in
-    let c3 = c2 .before in
-    let c4 = c3 .before in
-    let c5 = c4 .before .before .before .before .before .before .before in
-    let a = c5 .args in
-    let s = view (a .self) (a .h0 .now) (a .h1 .now) (a .list .now) in
-    step-done s (within _ _ (c4 .session-tests .ensures) (c3 .if1 .left)) (unit-of s 3 (c2 .match .keys2) (c1 .root-mark .ensures))
-
-same-length-10 : tie.Need-same-length-10
-same-length-10 c = search needs
-
-same-length-11 : tie.Need-same-length-11
-same-length-11 c = search needs
-
-same-length-12 : tie.Need-same-length-12
-same-length-12 c = search needs
-
-returns-4 : tie.Need-returns-4
-returns-4 c =
-    let c1 = c .before .before .before .before .before .before in
-    let c2 = c1 .before .before .before .before in
-    let c3 = c2 .before in
-    let c4 = c3 .before in
-    let c5 = c4 .before .before .before .before .before .before .before in
-    let a = c5 .args in
-    let s = view (a .self) (a .h0 .now) (a .h1 .now) (a .list .now) in
-    step-done s (within _ _ (c4 .session-tests .ensures) (c3 .if1 .left)) (unit-of s 4 (c2 .match .keys3) (c1 .heap-mark .ensures))
-
-same-length-13 : tie.Need-same-length-13
-same-length-13 c = search needs
-
-same-length-14 : tie.Need-same-length-14
-same-length-14 c = search needs
-
-same-length-15 : tie.Need-same-length-15
-same-length-15 c = search needs
-
-returns-5 : tie.Need-returns-5
-returns-5 c =
-    let c1 = c .before .before .before .before in
-    let c2 = c1 .before .before .before in
-    let c3 = c2 .before in
-    let c4 = c3 .before in
-    let c5 = c4 .before .before .before .before .before .before .before in
-    let a = c5 .args in
-    let s = view (a .self) (a .h0 .now) (a .h1 .now) (a .list .now) in
-    step-done s (within _ _ (c4 .session-tests .ensures) (c3 .if1 .left)) (unit-of s 5 (c2 .match .keys4) (c1 .allocate-shells .ensures _))
-
-same-length-16 : tie.Need-same-length-16
-same-length-16 c = search needs
-
-same-length-17 : tie.Need-same-length-17
-same-length-17 c = search needs
-
-same-length-18 : tie.Need-same-length-18
-same-length-18 c = search needs
-
-returns-6 : tie.Need-returns-6
-returns-6 c =
-    let c1 = c .before .before .before .before in
-    let c2 = c1 .before .before .before in
-    let c3 = c2 .before in
-    let c4 = c3 .before in
-    let c5 = c4 .before .before .before .before .before .before .before in
-    let a = c5 .args in
-    let s = view (a .self) (a .h0 .now) (a .h1 .now) (a .list .now) in
-    step-done s (within _ _ (c4 .session-tests .ensures) (c3 .if1 .left)) (unit-of s 7 (c2 .match .keys5) (c1 .copy .ensures _))
-
-same-length-19 : tie.Need-same-length-19
-same-length-19 c = search needs
-
-same-length-20 : tie.Need-same-length-20
-same-length-20 c = search needs
-
-same-length-21 : tie.Need-same-length-21
-same-length-21 c = search needs
-
-returns-7 : tie.Need-returns-7
-returns-7 c =
-    let c1 = c .before .before .before in
-    let c2 = c1 .before in
-    let c3 = c2 .before in
-    let c4 = c3 .before .before .before .before .before .before .before in
-    let a = c4 .args in
-    let s = view (a .self) (a .h0 .now) (a .h1 .now) (a .list .now) in
-    step-done s (within _ _ (c3 .session-tests .ensures) (c2 .if1 .left)) (unit-of s 10 (c1 .match .keys6) (c .root-flip .ensures _))
-
-same-length-22 : tie.Need-same-length-22
-same-length-22 c = search needs
-
-same-length-23 : tie.Need-same-length-23
-same-length-23 c = search needs
-
-same-length-24 : tie.Need-same-length-24
-same-length-24 c = search needs
-
-returns-8 : tie.Need-returns-8
-returns-8 c =
-    let c1 = c .before .before .before in
-    let c2 = c1 .before in
-    let c3 = c2 .before in
-    let c4 = c3 .before .before .before .before .before .before .before in
-    let a = c4 .args in
-    let s = view (a .self) (a .h0 .now) (a .h1 .now) (a .list .now) in
-    step-done s (within _ _ (c3 .session-tests .ensures) (c2 .if1 .left)) (unit-of s 11 (c1 .match .keys7) (c .stack-flip .ensures _))
-
-same-length-25 : tie.Need-same-length-25
-same-length-25 c = search needs
-
-same-length-26 : tie.Need-same-length-26
-same-length-26 c = search needs
-
-same-length-27 : tie.Need-same-length-27
-same-length-27 c = search needs
-
-returns-9 : tie.Need-returns-9
-returns-9 c =
-    let c1 = c .before .before .before .before in
-    let c2 = c1 .before .before .before in
-    let c3 = c2 .before in
-    let c4 = c3 .before in
-    let c5 = c4 .before .before .before .before .before .before .before in
-    let a = c5 .args in
-    let s = view (a .self) (a .h0 .now) (a .h1 .now) (a .list .now) in
-    step-done s (within _ _ (c4 .session-tests .ensures) (c3 .if1 .left)) (unit-of s 12 (c2 .match .keys8) (c1 .reclaim .ensures _))
-
-same-length-28 : tie.Need-same-length-28
-same-length-28 c = search needs
-
-same-length-29 : tie.Need-same-length-29
-same-length-29 c = search needs
-
-same-length-30 : tie.Need-same-length-30
-same-length-30 c = search needs
-
-returns-10 : tie.Need-returns-10
-returns-10 c =
-    let c1 = c .before in
-    let c2 = c1 .before in
-    let c3 = c2 .before in
-    let c4 = c3 .before .before .before .before .before .before .before in
-    let a = c4 .args in
-    let s = view (a .self) (a .h0 .now) (a .h1 .now) (a .list .now) in
-    let r = c1 .match .rest in
-    step-done s (within _ _ (c3 .session-tests .ensures) (c2 .if1 .left))
-    (unit-waits s
-    (waits (a .self .phase) (r .0 .0 .0 .0 .0 .0 .0 .1) (r .0 .0 .0 .0 .0 .0 .1) (r .0 .0 .0 .0 .0 .1) (r .0 .0 .0 .0 .1) (r .0 .0 .0 .1) (r .0 .0 .1) (r .0 .1) (r .1))
-    (c .handshake .ensures _ _ _))
+    let j = c1 .before in
+    told-phase _ (j .if1 .work) (c .match2 .keys2) (c1 .after .ensures (j .if1 .h0) (j .if1 .h1) (j .if1 .list)) ∙ met j .left
 
 pub step-spec : {M : Type 1} → statement M
 step-spec =
     tie.close
     (tie.spec
     session-tests-requires
-    same-length
-    same-length-2
-    same-length-3
-    returns
-    rest-requires
     root-mark-requires
     heap-mark-requires
     allocate-shells-requires
@@ -302,39 +155,13 @@ step-spec =
     stack-flip-requires
     reclaim-requires
     handshake-requires
+    after-requires
+    enum-known-work
+    same-length
+    same-length-2
+    same-length-3
+    returns
     same-length-4
     same-length-5
     same-length-6
-    returns-2
-    same-length-7
-    same-length-8
-    same-length-9
-    returns-3
-    same-length-10
-    same-length-11
-    same-length-12
-    returns-4
-    same-length-13
-    same-length-14
-    same-length-15
-    returns-5
-    same-length-16
-    same-length-17
-    same-length-18
-    returns-6
-    same-length-19
-    same-length-20
-    same-length-21
-    returns-7
-    same-length-22
-    same-length-23
-    same-length-24
-    returns-8
-    same-length-25
-    same-length-26
-    same-length-27
-    returns-9
-    same-length-28
-    same-length-29
-    same-length-30
-    returns-10)
+    returns-2)
