@@ -4,8 +4,6 @@
 pub mod Faithful
 -- a callee's flag as the definition that it equals
 pub mod Flags
--- the levels of the sessions, one after another
-pub mod Levels
 -- the control record test as one row of tests
 pub mod Rows
 -- the tests of making, and what it hands back
@@ -26,8 +24,6 @@ pub mod Targets
 pub mod Comparing
 -- stores and puts by their plans
 pub mod Storing
--- the levels of the attached sessions, one after another
-pub mod Handshakes
 -- the collector's walk over the records, and shells
 pub mod Walks
 pub mod Shelling

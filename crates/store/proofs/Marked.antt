@@ -1,13 +1,12 @@
 -- The arms of the phases that mark. A law takes the control record test of its store, by which a proof names the store.
-use Prim.Native.Nat.{ℕ, suc, _+_, _-_, _≤_, _<_}
+use Prim.Native.Nat.{ℕ, _+_, _-_, _≤_, _<_}
 use mathlib.Core.Path.{_≡_, _∙_, sym, refl, ap}
 use mathlib.Core.Bool.{Bool, true, false, cond, not, _&&_, false≢true}
 use mathlib.Core.List.{List, map}
 use native.Mathlib.Omega.{arith}
-use native.Mathlib.Numerals.{add-one}
 use lib.Dec.{leb}
-use lib.ListN.{length, length-map, getD, set, drop, take, drop-of-length-le}
-use lib.Seq.{drop-cons, getD-take, length-take-le, sets}
+use lib.ListN.{length, length-map, getD, set, take}
+use lib.Seq.{getD-take, length-take-le, sets}
 use borrow.Author.Tests.{lt-ltb, le-ltb, le-leb, lt-leb, leb-true, leb-false, not-true, not-false}
 use Rattle.rules.specs.Refusals.{refused, passed}
 use Rattle.rules.specs.Memory.{Memory, word, put, refs, sound, follow, followed, colourAt, grey, black}
@@ -15,7 +14,6 @@ use Rattle.rules.specs.Control.{Store, inRange, withMemory, withWalk, withList,
 use Rattle.rules.specs.Phases.{moveOn, lowestUnmarked, sessionAt, withSession, withMark, unmarked}
 use Rattle.rules.specs.Barriers.{Heap, heapOf, listRoom, shading, shade}
 use Rattle.rules.specs.Collector.{rootMark, scanRecord, scanSession, heapMark, toShadeAll, shadeAll}
-use Rattle.rules.specs.declared.Session.{Session}
 use Rattle.rules.specs.declared.Followed.{Followed}
 use Rattle.rules.specs.declared.Followed.the-variants.{Sound, Damage}
 use Rattle.rules.proofs.Ranges.{InRange, in-range}
@@ -199,28 +197,6 @@ module _ {s : Store} {n : ℕ} {w : Whites} (k : Scanning s n w) where
         let named : (j : ℕ) → j < length (take (w .count) (w .words)) → getD (take (w .count) (w .words)) j 0 ≡ 0 → ⊥ =
         λ j h e. let h : j < w .count = rw counted at h in let i = session-inside j h in omega (arith, i .named, getD-take (w .count) (w .words) j 0 h) in
         session-accepted ∙ ap passed (all-shaded s n (take (w .count) (w .words)) named (rw counted (omega arith)) m l ∙ rw counted)
-
--- ---- the lowest session without a mark
-
-module _ (l : List Session) (i : ℕ) (e : lowestUnmarked l ≡ i + lowestUnmarked (drop i l)) where
-  module _ (d : Session) (h : i < length l) where
-    here : (getD l i d .attached && not (getD l i d .scanned)) ≡ true → lowestUnmarked (drop i l) ≡ 0
-    here b = rw (drop-cons l i d) (simp b)
-
-    later : (getD l i d .attached && not (getD l i d .scanned)) ≡ false → lowestUnmarked (drop i l) ≡ suc (lowestUnmarked (drop (i + 1) l))
-    later b = rw (drop-cons l i d, add-one i) (simp b)
-
-    pub lowest-here : (getD l i d .attached && not (getD l i d .scanned)) ≡ true → i ≡ lowestUnmarked l
-    lowest-here b = let z = here b in omega arith
-
-    pub lowest-later : (getD l i d .attached && not (getD l i d .scanned)) ≡ false → lowestUnmarked l ≡ i + 1 + lowestUnmarked (drop (i + 1) l)
-    lowest-later b = let z = later b in omega arith
-
-  none : length l ≤ i → lowestUnmarked (drop i l) ≡ 0
-  none h = rw (drop-of-length-le l {i = i} h)
-
-  pub lowest-none : length l ≤ i → i ≡ lowestUnmarked l
-  lowest-none h = let z = none h in omega arith
 
 -- the length of an array of structs
 pub unmapped : (A B : Type 0) (f : A → B) (l : List A) (n : ℕ) → length (map f l) ≡ n → length l ≡ n

@@ -1,15 +1,19 @@
--- The sessions looked at one after another: for the one with number s, and for scanned marks.
-use Prim.Native.Nat.{ℕ, _+_, _≤_, _<_}
+-- The sessions looked at one after another: for the one with number s, for the lowest that is looked for, and for marks to clear.
+use Prim.Native.Nat.{ℕ, zero, suc, _+_, _≤_, _<_}
 use mathlib.Core.Path.{_≡_, _∙_, refl, sym, ap}
-use mathlib.Core.Bool.{Bool, true, false, _&&_, _||_, or-false, false≢true}
-use mathlib.Core.List.{List}
+use mathlib.Core.Bool.{Bool, true, false, cond, not, _&&_, _||_, or-false, false≢true}
+use mathlib.Core.List.{List, [], _∷_}
 use native.Mathlib.Omega.{arith}
-use lib.Dec.{ltb, eqb}
+use native.Mathlib.Nat.{le-of-suc-le-suc}
+use lib.Dec.{leb, ltb, eqb, eqb·suc-suc, eqb·zero-suc}
 use lib.ListN.{length, length-map, length-set, set, getD, List·getD-map, List·getD-eq-default}
 use lib.Seq.{getD-set-same, getD-set-other, map-set-same, ext-getD}
-use borrow.Author.Tests.{lt-ltb, le-ltb, ltb-true, ltb-false, eqb-true, eqb-false}
-use Rattle.rules.specs.Phases.{absent, withMark, unmarked}
+use borrow.Author.Tests.{lt-ltb, le-ltb, ltb-true, ltb-false, lt-leb, le-leb, eqb-true, eqb-false}
+use Rattle.rules.specs.Control.{levelsInRange}
+use Rattle.rules.specs.Phases.{absent, withMark, unmarked, allAt, lowestUnmarked}
 use Rattle.rules.specs.declared.Session.{Session}
+use Rattle.store.specs.Searching.{isWanted}
+use Rattle.store.specs.declared.searching.Wanted.the-variants.{Unscanned, NotAt, Above}
 
 -- ---- session s among the first i
 
@@ -40,17 +44,84 @@ module _ (l : List Session) (s : ℕ) where
   pub seen-all : {a : Bool} (i : ℕ) → a ≡ (ltb s i && getD l s absent .attached) → length l ≤ i → a ≡ getD l s absent .attached
   seen-all i e h = e ∙ all i (ltb s i) h refl
 
--- ---- scanned marks
+-- ---- the lowest session that is looked for
 
-module _ (l : List Session) (first i : ℕ) (f : (j : ℕ) → first ≤ j → j < i → getD l j absent .scanned ≡ false)
-    (z : getD l i absent .scanned ≡ false) where
-  next : (j : ℕ) (e : Bool) → eqb j i ≡ e → first ≤ j → j < i + 1 → getD l j absent .scanned ≡ false
+module _ (p : Session → Bool) (l : List Session) (first i : ℕ) (f : (j : ℕ) → first ≤ j → j < i → p (getD l j absent) ≡ false)
+    (z : p (getD l i absent) ≡ false) where
+  next : (j : ℕ) (e : Bool) → eqb j i ≡ e → first ≤ j → j < i + 1 → p (getD l j absent) ≡ false
   next j true d h k = rw (eqb-true j i d) z
   next j false d h k = f j h (omega (arith, eqb-false j i d))
 
-  -- one more session without a mark
-  pub none-more : (j : ℕ) → first ≤ j → j < i + 1 → getD l j absent .scanned ≡ false
+  -- one more session that isn't looked for
+  pub none-more : (j : ℕ) → first ≤ j → j < i + 1 → p (getD l j absent) ≡ false
   none-more j = next j (eqb j i) refl
+
+-- what a search along all sessions finds: session r, or none
+pub record Lowest (p : Session → Bool) (l : List Session) (r : ℕ) : Type 0 where
+  pub bound : r ≤ length l
+  pub found : r < length l → p (getD l r absent) ≡ true
+  pub before : (j : ℕ) → j < r → p (getD l j absent) ≡ false
+
+-- as the code answers it, of sixteen sessions from the first on
+pub lowest : {p : Session → Bool} {r : ℕ} (l : List Session) → length l ≡ 16
+    → (0 ≤ r) × (r ≤ 16) × (r < 16 → p (getD l r absent) ≡ true) × ((j : ℕ) → 0 ≤ j → j < r → p (getD l j absent) ≡ false) → Lowest p l r
+lowest l k f = record { bound = omega (arith, f .1); found = λ h. f .2 (omega arith); before = λ j h. f .3 j (omega arith) h }
+
+-- the same number by going along the list
+abbrev lowestOf : (Session → Bool) → List Session → ℕ
+lowestOf p [] = 0
+lowestOf p (x ∷ xs) = cond (p x) 0 (suc (lowestOf p xs))
+
+lowest-is : (p : Session → Bool) (l : List Session) (r : ℕ) → Lowest p l r → r ≡ lowestOf p l
+lowest-is p [] r k = omega (arith, k .bound)
+lowest-is p (x ∷ xs) zero k = let e : p x ≡ true = k .found (omega arith) in rw e
+lowest-is p (x ∷ xs) (suc r) k =
+    let e : p x ≡ false = k .before 0 (omega arith) in
+    let rest : Lowest p xs r =
+    record {
+      bound = le-of-suc-le-suc (k .bound);
+      found = λ h. k .found (omega arith);
+      before = λ j h. k .before (suc j) (omega arith);
+    } in
+    rw e (ap suc (lowest-is p xs r rest))
+
+-- the lowest attached session without a mark
+unmarked-along : (l : List Session) → lowestOf (isWanted Unscanned) l ≡ lowestUnmarked l
+unmarked-along [] = refl
+unmarked-along (x ∷ xs) = ap (λ (n : ℕ). cond (x .attached && not (x .scanned)) 0 (suc n)) (unmarked-along xs)
+
+pub lowest-unmarked : (l : List Session) (r : ℕ) → Lowest (isWanted Unscanned) l r → r ≡ lowestUnmarked l
+lowest-unmarked l r k = lowest-is (isWanted Unscanned) l r k ∙ unmarked-along l
+
+-- none found, as a test of all
+none-at : (b q : Bool) (n m : ℕ) {c : Bool} → q ≡ not b → eqb n m ≡ c → eqb (cond b 0 (suc n)) (suc m) ≡ (q && c)
+none-at true q n m e f = rw (e, eqb·zero-suc m)
+none-at false q n m e f = rw (e, eqb·suc-suc n m) f
+
+or-not : (a b : Bool) → (not a || b) ≡ not (a && not b)
+or-not true true = refl
+or-not true false = refl
+or-not false b = refl
+
+at-along : (k : ℕ) (l : List Session) → eqb (lowestOf (isWanted (NotAt k)) l) (length l) ≡ allAt k l
+at-along k [] = refl
+at-along k (x ∷ xs) = none-at (isWanted (NotAt k) x) _ _ _ (or-not (x .attached) (eqb (x .level) k)) (at-along k xs)
+
+pub all-at : (k : ℕ) (l : List Session) (r : ℕ) → Lowest (isWanted (NotAt k)) l r → eqb r (length l) ≡ allAt k l
+all-at k l r h = ap (λ (n : ℕ). eqb n (length l)) (lowest-is (isWanted (NotAt k)) l r h) ∙ at-along k l
+
+level-not : (n k : ℕ) (b : Bool) → ltb k n ≡ b → leb n k ≡ not b
+level-not n k true e = lt-leb n k (ltb-true k n e)
+level-not n k false e = le-leb n k (ltb-false k n e)
+
+levels-along : (l : List Session) → eqb (lowestOf (isWanted (Above 6)) l) (length l) ≡ levelsInRange l
+levels-along [] = refl
+levels-along (x ∷ xs) = none-at (ltb 6 (x .level)) _ _ _ (level-not (x .level) 6 (ltb 6 (x .level)) refl) (levels-along xs)
+
+pub levels-in-range : (l : List Session) (r : ℕ) → Lowest (isWanted (Above 6)) l r → eqb r (length l) ≡ levelsInRange l
+levels-in-range l r h = ap (λ (n : ℕ). eqb n (length l)) (lowest-is (isWanted (Above 6)) l r h) ∙ levels-along l
+
+-- ---- scanned marks
 
 -- the sessions with the mark of session i cleared
 abbrev pub cleared : List Session → ℕ → List Session

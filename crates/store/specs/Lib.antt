@@ -1,5 +1,7 @@
 -- The code's values as the rules' values.
 pub mod View
+-- The sessions that are looked for.
+pub mod Searching
 -- The register of the record worked on.
 pub mod Operands
 -- Where a write of a plain field goes.

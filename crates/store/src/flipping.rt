@@ -12,6 +12,7 @@ ghost use Rattle.store.specs.Steps.{stepped, over};
 ghost use Rattle.store.specs.Work.{worked};
 ghost use Rattle.store.specs.Flips.{forwarded};
 use crate::Control;
+use crate::searching::Wanted;
 use crate::work::Stack;
 use crate::work::Work;
 use heap::Bounds;
@@ -79,7 +80,7 @@ impl Control {
     {
         let b = self.bounds();
         let sessions = self.sessions;
-        let n = Control::lowest_unmarked(sessions);
+        let n = Control::lowest(sessions, 0, Wanted::Unscanned);
         if 16 <= n {
             return Work::Flips(other_half(b.from));
         }

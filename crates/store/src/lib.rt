@@ -8,6 +8,7 @@ ghost use Rattle.rules.specs.Phases.{levelOf};
 ghost use Rattle.store.specs.View.{view, lengths};
 
 mod making; // making.rt: refusals 1 to 3
+mod searching; // searching.rt: the sessions looked through
 mod ranges; // ranges.rt: the control record test, refusal 4
 mod sessions; // sessions.rt: the session tests, refusals 5 and 6; attach, detach, safe point
 mod registers; // registers.rt: move, clear, get

@@ -10,6 +10,7 @@ ghost use Rattle.store.specs.Steps.{stepped};
 ghost use Rattle.store.specs.Work.{worked};
 ghost use Rattle.store.specs.Marking.{shadeNext};
 use crate::Control;
+use crate::searching::Wanted;
 use crate::shade::put_grey;
 use crate::work::Work;
 use heap::Checked;
@@ -98,7 +99,7 @@ impl Control {
             return self.scan_record(h0, h1, list, v);
         }
         let sessions = self.sessions;
-        let n = Control::lowest_unmarked(sessions);
+        let n = Control::lowest(sessions, 0, Wanted::Unscanned);
         if n < 16 {
             return self.scan_session(h0, h1, list, n);
         }

@@ -2,30 +2,16 @@
 ghost use mathlib.Core.Path.{_≡_};
 ghost use Prim.Native.Nat.{ℕ, _≤_};
 ghost use mathlib.Core.List.{List};
-ghost use Rattle.rules.specs.Phases.{nextPhase, allAt, moveOn};
+ghost use Rattle.rules.specs.Phases.{nextPhase, moveOn};
 ghost use Rattle.rules.specs.Collector.{haveLevel, handshake};
 ghost use Rattle.store.specs.View.{view};
 ghost use Rattle.store.specs.Steps.{stepped};
 ghost use Rattle.store.specs.Work.{worked};
 use crate::Control;
+use crate::searching::Wanted;
 use crate::work::Work;
 
 impl Control {
-    // Whether every attached session is at the level.
-    fn all_at(sessions: [rules::Session; 16], level: u32) -> bool
-        ensures { λ r. ⌜ r ≡ allAt level sessions ⌝ }
-    {
-        let mut i: usize = 0;
-        while i < 16 {
-            let session = sessions[i];
-            if session.attached & (session.level != level) {
-                return false;
-            }
-            i += 1;
-        }
-        true
-    }
-
     // Whether every attached session has the phase's level.
     pub(crate) fn have_level(self) -> bool
         requires { ⌜ self .phase ≤ 12 ⌝ }
@@ -34,7 +20,7 @@ impl Control {
         let phase = self.phase;
         let level = Control::level_of(phase);
         let sessions = self.sessions;
-        Control::all_at(sessions, level)
+        Control::lowest(sessions, 0, Wanted::NotAt(level)) == 16
     }
 
     // The phase after a phase.

@@ -5,7 +5,7 @@ ghost use Rattle.store.specs.Operands.{tested, holding};
 use crate::Control;
 
 // The session's level, the reference in the register of the record worked on, and what the other register holds. They
-// are handed out at once: each further read of a session would copy the control record.
+// are handed out at once: each further read of a session would copy all sixteen.
 pub struct Operands {
     pub level: u32,
     pub own: u32,

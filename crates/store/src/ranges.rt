@@ -1,25 +1,11 @@
 // Refusal 4: the lent lengths are those at making, and every number is in its range.
 ghost use mathlib.Core.Path.{_≡_};
-ghost use Rattle.rules.specs.Control.{inRange, levelsInRange};
+ghost use Rattle.rules.specs.Control.{inRange};
 ghost use Rattle.store.specs.View.{view};
 use crate::Control;
+use crate::searching::Wanted;
 
 impl Control {
-    // Whether each session's level is at most 6.
-    fn levels_in_range(sessions: [rules::Session; 16]) -> bool
-        ensures { λ r. ⌜ r ≡ levelsInRange sessions ⌝ }
-    {
-        let mut i: usize = 0;
-        while i < 16 {
-            let session = sessions[i];
-            if Control::LAST_LEVEL < session.level {
-                return false;
-            }
-            i += 1;
-        }
-        true
-    }
-
     // Whether the control record passes test 4 with these lent words.
     pub(crate) fn valid(self, h0: &[u32], h1: &[u32], list: &[u32]) -> bool
         ensures { λ r. ⌜ r ≡ inRange (view self (now (h0 .entry)) (now (h1 .entry)) (now (list .entry))) ⌝ }
@@ -36,7 +22,7 @@ impl Control {
         let walk = (self.phase <= Control::RECLAIM) & place & (self.field <= Control::MOST_FIELDS);
         let grey = (self.head <= self.tail) & (self.tail <= self.capacity);
         let sessions = self.sessions;
-        let levels = Control::levels_in_range(sessions);
+        let levels = Control::lowest(sessions, 0, Wanted::Above(Control::LAST_LEVEL)) == 16;
         lent & allowed & halves & walk & grey & levels
     }
 }

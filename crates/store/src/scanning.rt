@@ -7,7 +7,6 @@ ghost use lib.ListN.{length, getD, take};
 ghost use lib.Seq.{sets};
 ghost use Rattle.rules.specs.Memory.{null, colourAt};
 ghost use Rattle.rules.specs.Control.{inRange};
-ghost use Rattle.rules.specs.Phases.{lowestUnmarked};
 ghost use Rattle.rules.specs.Collector.{toShadeAll, scanSession};
 ghost use Rattle.heap.specs.View.{heap, memory, Within, Inside};
 ghost use Rattle.store.specs.View.{view};
@@ -99,21 +98,6 @@ fn shade_all(
 }
 
 impl Control {
-    // The number of the lowest attached session without a scanned mark, or the number of sessions, 16.
-    pub(crate) fn lowest_unmarked(sessions: [rules::Session; 16]) -> usize
-        ensures { λ r. ⌜ r ≡ lowestUnmarked sessions ⌝ }
-    {
-        let mut i: usize = 0;
-        while i < 16 {
-            let session = sessions[i];
-            if session.attached & !session.scanned {
-                return i;
-            }
-            i += 1;
-        }
-        16
-    }
-
     // The white records among the registers of session n are shaded, after it is marked scanned.
     pub(crate) fn scan_session(
         self,

@@ -11,7 +11,7 @@ use crate::Reply;
 
 impl Control {
     // Whether session s is attached; not so past the last session. It looks at each session in turn, since reading
-    // one at a place that isn't known beforehand would copy the whole control record.
+    // one at a place that isn't known beforehand would copy all sixteen.
     fn attached_at(sessions: [rules::Session; 16], s: u32) -> bool
         ensures { λ r. ⌜ r ≡ getD sessions s absent .attached ⌝ }
     {

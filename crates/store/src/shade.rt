@@ -1,15 +1,15 @@
 // What a barrier looks at, and shading: the record coloured grey, put on the list, and all scanned marks cleared.
 ghost use mathlib.Core.Path.{_≡_};
 ghost use Prim.Native.Nat.{ℕ, _≤_, _<_};
-ghost use mathlib.Core.Bool.{true, false};
 ghost use mathlib.Core.List.{List};
-ghost use lib.ListN.{length, getD, set};
+ghost use lib.ListN.{length, set};
 ghost use Rattle.rules.specs.Memory.{colourAt, grey, put};
-ghost use Rattle.rules.specs.Phases.{fromspace, absent, unmarked};
+ghost use Rattle.rules.specs.Phases.{fromspace, unmarked};
 ghost use Rattle.rules.specs.Barriers.{heapOf, shade};
 ghost use Rattle.heap.specs.View.{heap, memory, Inside};
 ghost use Rattle.store.specs.View.{view};
 use crate::Control;
+use crate::searching::Wanted;
 use heap::Bounds;
 use heap::forwarding::other_half;
 use heap::words::put_word;
@@ -52,34 +52,17 @@ impl Control {
         }
     }
 
-    // The number of the lowest session from `first` on that has a scanned mark, or the number of sessions, 16.
-    fn marked_from(sessions: [rules::Session; 16], first: usize) -> usize
-        requires { ⌜ first ≤ 16 ⌝ }
-        ensures { λ r. ⌜ (first ≤ r) × (r ≤ 16) × (r < 16 → getD sessions r absent .scanned ≡ true)
-            × ((j : ℕ) → first ≤ j → j < r → getD sessions j absent .scanned ≡ false) ⌝ }
-    {
-        let mut i: usize = first;
-        while i < 16 {
-            let session = sessions[i];
-            if session.scanned {
-                return i;
-            }
-            i += 1;
-        }
-        16
-    }
-
     // The sessions with no scanned mark. Only a session that has one is written.
     pub(crate) fn unmarked(sessions: [rules::Session; 16]) -> [rules::Session; 16]
         ensures { λ r. ⌜ r ≡ unmarked sessions ⌝ }
     {
         let mut next = sessions;
-        let mut i = Control::marked_from(next, 0);
+        let mut i = Control::lowest(next, 0, Wanted::Scanned);
         while i < 16 {
             let mut session = next[i];
             session.scanned = false;
             next[i] = session;
-            i = Control::marked_from(next, i);
+            i = Control::lowest(next, i, Wanted::Scanned);
         }
         next
     }

@@ -4,6 +4,7 @@ use native.Mathlib.Omega.{arith}
 use lib.ListN.{length}
 use Rattle.rules.proofs.Ranges.{in-range}
 use Rattle.store.proofs.Marked.{unmapped, listed-next, session-next, marking-done}
+use Rattle.store.proofs.Searches.{lowest, lowest-unmarked}
 use borrow.Author.Needs.{needs}
 use Rattle.store.proofs.Control.heap_mark.Statement.{statement}
 use Rattle.store.proofs.Control.heap_mark.Tie as tie
@@ -33,8 +34,8 @@ returns c =
     let c3 = c2 .before .before .before .before .before in
     rw (listed-next _ (c3 .pre) (c2 .if1 .taken)) (c1 .scan-record .ensures)
 
-lowest-unmarked-requires : tie.Need-lowest-unmarked-requires
-lowest-unmarked-requires c κs = search needs
+lowest-requires : tie.Need-lowest-requires
+lowest-requires c κs = search needs
 
 scan-session-requires : tie.Need-scan-session-requires
 scan-session-requires c κs = search needs
@@ -56,7 +57,7 @@ returns-2 c =
     let start = c3 .before .before .before .before .before in
     let sessions = start .good .0 .1 .1 .1 .1 .1 .1 .1 .1 .1 .1 .1 .1 .1 .1 .0 in
     let l : length (start .args .self .sessions) ≡ 16 = search (needs, unmapped) in
-    rw (session-next _ (start .pre) (c3 .if1 .left) (c2 .lowest-unmarked .ensures) (omega arith)) (c1 .scan-session .ensures)
+    rw (session-next _ (start .pre) (c3 .if1 .left) (lowest-unmarked (start .args .self .sessions) _ (lowest (start .args .self .sessions) l (c2 .lowest .ensures))) (omega arith)) (c1 .scan-session .ensures)
 
 returns-3 : tie.Need-returns-3
 returns-3 c =
@@ -65,7 +66,7 @@ returns-3 c =
     let start = c3 .before .before .before .before .before in
     let sessions = start .good .0 .1 .1 .1 .1 .1 .1 .1 .1 .1 .1 .1 .1 .1 .1 .0 in
     let l : length (start .args .self .sessions) ≡ 16 = search (needs, unmapped) in
-    rw (marking-done _ (start .pre) (c3 .if1 .left) (c2 .lowest-unmarked .ensures) (omega arith))
+    rw (marking-done _ (start .pre) (c3 .if1 .left) (lowest-unmarked (start .args .self .sessions) _ (lowest (start .args .self .sessions) l (c2 .lowest .ensures))) (omega arith))
 
 pub heap-mark-spec : {M : Type 1} → statement M
 heap-mark-spec =
@@ -78,7 +79,7 @@ heap-mark-spec =
     same-length-2
     same-length-3
     returns
-    lowest-unmarked-requires
+    lowest-requires
     scan-session-requires
     same-length-4
     same-length-5

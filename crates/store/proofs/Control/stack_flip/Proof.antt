@@ -8,6 +8,7 @@ use Rattle.store.specs.View.{view}
 use Rattle.store.proofs.Shaded.{within}
 use Rattle.store.proofs.Forwards.{bounds-over, all-told, tospace-told}
 use Rattle.store.proofs.Flips.{stacks-done, stack-lost, stack-flips, moved-false, moved-true}
+use Rattle.store.proofs.Searches.{lowest, lowest-unmarked}
 use borrow.Author.Needs.{needs}
 use Rattle.store.proofs.Control.stack_flip.Statement.{statement}
 use Rattle.store.proofs.Control.stack_flip.Tie as tie
@@ -23,8 +24,8 @@ bounds-requires c κs =
     let k = in-range _ (c .before .before .pre) in
     k .half
 
-lowest-unmarked-requires : tie.Need-lowest-unmarked-requires
-lowest-unmarked-requires c κs = search needs
+lowest-requires : tie.Need-lowest-requires
+lowest-requires c κs = search needs
 
 other-half-requires : tie.Need-other-half-requires
 other-half-requires c κs =
@@ -41,7 +42,7 @@ returns c =
     let c3 = c2 .before .before in
     let c4 = c3 .before .before .before in
     let a = c4 .args in
-    λ l. stacks-done (view (a .t1) (a .h0 .now) (a .h1 .now) l) (c2 .lowest-unmarked .ensures) (count c4) (c1 .if1 .taken)
+    λ l. stacks-done (view (a .t1) (a .h0 .now) (a .h1 .now) l) (lowest-unmarked (a .t1 .sessions) _ (lowest (a .t1 .sessions) (count c4) (c2 .lowest .ensures))) (count c4) (c1 .if1 .taken)
     (tospace-told (a .t1) (a .h0 .now) (a .h1 .now) l (bounds-over (a .t1) (a .h0 .now) (a .h1 .now) (c3 .bounds .ensures)) (c .other-half .ensures))
 
 mul-session : tie.Need-mul-session
@@ -65,8 +66,8 @@ returns-2 c =
     let c4 = c3 .before .before in
     let c5 = c4 .before .before .before in
     let a = c5 .args in
-    λ l. stack-lost (view (a .t1) (a .h0 .now) (a .h1 .now) l) (c3 .lowest-unmarked .ensures) (count c5) (c2 .if1 .left)
-    (all-told (a .t1) (a .h0 .now) (a .h1 .now) l (bounds-over (a .t1) (a .h0 .now) (a .h1 .now) (c4 .bounds .ensures)) (sessionAt (view (a .t1) (a .h0 .now) (a .h1 .now) l) (c3 .lowest-unmarked .result) .registers) (c1 .forward-all .ensures) (moved-false (c1 .forward-all .result) (c .if2 .taken)))
+    λ l. stack-lost (view (a .t1) (a .h0 .now) (a .h1 .now) l) (lowest-unmarked (a .t1 .sessions) _ (lowest (a .t1 .sessions) (count c5) (c3 .lowest .ensures))) (count c5) (c2 .if1 .left)
+    (all-told (a .t1) (a .h0 .now) (a .h1 .now) l (bounds-over (a .t1) (a .h0 .now) (a .h1 .now) (c4 .bounds .ensures)) (sessionAt (view (a .t1) (a .h0 .now) (a .h1 .now) l) (c3 .lowest .result) .registers) (c1 .forward-all .ensures) (moved-false (c1 .forward-all .result) (c .if2 .taken)))
 
 of-requires : tie.Need-of-requires
 of-requires c κs = search needs
@@ -81,15 +82,15 @@ returns-3 c =
     let c5 = c4 .before .before in
     let c6 = c5 .before .before .before in
     let a = c6 .args in
-    λ l. stack-flips (view (a .t1) (a .h0 .now) (a .h1 .now) l) (c4 .lowest-unmarked .ensures) (count c6) (c3 .if1 .left)
-    (all-told (a .t1) (a .h0 .now) (a .h1 .now) l (bounds-over (a .t1) (a .h0 .now) (a .h1 .now) (c5 .bounds .ensures)) (sessionAt (view (a .t1) (a .h0 .now) (a .h1 .now) l) (c4 .lowest-unmarked .result) .registers) (c2 .forward-all .ensures) (moved-true (c2 .forward-all .result) (c1 .if2 .left))) (c .of .ensures)
+    λ l. stack-flips (view (a .t1) (a .h0 .now) (a .h1 .now) l) (lowest-unmarked (a .t1 .sessions) _ (lowest (a .t1 .sessions) (count c6) (c4 .lowest .ensures))) (count c6) (c3 .if1 .left)
+    (all-told (a .t1) (a .h0 .now) (a .h1 .now) l (bounds-over (a .t1) (a .h0 .now) (a .h1 .now) (c5 .bounds .ensures)) (sessionAt (view (a .t1) (a .h0 .now) (a .h1 .now) l) (c4 .lowest .result) .registers) (c2 .forward-all .ensures) (moved-true (c2 .forward-all .result) (c1 .if2 .left))) (c .of .ensures)
 
 pub stack-flip-spec : {M : Type 1} → statement M
 stack-flip-spec =
     tie.close
     (tie.spec
     bounds-requires
-    lowest-unmarked-requires
+    lowest-requires
     other-half-requires
     returns
     mul-session

@@ -17,12 +17,12 @@ Inv-loop old i₀ next i =
 abbrev μ-loop : tie.MeasureT-loop
 μ-loop old i₀ next i = 16 - i
 
-marked-from-requires : tie.Need-marked-from-requires Inv-loop μ-loop
-marked-from-requires c κs = search needs
+lowest-requires : tie.Need-lowest-requires Inv-loop μ-loop
+lowest-requires c κs = search needs
 
 loop-holds : tie.Need-loop-holds Inv-loop μ-loop
 loop-holds c =
-    let found = c .marked-from .ensures in
+    let found = c .lowest .ensures in
     (search needs, found .1, refl, λ j h. found .3 j (omega arith) h)
 
 mul-session : tie.Need-mul-session Inv-loop μ-loop
@@ -37,19 +37,19 @@ mul-next c = search needs
 array-set-from-next : tie.Need-array-set-from-next Inv-loop μ-loop
 array-set-from-next c = search needs
 
-marked-from-requires-2 : tie.Need-marked-from-requires-2 Inv-loop μ-loop
-marked-from-requires-2 c κs = search needs
+lowest-requires-2 : tie.Need-lowest-requires-2 Inv-loop μ-loop
+lowest-requires-2 c κs = search needs
 
 loop-less : tie.Need-loop-less Inv-loop μ-loop
 loop-less c =
     let loop = c .before .before .before .loop in
-    let found = c .marked-from2 .ensures in
+    let found = c .lowest2 .ensures in
     omega (arith, found-later (loop .next) (loop .i) _ (omega arith) (found .0) (λ h. found .2 (omega arith)))
 
 loop-again : tie.Need-loop-again Inv-loop μ-loop
 loop-again c =
     let loop = c .before .before .before .loop in
-    let found = c .marked-from2 .ensures in (
+    let found = c .lowest2 .ensures in (
       cleared-length (loop .next) (loop .i) ∙ loop .inv .0,
       found .1,
       cleared-same (loop .next) (loop .i) ∙ loop .inv .2,
@@ -67,13 +67,13 @@ unmarked-spec =
     (tie.spec
     Inv-loop
     μ-loop
-    marked-from-requires
+    lowest-requires
     loop-holds
     mul-session
     array-copy-out-session
     mul-next
     array-set-from-next
-    marked-from-requires-2
+    lowest-requires-2
     loop-less
     loop-again
     returns)

@@ -1,18 +1,25 @@
 -- The control record test: the code's groups of tests are the rules' row.
+use mathlib.Core.Path.{_≡_}
+use lib.ListN.{length}
 use Rattle.store.specs.View.{view}
+use Rattle.store.proofs.Marked.{unmapped}
+use Rattle.store.proofs.Searches.{lowest, levels-in-range}
 use Rattle.store.proofs.Rows.{in-groups}
 use borrow.Author.Needs.{needs}
 use Rattle.store.proofs.Control.valid.Statement.{statement}
 use Rattle.store.proofs.Control.valid.Tie as tie
 
-levels-in-range-requires : tie.Need-levels-in-range-requires
-levels-in-range-requires c κs = search needs
+lowest-requires : tie.Need-lowest-requires
+lowest-requires c κs = search needs
 
 returns : tie.Need-returns
 returns c =
     let c1 = c .before .before .before .before .before .before .before .before .before .before .before .before .before .before .before .before .before .before .before .before in
     let a = c1 .args in
-    in-groups (view (a .self) (a .h0 .now) (a .h1 .now) (a .list .now)) _ (c .levels-in-range .ensures)
+    let sessions = a .self .sessions in
+    let ok = c1 .good .0 .1 .1 .1 .1 .1 .1 .1 .1 .1 .1 .1 .1 .1 .1 .0 in
+    let k : length sessions ≡ 16 = search (needs, unmapped) in
+    in-groups (view (a .self) (a .h0 .now) (a .h1 .now) (a .list .now)) _ (rw k at (levels-in-range sessions _ (lowest sessions k (c .lowest .ensures))))
 
 pub valid-spec : {M : Type 1} → statement M
-valid-spec = tie.close (tie.spec levels-in-range-requires returns)
+valid-spec = tie.close (tie.spec lowest-requires returns)

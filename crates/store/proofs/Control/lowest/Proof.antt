@@ -1,21 +1,22 @@
--- Invariant: no session from the first up to i has a mark.
+-- Invariant: no session from the first up to i is looked for.
 use Prim.Native.Nat.{ℕ, _≤_, _<_, _-_}
-use mathlib.Core.Path.{_≡_}
+use mathlib.Core.Path.{_≡_, _∙_, sym}
 use mathlib.Core.Bool.{false}
 use native.Mathlib.Omega.{arith}
 use lib.ListN.{length, getD}
 use Rattle.rules.specs.Phases.{absent}
+use Rattle.store.specs.Searching.{isWanted}
 use Rattle.store.proofs.Searches.{none-more}
 use borrow.Author.Needs.{needs}
-use Rattle.store.proofs.Control.marked_from.Statement.{statement}
-use Rattle.store.proofs.Control.marked_from.Tie as tie
+use Rattle.store.proofs.Control.lowest.Statement.{statement}
+use Rattle.store.proofs.Control.lowest.Tie as tie
 
 abbrev Inv-loop : tie.InvT-loop
-Inv-loop first sessions i₀ i =
-    (length sessions ≡ 16) × (first ≤ i) × (i ≤ 16) × ((j : ℕ) → first ≤ j → j < i → getD sessions j absent .scanned ≡ false)
+Inv-loop first wanted sessions i₀ i =
+    (length sessions ≡ 16) × (first ≤ i) × (i ≤ 16) × ((j : ℕ) → first ≤ j → j < i → isWanted wanted (getD sessions j absent) ≡ false)
 
 abbrev μ-loop : tie.MeasureT-loop
-μ-loop first sessions i₀ i = 16 - i
+μ-loop first wanted sessions i₀ i = 16 - i
 
 loop-holds : tie.Need-loop-holds Inv-loop μ-loop
 loop-holds c = (search needs, search needs, search needs, λ j h k. absurd (omega arith))
@@ -26,10 +27,14 @@ mul-session c = search needs
 array-copy-out-session : tie.Need-array-copy-out-session Inv-loop μ-loop
 array-copy-out-session c = search needs
 
+is-wanted-requires : tie.Need-is-wanted-requires Inv-loop μ-loop
+is-wanted-requires c κs = search needs
+
 returns : tie.Need-returns Inv-loop μ-loop
 returns c =
-    let loop = c .before .before .before .loop in
-    (loop .inv .1, loop .inv .2, λ h. c .if1 .taken, loop .inv .3)
+    let c1 = c .before in
+    let loop = c1 .before .before .before .loop in
+    (loop .inv .1, loop .inv .2, λ h. sym (c1 .is-wanted .ensures) ∙ c .if1 .taken, loop .inv .3)
 
 add-i : tie.Need-add-i Inv-loop μ-loop
 add-i c = search needs
@@ -39,18 +44,19 @@ loop-less c = search needs
 
 loop-again : tie.Need-loop-again Inv-loop μ-loop
 loop-again c =
-    let c1 = c .before .before .before in
-    let c2 = c1 .before in
-    let loop = c1 .loop in
-    (search needs, search needs, search needs, none-more (c2 .args .t1) (c2 .args .first) (loop .i) (loop .inv .3) (c .if1 .left))
+    let c1 = c .before in
+    let c2 = c1 .before .before .before in
+    let a = c2 .before .args in
+    let loop = c2 .loop in
+    (search needs, search needs, search needs, none-more (isWanted (a .wanted)) (a .t1) (a .first) (loop .i) (loop .inv .3) (sym (c1 .is-wanted .ensures) ∙ c .if1 .left))
 
 returns-2 : tie.Need-returns-2 Inv-loop μ-loop
 returns-2 c =
     let loop = c .before .loop in
     (omega arith, omega arith, λ h. absurd (omega arith), λ j h k. loop .inv .3 j h (omega arith))
 
-pub marked-from-spec : {M : Type 1} → statement M
-marked-from-spec =
+pub lowest-spec : {M : Type 1} → statement M
+lowest-spec =
     tie.close
     (tie.spec
     Inv-loop
@@ -58,6 +64,7 @@ marked-from-spec =
     loop-holds
     mul-session
     array-copy-out-session
+    is-wanted-requires
     returns
     add-i
     loop-less
