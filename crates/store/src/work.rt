@@ -22,6 +22,7 @@ pub struct Stack {
 }
 
 impl Stack {
+    // The registers of an array.
     pub(crate) fn of(words: [u32; 8]) -> Self
         ensures { λ r. ⌜ registers r ≡ words ⌝ }
     {
@@ -37,6 +38,7 @@ impl Stack {
         }
     }
 
+    // The array of the registers.
     fn registers(self) -> [u32; 8]
         ensures { λ r. ⌜ r ≡ registers self ⌝ }
     {
@@ -144,6 +146,7 @@ impl Control {
                 self.field = 0;
             }
             Work::Forwards(word, next) => {
+                // past the last global only the walk goes on
                 let place = self.place;
                 if place < Control::GLOBALS {
                     self.globals[place] = word;
