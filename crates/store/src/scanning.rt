@@ -98,7 +98,8 @@ fn shade_all(
 }
 
 impl Control {
-    // The white records among the registers of session n are shaded, after it is marked scanned.
+    // Session n is marked scanned and then the white records among its registers are shaded. Shading clears the mark
+    // again, so it is left where there are none.
     pub(crate) fn scan_session(
         self,
         h0: &mut [u32],
