@@ -34,7 +34,6 @@ heap b h0 h1 =
 pub record Within (b : Bounds) (h0 h1 : List ℕ) : Type 0 where
   pub low : b .frontier0 ≤ length h0
   pub high : b .frontier1 ≤ length h1
-  pub side : b .from ≤ 1
   pub listed : b .tail ≤ b .capacity
 
 -- word j of the record that v names is a word of its half

@@ -1,6 +1,5 @@
 // The other copy of a record.
 ghost use mathlib.Core.Path.{_≡_};
-ghost use Prim.Native.Nat.{_≤_};
 ghost use Rattle.rules.specs.Memory.{inHalf, otherCopy, forward};
 ghost use Rattle.rules.specs.Phases.{otherHalf};
 ghost use Rattle.rules.specs.Barriers.{to};
@@ -20,10 +19,9 @@ pub(crate) fn in_half(h: u32, v: u32) -> bool
 
 // Tospace where h is fromspace, and the other way round.
 pub fn other_half(h: u32) -> u32
-    requires { ⌜ h ≤ 1 ⌝ }
     ensures { λ r. ⌜ r ≡ otherHalf h ⌝ }
 {
-    1 - h
+    if h == 0 { 1 } else { 0 }
 }
 
 // The reference of the other copy of a record, or its own where it has no replica.

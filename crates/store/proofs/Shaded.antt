@@ -1,5 +1,5 @@
 -- Shading as the code does it, and the bounds that the functions over lent halves ask for.
-use Prim.Native.Nat.{ℕ, _+_, _≤_}
+use Prim.Native.Nat.{ℕ, _+_}
 use mathlib.Core.Path.{_≡_, ap, refl}
 use mathlib.Core.Bool.{Bool, true, false, cond}
 use mathlib.Core.List.{List}
@@ -9,7 +9,7 @@ use lib.ListN.{length, set}
 use borrow.Author.Tests.{eq-eqb, ne-eqb}
 use Rattle.rules.specs.Memory.{Memory, put, colourAt, grey}
 use Rattle.rules.specs.Control.{Store, withMemory, withList, withSessions}
-use Rattle.rules.specs.Phases.{unmarked, fromspace, otherHalf}
+use Rattle.rules.specs.Phases.{unmarked}
 use Rattle.rules.specs.Barriers.{Heap, heapOf, shade}
 use Rattle.rules.specs.declared.Session.{Session}
 use Rattle.rules.proofs.Ranges.{InRange}
@@ -39,26 +39,15 @@ shade-globals s v = kept-globals (eqb v 0) s _ refl
 
 -- ---- bounds
 
-half-small : (b : Bool) (h : ℕ) → h ≤ 1 → cond b (otherHalf h) h ≤ 1
-unfolding otherHalf
-half-small true h l = omega arith
-half-small false h l = l
-
-pub from-small : {s : Store} → InRange s → fromspace s ≤ 1
-unfolding fromspace
-from-small {s} k = half-small (eqb (s .phase) 12) (s .current) (k .half)
-
 -- bounds that are those of a store in range fit its halves
 pub within : {b : Bounds} {s : Store} (h0 h1 : List ℕ) → heap b h0 h1 ≡ heapOf s → InRange s → Within b h0 h1
 within {b} {s} h0 h1 e k =
-    let f = from-small k in
     let a0 : h0 ≡ s .memory .half0 = ap (λ (z : Heap). z .memory .half0) e in
     let a1 : h1 ≡ s .memory .half1 = ap (λ (z : Heap). z .memory .half1) e in
     let b0 : b .frontier0 ≡ s .memory .frontier0 = ap (λ (z : Heap). z .memory .frontier0) e in
     let b1 : b .frontier1 ≡ s .memory .frontier1 = ap (λ (z : Heap). z .memory .frontier1) e in
-    let c : b .from ≡ fromspace s = ap (λ (z : Heap). z .from) e in
     let t : b .tail ≡ s .list .tail = ap (λ (z : Heap). z .tail) e in
     let n : b .capacity ≡ length (s .list .words) = ap (λ (z : Heap). z .capacity) e in
     let l0 : length h0 ≡ length (s .memory .half0) = ap length a0 in
     let l1 : length h1 ≡ length (s .memory .half1) = ap length a1 in
-    record { low = omega arith; high = omega arith; side = omega arith; listed = omega arith }
+    record { low = omega arith; high = omega arith; listed = omega arith }

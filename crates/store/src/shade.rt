@@ -1,6 +1,6 @@
 // What a barrier looks at, and shading: the record coloured grey, put on the list, and all scanned marks cleared.
 ghost use mathlib.Core.Path.{_≡_};
-ghost use Prim.Native.Nat.{ℕ, _≤_, _<_};
+ghost use Prim.Native.Nat.{ℕ, _<_};
 ghost use mathlib.Core.List.{List};
 ghost use lib.ListN.{length, set};
 ghost use Rattle.rules.specs.Memory.{colourAt, grey, put};
@@ -28,7 +28,6 @@ pub(crate) fn put_grey(h0: &mut [u32], h1: &mut [u32], list: &mut [u32], end: us
 impl Control {
     // Fromspace: the current half until phase 12, and the other one there.
     pub(crate) fn fromspace(self) -> u32
-        requires { ⌜ self .current ≤ 1 ⌝ }
         ensures { λ r. ⌜ ((h0 h1 l : List ℕ) → r ≡ fromspace (view self h0 h1 l)) ⌝ }
     {
         if self.phase == Control::RECLAIM {
@@ -39,7 +38,6 @@ impl Control {
 
     // The bounds that the functions over lent halves ask for.
     pub(crate) fn bounds(self) -> Bounds
-        requires { ⌜ self .current ≤ 1 ⌝ }
         ensures { λ r. ⌜ ((h0 h1 l : List ℕ) → self .capacity ≡ length l → heap r h0 h1 ≡ heapOf (view self h0 h1 l)) ⌝ }
     {
         let from = self.fromspace();

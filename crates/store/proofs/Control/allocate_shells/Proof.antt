@@ -97,10 +97,7 @@ returns-3 c =
     (no (c2 .needs-shell .ensures _ _) (c1 .if2 .taken)) (c .past-record .ensures)
 
 other-half-requires : tie.Need-other-half-requires
-other-half-requires c κs =
-    let c1 = c .before .before .before .before .before .before .before .before .before .before .before .before .before .before .before in
-    let k = in-range _ (c1 .pre) in
-    k .half
+other-half-requires c κs = search needs
 
 frontier-requires : tie.Need-frontier-requires
 frontier-requires c κs = search needs

@@ -38,10 +38,10 @@ returns-2 c =
     λ l. allocated-black _ _ _ _ (c3 .if1 .left) (c2 .if2 .taken) (c1 .placed2 .ensures l)
 
 fromspace-requires : tie.Need-fromspace-requires
-fromspace-requires c κs = c .before .before .before .before .pre .small .half
+fromspace-requires c κs = search needs
 
 other-half-requires : tie.Need-other-half-requires
-other-half-requires c κs = fromspace-small _ (c .fromspace .ensures [] [] []) (c .before .before .before .before .before .pre .small .half)
+other-half-requires c κs = search needs
 
 frontier-requires : tie.Need-frontier-requires
 frontier-requires c κs = search needs

@@ -18,7 +18,7 @@ returns-2 c = (
 )
 
 other-half-requires : tie.Need-other-half-requires
-other-half-requires c κs = fromspace-small _ (c .before .fromspace .ensures [] [] []) (c .before .before .before .pre)
+other-half-requires c κs = search needs
 
 returns-3 : tie.Need-returns-3
 returns-3 c =

@@ -46,9 +46,7 @@ get-word-requires c κs =
     ref-inside _ _ _ _ _ (c1 .pre .0 .here) (b .0) (b .1) _ (c1 .pre .1)
 
 bounds-requires : tie.Need-bounds-requires
-bounds-requires c κs =
-    let k = in-range _ (c .before .before .before .before .before .before .before .before .before .pre .0 .ranges) in
-    k .half
+bounds-requires c κs = search needs
 
 forward-requires : tie.Need-forward-requires
 forward-requires c κs =

@@ -41,10 +41,7 @@ element-copy-out-q : tie.Need-element-copy-out-q
 element-copy-out-q c = search needs
 
 bounds-requires : tie.Need-bounds-requires
-bounds-requires c κs =
-    let c1 = c .before .before .before .before .before in
-    let c2 = c1 .before in
-    known _ _ (c2 .session-tests .ensures) (c1 .if1 .left) .known .half
+bounds-requires c κs = search needs
 
 put-writes-requires : tie.Need-put-writes-requires
 put-writes-requires c κs =

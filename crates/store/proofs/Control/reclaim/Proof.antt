@@ -20,9 +20,7 @@ below-requires : tie.Need-below-requires
 below-requires c κs = search needs
 
 other-half-requires : tie.Need-other-half-requires
-other-half-requires c κs =
-    let k = in-range _ (c .before .before .before .before .before .before .pre) in
-    k .half
+other-half-requires c κs = search needs
 
 returns-2 : tie.Need-returns-2
 returns-2 c =

@@ -19,9 +19,7 @@ element-copy-out-v : tie.Need-element-copy-out-v
 element-copy-out-v c = search needs
 
 bounds-requires : tie.Need-bounds-requires
-bounds-requires c κs =
-    let k = in-range _ (c .before .before .before .before .pre) in
-    k .half
+bounds-requires c κs = search needs
 
 forward-requires : tie.Need-forward-requires
 forward-requires c κs =

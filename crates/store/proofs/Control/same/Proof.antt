@@ -49,11 +49,7 @@ element-copy-out-second c =
     omega (arith, registers-known (a .a) (a .b) (c .before .before .before .if2 .left) .1)
 
 bounds-requires : tie.Need-bounds-requires
-bounds-requires c κs =
-    let c1 = c .before .before .before .before .before in
-    let c2 = c1 .before in
-    let k = known _ _ (c2 .session-tests .ensures) (c1 .if1 .left) in
-    k .known .half
+bounds-requires c κs = search needs
 
 same-at-requires : tie.Need-same-at-requires
 same-at-requires c κs =

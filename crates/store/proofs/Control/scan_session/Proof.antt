@@ -15,7 +15,7 @@ use Rattle.store.proofs.Control.scan_session.Statement.{statement}
 use Rattle.store.proofs.Control.scan_session.Tie as tie
 
 bounds-requires : tie.Need-bounds-requires
-bounds-requires c κs = in-range _ (c .before .before .before .pre .1) .half
+bounds-requires c κs = search needs
 
 mul-session : tie.Need-mul-session
 mul-session c = search needs

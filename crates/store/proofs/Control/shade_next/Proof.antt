@@ -12,7 +12,7 @@ use Rattle.store.proofs.Control.shade_next.Statement.{statement}
 use Rattle.store.proofs.Control.shade_next.Tie as tie
 
 bounds-requires : tie.Need-bounds-requires
-bounds-requires c κs = in-range _ (c .before .before .before .pre) .half
+bounds-requires c κs = search needs
 
 -- the bounds are the store's
 bounded : (c : tie.After-bounds)

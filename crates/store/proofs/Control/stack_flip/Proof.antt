@@ -20,20 +20,13 @@ count c =
     search (needs, unmapped)
 
 bounds-requires : tie.Need-bounds-requires
-bounds-requires c κs =
-    let k = in-range _ (c .before .before .pre) in
-    k .half
+bounds-requires c κs = search needs
 
 lowest-requires : tie.Need-lowest-requires
 lowest-requires c κs = search needs
 
 other-half-requires : tie.Need-other-half-requires
-other-half-requires c κs =
-    let c1 = c .before .before .before in
-    let c2 = c1 .before .before .before in
-    let a = c2 .args in
-    let w = within _ _ (bounds-over (a .t1) (a .h0 .now) (a .h1 .now) (c1 .bounds .ensures)) (in-range _ (c2 .pre)) in
-    w .side
+other-half-requires c κs = search needs
 
 returns : tie.Need-returns
 returns c =

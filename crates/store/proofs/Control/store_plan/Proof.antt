@@ -49,10 +49,7 @@ returns-3 c =
     plan-short _ _ _ _ _ (handed _ _ _ _ (c4 .held .ensures) (c3 .operands .given .1)) (c2 .follow .ensures) (c1 .r .given .1) (c .if1 .taken)
 
 bounds-requires : tie.Need-bounds-requires
-bounds-requires c κs =
-    let c1 = c .before .before .before .before .before .before in
-    let c2 = c1 .before .before in
-    handed _ _ _ _ (c2 .held .ensures) (c1 .operands .given .1) .holding .within .known .half
+bounds-requires c κs = search needs
 
 store-writes-requires : tie.Need-store-writes-requires
 store-writes-requires c κs =

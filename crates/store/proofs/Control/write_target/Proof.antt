@@ -59,11 +59,7 @@ returns-3 c =
     rw (writing-beyond _ _ _ (c5 .args .field) h d (c .if1 .taken))
 
 bounds-requires : tie.Need-bounds-requires
-bounds-requires c κs =
-    let c1 = c .before .before .before .before .before .before in
-    let c2 = c1 .before .before in
-    let h = handed _ _ _ _ (c2 .held .ensures) (c1 .operands .given .1) in
-    h .holding .within .known .half
+bounds-requires c κs = search needs
 
 replica-for-requires : tie.Need-replica-for-requires
 replica-for-requires c κs =
