@@ -3,15 +3,11 @@ use Prim.Native.Nat.{ℕ}
 use mathlib.Core.Path.{_≡_, refl}
 use mathlib.Core.Bool.{Bool, true, false, cond}
 use native.Mathlib.Omega.{arith}
-use Rattle.rules.specs.Refusals.{Tested, refused, passed, check, _>>=_, _>>_}
+use Rattle.rules.specs.Refusals.{Tested, refused, passed, _>>=_}
 
 pub bind-passed : {A B : Type 0} (m : Tested A) (k : A → Tested B) {b : B} → (m >>= k) ≡ passed b → (a : A) × (m ≡ passed a) × (k a ≡ passed b)
 bind-passed (refused n) k e = absurd (let z : _≡_ {A = ℕ} 0 1 = cc in omega arith)
 bind-passed (passed a) k e = (a, refl, e)
-
-pub check-passed : {B : Type 0} (t : Bool) (n : ℕ) (k : Tested B) {b : B} → (check t n >> k) ≡ passed b → (t ≡ true) × (k ≡ passed b)
-check-passed true n k e = (refl, e)
-check-passed false n k e = absurd (let z : _≡_ {A = ℕ} 0 1 = cc in omega arith)
 
 -- a choice that passed with something else than its first arm took its second
 pub second-passed : (t : Bool) (k : Tested ℕ) {w : ℕ} → cond t (passed 0) k ≡ passed w → (w ≡ 0 → ⊥) → (t ≡ false) × (k ≡ passed w)
@@ -24,3 +20,8 @@ first-passed false k e n = absurd (n cc)
 
 pub same-passed : {A : Type 0} {a b : A} → passed a ≡ passed b → a ≡ b
 same-passed e = cc
+
+-- one row of tests, then more
+pub joined : {A B C : Type 0} (m : Tested A) (f : A → Tested B) (h : B → Tested C) (g : A → Tested C) → ((a : A) → g a ≡ (f a >>= h)) → (m >>= g) ≡ ((m >>= f) >>= h)
+joined (refused n) f h g e = refl
+joined (passed a) f h g e = e a

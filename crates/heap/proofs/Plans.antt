@@ -9,7 +9,8 @@ use Rattle.rules.specs.Refusals.{Tested, passed, check, _>>=_, _>>_}
 use Rattle.rules.specs.Memory.{Memory, colour, replica, refs, sound, followed}
 use Rattle.rules.specs.Barriers.{Heap, toShade, listRoom, shading, shadesAt, barrierShade, copiesAt, replicaFor, ownWord, replicaWord, storeWrites, putWrites}
 use Rattle.rules.specs.declared.Writes.{Writes}
-use Rattle.heap.proofs.Passed.{bind-passed, check-passed, second-passed, first-passed, same-passed}
+use Rattle.rules.proofs.Ranges.{after-check}
+use Rattle.heap.proofs.Passed.{bind-passed, second-passed, first-passed, same-passed}
 
 -- ---- shading
 
@@ -21,7 +22,7 @@ pub to-shade-known : (M : Memory) (v w : ℕ) → toShade M v ≡ passed w → (
 unfolding toShade followed
 to-shade-known M v w e n =
     let a = second-passed (eqb v 0) (check (sound M v) 12 >> passed (cond (eqb (colour M v) 0) v 0)) e n in
-    let b = check-passed (sound M v) 12 (passed (cond (eqb (colour M v) 0) v 0)) (a .1) in
+    let b = after-check (sound M v) 12 (passed (cond (eqb (colour M v) 0) v 0)) (a .1) in
     let c = chosen (eqb (colour M v) 0) v (same-passed (b .1)) n in
     (c, rw c (b .0))
 
@@ -34,7 +35,7 @@ pub shading-known : (z : Heap) (v w : ℕ) → shading z v ≡ passed w → (w �
 unfolding shading listRoom
 shading-known z v w e n =
     let a = bind-passed (toShade (z .memory) v) (λ (u : ℕ). check (leb (z .tail + cond (eqb u 0) 0 1) (z .capacity)) 12 >> passed u) e in
-    let b = check-passed (leb (z .tail + cond (eqb (a .0) 0) 0 1) (z .capacity)) 12 (passed (a .0)) (a .2) in
+    let b = after-check (leb (z .tail + cond (eqb (a .0) 0) 0 1) (z .capacity)) 12 (passed (a .0)) (a .2) in
     let c : a .0 ≡ w = same-passed (b .1) in
     let d : z .tail + 1 ≤ z .capacity = leb-true (z .tail + 1) (z .capacity) (rw (c, ne-eqb w 0 n) at (b .0)) in
     record { sound = to-shade-known (z .memory) v w (rw c at (a .1)) n .1; room = omega arith }
@@ -55,8 +56,8 @@ unfolding replicaFor followed
 replica-known M count l v i t e n =
     let u = replica M v in
     let a = second-passed (not (copiesAt l) || eqb u 0) (check (sound M u) 12 >> (check (ltb i (count M u)) 12 >> passed u)) e n in
-    let b = check-passed (sound M u) 12 (check (ltb i (count M u)) 12 >> passed u) (a .1) in
-    let c = check-passed (ltb i (count M u)) 12 (passed u) (b .1) in
+    let b = after-check (sound M u) 12 (check (ltb i (count M u)) 12 >> passed u) (a .1) in
+    let c = after-check (ltb i (count M u)) 12 (passed u) (b .1) in
     let d : u ≡ t = same-passed (c .1) in
     record { sound = rw d at (b .0); field = rw d at (ltb-true i (count M u) (c .0)) }
 

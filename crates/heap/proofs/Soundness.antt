@@ -1,7 +1,7 @@
 -- What following a reference finds.
 use Prim.Native.Nat.{ℕ, _+_, _/_, _%_, _≤_, _<_}
 use mathlib.Core.Path.{_≡_, _∙_, sym, refl, ap}
-use mathlib.Core.Bool.{Bool, true, false, cond, _&&_}
+use mathlib.Core.Bool.{Bool, true, false, cond, _&&_, and-false}
 use mathlib.Core.List.{List}
 use native.Mathlib.Omega.{arith}
 use native.Mathlib.Nat.{add-zero}
@@ -11,12 +11,9 @@ use borrow.Author.Tests.{le-leb, lt-leb, leb-true}
 use Rattle.rules.specs.Memory.{Memory, half, frontier, halfOf, wordOf, refsOf, plainsOf, word, colour, refs, plains, size, sound, follow}
 use Rattle.rules.specs.declared.Followed.{Followed}
 use Rattle.rules.specs.declared.Followed.the-variants.{Sound, Damage}
+use Rattle.rules.proofs.Ranges.{both}
 use Rattle.heap.specs.View.{memory, Inside}
 use Rattle.heap.proofs.Halves.{half-any, frontier-within}
-
-and-false : (b : Bool) → (b && false) ≡ false
-and-false true = refl
-and-false false = refl
 
 -- ---- the code's tests are those of sound
 
@@ -72,10 +69,6 @@ pub record Found (M : Memory) (v at r p : ℕ) : Type 0 where
 split : (b : Bool) (k x y : ℕ) {at r p : ℕ} → cond b (Sound k x y) Damage ≡ Sound at r p → (b ≡ true) × (k ≡ at) × (x ≡ r) × (y ≡ p)
 split true k x y e = (refl, cc, cc, cc)
 split false k x y e = absurd (let z : _≡_ {A = ℕ} 0 1 = cc in omega arith)
-
-both : (a b : Bool) → (a && b) ≡ true → (a ≡ true) × (b ≡ true)
-both true b e = (refl, e)
-both false b e = absurd (let z : _≡_ {A = ℕ} 0 1 = cc in omega arith)
 
 -- the tests of a sound reference, and its counts
 small : (w : ℕ) → w ≤ 65535 → (refsOf w ≤ 255) × (plainsOf w ≤ 255)

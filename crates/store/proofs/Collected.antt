@@ -1,7 +1,7 @@
 -- The different white records, collected from the left: a word already met is passed over.
 use Prim.Native.Nat.{ℕ, zero, suc, _+_, _≤_, _<_}
 use mathlib.Core.Path.{_≡_, _∙_, sym, refl, ap}
-use mathlib.Core.Bool.{Bool, true, false, cond, _||_}
+use mathlib.Core.Bool.{Bool, true, false, cond, _||_, or-false, or-true, or-assoc}
 use mathlib.Core.List.{List, [], _∷_, _++_, append-assoc, append-nil}
 use native.Mathlib.Omega.{arith}
 use native.Mathlib.Nat.{add-zero, le-of-suc-le-suc, not-suc-le-zero}
@@ -22,21 +22,9 @@ use Rattle.store.specs.Marking.{among}
 
 -- ---- words already met
 
-or-false : (b : Bool) → (b || false) ≡ b
-or-false true = refl
-or-false false = refl
-
-or-true : (b : Bool) → (b || true) ≡ true
-or-true true = refl
-or-true false = refl
-
-or-assoc : (a b c : Bool) → (a || (b || c)) ≡ ((a || b) || c)
-or-assoc true b c = refl
-or-assoc false b c = refl
-
 among-more : (v w : ℕ) (xs : List ℕ) → among v (xs ++ (w ∷ [])) ≡ (among v xs || eqb v w)
 among-more v w [] = or-false (eqb v w)
-among-more v w (x ∷ xs) = ap (λ (b : Bool). eqb v x || b) (among-more v w xs) ∙ or-assoc (eqb v x) (among v xs) (eqb v w)
+among-more v w (x ∷ xs) = ap (λ (b : Bool). eqb v x || b) (among-more v w xs) ∙ sym (or-assoc (eqb v x) (among v xs) (eqb v w))
 
 -- a search for v along the first n words, at word i
 module _ (v : ℕ) (words : List ℕ) (n i : ℕ) (m : n ≤ length words) (e : among v (take n words) ≡ among v (drop i (take n words))) where

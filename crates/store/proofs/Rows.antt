@@ -1,16 +1,12 @@
 -- The tests of the control record as the code groups them.
 use Prim.Native.Nat.{ℕ, _/_}
 use mathlib.Core.Path.{_≡_, refl}
-use mathlib.Core.Bool.{Bool, true, false, cond, not, _&&_, _||_, and-assoc}
+use mathlib.Core.Bool.{Bool, true, false, cond, not, _&&_, _||_, and-assoc, or-false}
 use lib.Dec.{leb, eqb}
 use lib.ListN.{length}
 use Rattle.rules.specs.Control.{Store, lent, inRange, sameLengths, lengthsAllowed, halfAllowed, listAllowed, walkLimit, levelsInRange}
 
 -- the walk place against one of two limits
-or-false : (b : Bool) → (b || false) ≡ b
-or-false true = refl
-or-false false = refl
-
 limited : (b : Bool) (k m n : ℕ) → ((b && leb k m) || (not b && leb k n)) ≡ leb k (cond b m n)
 limited true k m n = or-false (leb k m)
 limited false k m n = refl

@@ -18,13 +18,13 @@ use Rattle.rules.specs.declared.Session.{Session}
 use Rattle.rules.specs.declared.Writes.{Writes}
 use Rattle.rules.specs.declared.Followed.{Followed}
 use Rattle.rules.specs.declared.Followed.the-variants.{Sound, Damage}
-use Rattle.rules.proofs.Ranges.{InRange, in-session}
+use Rattle.rules.proofs.Ranges.{InRange, in-session, after-check}
 use Rattle.heap.specs.View.{Inside, planned}
 use Rattle.heap.specs.declared.Planned.{Planned}
 use Rattle.heap.specs.declared.Planned.the-variants as plan
 use Rattle.heap.proofs.Soundness.{found, lost, header-inside}
 use Rattle.heap.proofs.Fields.{ref-inside}
-use Rattle.heap.proofs.Passed.{bind-passed, check-passed, same-passed}
+use Rattle.heap.proofs.Passed.{bind-passed, same-passed, joined}
 use Rattle.heap.proofs.Plans.{Shaded, Stored, store-known, put-known}
 use Rattle.store.specs.View.{view}
 use Rattle.store.specs.Operands.{holding}
@@ -125,8 +125,8 @@ field-inside s v i k e l =
 record-found : (s : Store) (x : Session) (k : ℕ) {v : ℕ} → recordIn s x k ≡ passed v → sound (s .memory) v ≡ true
 unfolding recordIn followed
 record-found s x k {v} e =
-    let a = check-passed (not (eqb (register x k) 0)) 11 (check (sound (s .memory) (register x k)) 12 >> passed (register x k)) e in
-    let b = check-passed (sound (s .memory) (register x k)) 12 (passed (register x k)) (a .1) in
+    let a = after-check (not (eqb (register x k) 0)) 11 (check (sound (s .memory) (register x k)) 12 >> passed (register x k)) e in
+    let b = after-check (sound (s .memory) (register x k)) 12 (passed (register x k)) (a .1) in
     rw (same-passed (b .1)) at (b .0)
 
 pub storable : {v : ℕ} {w : Writes} (s : Store) (n k i from : ℕ) → storePlan s n k i from ≡ passed (v, w) → Storable s i v w
@@ -134,9 +134,9 @@ unfolding storePlan
 storable {v} {w} s n k i from e =
     let a = bind-passed (sessionOf s n) _ e in
     let x = a .0 in
-    let b = check-passed (isRegister k && isRegister from) 8 _ (a .2) in
+    let b = after-check (isRegister k && isRegister from) 8 _ (a .2) in
     let c = bind-passed (recordIn s x k) _ (b .1) in
-    let d = check-passed (ltb i (refs (s .memory) (c .0))) 13 _ (c .2) in
+    let d = after-check (ltb i (refs (s .memory) (c .0))) 13 _ (c .2) in
     let f = bind-passed (storeWrites (heapOf s) (x .level) (c .0) i (register x from)) _ (d .1) in
     let p = same-passed (f .2) in
     let kn = in-session s n (a .1) .known in
@@ -153,8 +153,8 @@ unfolding putPlan
 putable {v} {w} s n g from e =
     let a = bind-passed (sessionOf s n) _ e in
     let x = a .0 in
-    let b = check-passed (isRegister from) 8 _ (a .2) in
-    let c = check-passed (isGlobal g) 9 _ (b .1) in
+    let b = after-check (isRegister from) 8 _ (a .2) in
+    let c = after-check (isGlobal g) 9 _ (b .1) in
     let f = bind-passed (putWrites (heapOf s) (x .level) (register x from)) _ (c .1) in
     let p = same-passed (f .2) in
     let kn = in-session s n (a .1) .known in
@@ -177,11 +177,6 @@ pub met : {s : Store} {v : ℕ} {c d : Control} {h0 h1 l k0 k1 m : List ℕ} →
 met n a b e f = rw (a, b, e, f) n
 
 -- ---- the rules as the plan with what it writes
-
--- one row of tests, then more
-joined : {A B C : Type 0} (m : Tested A) (f : A → Tested B) (h : B → Tested C) (g : A → Tested C) → ((a : A) → g a ≡ (f a >>= h)) → (m >>= g) ≡ ((m >>= f) >>= h)
-joined (refused n) f h g e = refl
-joined (passed a) f h g e = e a
 
 -- what a store writes, and what a put writes
 abbrev stored : Store → ℕ → ℕ × Writes → Tested (Outcome Store)

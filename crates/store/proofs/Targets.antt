@@ -12,8 +12,8 @@ use Rattle.rules.specs.Barriers.{Heap, heapOf, replicaFor, putBoth}
 use Rattle.rules.specs.Calls.{sessionOf, isRegister, recordIn, write}
 use Rattle.rules.specs.declared.Session.{Session}
 use Rattle.rules.specs.declared.Answer.the-variants.{Done}
-use Rattle.rules.proofs.Ranges.{InRange, in-session, fronts}
-use Rattle.heap.proofs.Passed.{bind-passed, check-passed, same-passed}
+use Rattle.rules.proofs.Ranges.{InRange, in-session, fronts, after-check}
+use Rattle.heap.proofs.Passed.{bind-passed, same-passed, joined}
 use Rattle.heap.proofs.Soundness.{Found}
 use Rattle.heap.proofs.Fields.{plain-inside, has-plain}
 use Rattle.heap.proofs.Plans.{Copied, replica-known}
@@ -78,17 +78,17 @@ record-sound : {v : ℕ} (s : Store) (x : Session) (k : ℕ) → recordIn s x k 
 unfolding recordIn followed
 record-sound {v} s x k e =
     let v′ = register x k in
-    let a = check-passed (not (eqb v′ null)) 11 (check (sound (s .memory) v′) 12 >> passed v′) e in
-    let b = check-passed (sound (s .memory) v′) 12 (passed v′) (a .1) in
+    let a = after-check (not (eqb v′ null)) 11 (check (sound (s .memory) v′) 12 >> passed v′) e in
+    let b = after-check (sound (s .memory) v′) 12 (passed v′) (a .1) in
     rw (same-passed (b .1)) at (b .0)
 
 pub targets : {w : Written} (s : Store) (n k i : ℕ) → writing s n k i ≡ passed w → Targets s i w
 unfolding writing
 targets {w} s n k i e =
     let a = bind-passed (sessionOf s n) _ e in
-    let b = check-passed (isRegister k) 8 _ (a .2) in
+    let b = after-check (isRegister k) 8 _ (a .2) in
     let c = bind-passed (recordIn s (a .0) k) _ (b .1) in
-    let d = check-passed (ltb i (plains (s .memory) (c .0))) 13 _ (c .2) in
+    let d = after-check (ltb i (plains (s .memory) (c .0))) 13 _ (c .2) in
     let f = bind-passed (replicaFor (s .memory) plains (a .0 .level) (c .0) i) _ (d .1) in
     let q : record { own = c .0; refs = refs (s .memory) (c .0); replica = f .0 } ≡ w = same-passed (f .2) in
     let o : c .0 ≡ w .own = ap (λ (y : Written). y .own) q in
@@ -114,10 +114,6 @@ targets-inside {w} {s} {i} k =
 
 -- ---- the call: its tests, then the words written
 
-carried : {A B C : Type 0} (m : Tested A) (g : A → Tested B) (f : B → Tested C) (h : A → Tested C) → ((a : A) → h a ≡ (g a >>= f)) → (m >>= h) ≡ ((m >>= g) >>= f)
-carried (refused n) g f h e = refl
-carried (passed a) g f h e = e a
-
 -- the memory that the write leaves
 abbrev both : Store → ℕ → ℕ → Written → Memory
 both s i a w =
@@ -127,11 +123,11 @@ write-by : (s : Store) (n k i a : ℕ) → write s n k i a ≡ (writing s n k i 
 unfolding write writing
 write-by s n k i a =
     let f : Written → Tested (Outcome Store) = λ w. done (withMemory s (both s i a w)) in
-    carried (sessionOf s n) _ f _ (λ x.
-    carried (check (isRegister k) 8) _ f _ (λ u.
-    carried (recordIn s x k) _ f _ (λ v.
-    carried (check (ltb i (plains (s .memory) v)) 13) _ f _ (λ u′.
-    carried (replicaFor (s .memory) plains (x .level) v i) _ f _ (λ t. refl)))))
+    joined (sessionOf s n) _ f _ (λ x.
+    joined (check (isRegister k) 8) _ f _ (λ u.
+    joined (recordIn s x k) _ f _ (λ v.
+    joined (check (ltb i (plains (s .memory) v)) 13) _ f _ (λ u′.
+    joined (replicaFor (s .memory) plains (x .level) v i) _ f _ (λ t. refl)))))
 
 module _ {r : Target} (s : Store) (n k i a : ℕ) (e : targeted r ≡ writing s n k i) where
   pub unwritten : {g : ℕ} → r ≡ Refusal g → write s n k i a ≡ refused g

@@ -1,7 +1,7 @@
 -- The units of work that walk over the records of the current half: what their store's ranges give, and the arms of reclaim.
 use Prim.Native.Nat.{ℕ, _+_, _≤_, _<_}
 use mathlib.Core.Path.{_≡_}
-use mathlib.Core.Bool.{Bool, true, false, cond}
+use mathlib.Core.Bool.{true, false}
 use native.Mathlib.Omega.{arith}
 use lib.Dec.{eqb}
 use Rattle.rules.specs.Refusals.{answer}
@@ -11,6 +11,7 @@ use Rattle.rules.specs.Phases.{otherHalf, moveOn}
 use Rattle.rules.specs.Collector.{walked, below, haveLevel, pastRecord, reclaim}
 use Rattle.rules.specs.declared.Answer.the-variants.{Refused}
 use Rattle.rules.proofs.Ranges.{InRange, fronts}
+use Rattle.rules.proofs.memory.Cases.{chosen-below}
 use Rattle.heap.specs.View.{Inside}
 use Rattle.heap.proofs.Soundness.{Found, header-inside}
 use Rattle.store.specs.Steps.{went, stepped}
@@ -20,13 +21,9 @@ use Rattle.store.specs.declared.work.Work.the-variants.{Walks}
 
 -- ---- the ranges
 
-either-small : (b : Bool) {f0 f1 n : ℕ} → f0 ≤ n → f1 ≤ n → cond b f0 f1 ≤ n
-either-small true x y = x
-either-small false x y = y
-
 pub front-small : {s : Store} {at : ℕ} (h : ℕ) → InRange s → at ≡ frontier (s .memory) h → at ≤ 1048576
 unfolding frontier
-front-small {s} {at} h k e = let l = either-small (eqb h 0) (k .front0) (k .front1) in omega arith
+front-small {s} {at} h k e = let l = chosen-below (eqb h 0) _ _ _ (k .front0) (k .front1) in omega arith
 
 -- the header of a record found
 pub header-at : {s : Store} {v at r p : ℕ} → InRange s → Found (s .memory) v at r p → (j : ℕ) → j < 3

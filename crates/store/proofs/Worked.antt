@@ -12,6 +12,7 @@ use Rattle.rules.specs.Phases.{register, sessionAt}
 use Rattle.rules.specs.Calls.{sessionOf, isRegister, recordIn, load, store, read, write, stretch}
 use Rattle.rules.specs.declared.Session.{Session}
 use Rattle.rules.proofs.Ranges.{both, InSession, in-session, after-check}
+use Rattle.heap.proofs.Passed.{bind-passed, same-passed}
 use Rattle.store.specs.Operands.{tested, holding}
 use Rattle.store.specs.declared.operands.Held.{Held}
 use Rattle.store.specs.declared.operands.Held.the-variants as held
@@ -29,14 +30,6 @@ pub record Holding (s : Store) (n k o v : ℕ) : Type 0 where
   pub held : register (sessionAt s n) k ≡ v
   pub there : v ≡ 0 → ⊥
   pub record-in : recordIn s (sessionAt s n) k ≡ (followed (s .memory) v >> passed v)
-
--- a session, and what is done with it
-bound : {A B : Type 0} {y : B} (t : Tested A) (f : A → Tested B) → (t >>= f) ≡ passed y → (a : A) × (t ≡ passed a) × (f a ≡ passed y)
-bound (refused n) f e = absurd (let z : _≡_ {A = ℕ} 0 1 = cc in omega arith)
-bound (passed a) f e = (a, refl, e)
-
-same-passed : {A : Type 0} {a b : A} → passed a ≡ passed b → a ≡ b
-same-passed e = cc
 
 worked-on : (s : Store) (x : Session) (k : ℕ) {v : ℕ} → register x k ≡ v → not (eqb (register x k) null) ≡ true
     → recordIn s x k ≡ (followed (s .memory) v >> passed v)
@@ -56,7 +49,7 @@ pub record Handed (s : Store) (n k o : ℕ) (w : Operands) : Type 0 where
 pub holding-passed : {w : Operands} (s : Store) (n k o : ℕ) → holding s n k o ≡ passed w → Handed s n k o w
 unfolding holding
 holding-passed {w} s n k o e =
-    let p = bound (sessionOf s n) _ e in
+    let p = bind-passed (sessionOf s n) _ e in
     let x = sessionAt s n in
     let f : sessionOf s n ≡ passed x = p .1 ∙ ap passed (in-session s n (p .1) .session) in
     let q = after-check (isRegister k && isRegister o) 8 _ (rw f at e) in

@@ -2,7 +2,6 @@
 use Prim.Native.Nat.{ℕ, zero, suc, _≤_, _<_, zero-le}
 use mathlib.Core.Path.{_≡_, refl, sym, _∙_}
 use mathlib.Core.Logic.{_≢_}
-use mathlib.Core.Bool.{Bool, true, false, cond}
 use mathlib.Core.List.{List}
 use native.Mathlib.Omega.{arith}
 use lib.Dec.{eqb, leb, leb→le}
@@ -13,6 +12,7 @@ use Rattle.rules.specs.Control.{Store, Walk, Grey, withMemory, withWalk,
 use Rattle.rules.specs.Phases.{nextPhase, sessionAt, absent, moveOn}
 use Rattle.rules.specs.declared.Session.{Session}
 use Rattle.rules.proofs.Ranges.{InRange}
+use Rattle.rules.proofs.memory.Cases.{chosen-below}
 use Rattle.rules.proofs.memory.Records.{Filled}
 use Rattle.rules.proofs.invariant.Spans.{at-each}
 use Rattle.rules.proofs.invariant.Unmarked.{unmarked-level}
@@ -20,10 +20,6 @@ use Rattle.rules.proofs.invariant.Unmarked.{unmarked-level}
 -- ---- limits
 
 -- no frontier passes the half length
-chosen-below : (b : Bool) (x y n : ℕ) → x ≤ n → y ≤ n → cond b x y ≤ n
-chosen-below true x y n p q = p
-chosen-below false x y n p q = q
-
 pub frontier-range : {s : Store} → InRange s → (h : ℕ) → frontier (s .memory) h ≤ s .lengths .half0
 unfolding frontier
 frontier-range {s} k h = chosen-below (eqb h 0) (s .memory .frontier0) (s .memory .frontier1) (s .lengths .half0) (k .front0) (k .front1)

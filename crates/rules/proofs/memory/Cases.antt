@@ -2,7 +2,7 @@
 use Prim.Native.Nat.{ℕ, _≤_, _<_}
 use mathlib.Core.Path.{_≡_, refl}
 use mathlib.Core.Logic.{_≢_, _⊎_, inl, inr}
-use mathlib.Core.Bool.{Bool, true, false}
+use mathlib.Core.Bool.{Bool, true, false, cond}
 use native.Mathlib.Decide.{decLt, ℕ-discrete}
 use native.Mathlib.Omega.{arith}
 
@@ -25,3 +25,8 @@ bool-or false f g = g refl
 pub either : {A B C : Type 0} → A ⊎ B → (A → C) → (B → C) → C
 either (inl x) f g = f x
 either (inr y) f g = g y
+
+-- one of two numbers below a bound
+pub chosen-below : (b : Bool) (x y n : ℕ) → x ≤ n → y ≤ n → cond b x y ≤ n
+chosen-below true x y n p q = p
+chosen-below false x y n p q = q
