@@ -17,7 +17,7 @@ fn steps_to_rest(
         let next = reply.control;
         control = next;
         n += 1;
-        if control.phase == Control::REST {
+        if control.cursor.phase == Control::REST {
             return n;
         }
     }

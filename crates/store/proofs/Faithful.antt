@@ -17,14 +17,16 @@ controlOf s =
       length0 = s .lengths .half0;
       length1 = s .lengths .half1;
       capacity = s .lengths .list;
-      current = s .current;
-      frontier0 = s .memory .frontier0;
-      frontier1 = s .memory .frontier1;
-      phase = s .phase;
-      place = s .walk .place;
-      field = s .walk .field;
-      head = s .list .head;
-      tail = s .list .tail;
+      cursor = record {
+        current = s .current;
+        frontier0 = s .memory .frontier0;
+        frontier1 = s .memory .frontier1;
+        phase = s .phase;
+        place = s .walk .place;
+        field = s .walk .field;
+        head = s .list .head;
+        tail = s .list .tail;
+      };
       globals = s .globals;
       sessions = s .sessions;
     }

@@ -7,15 +7,12 @@ use lib.Dec.{leb, ltb, eqb}
 use borrow.Author.Tests.{leb-true, leb-false, lt-ltb, le-ltb}
 use Rattle.rules.specs.Refusals.{refused, passed, _>>=_, Outcome, answer}
 use Rattle.rules.specs.Memory.{Memory, word, put, refs, plains, replica, sound, followed, forward}
-use Rattle.rules.specs.Control.{Store, withMemory}
+use Rattle.rules.specs.Control.{Store, withMemory, withWalk}
 use Rattle.rules.specs.Phases.{tospace, moveOn}
 use Rattle.rules.specs.Collector.{walked, below, pastRecord, copyRef, copyPlain, copyField, copy}
 use Rattle.rules.specs.declared.Answer.the-variants.{Refused}
 use Rattle.heap.proofs.Soundness.{Found}
 use Rattle.store.specs.Steps.{went, stepped}
-use Rattle.store.specs.Work.{worked}
-use Rattle.store.specs.declared.work.Work.{Work}
-use Rattle.store.specs.declared.work.Work.the-variants.{Walks}
 use Rattle.store.specs.Copies.{nextField}
 use Rattle.store.proofs.Walks.{size-found}
 
@@ -37,21 +34,21 @@ module _ (s : Store) (v t i : ℕ) where
       unfolding copyRef
       ref-lost f = rw (← c, lt-ltb i n l, ← w, f)
 
-      pub ref-copied : {o : Work} {N : Memory} {x : ℕ} → forward (s .memory) (tospace s) q ≡ passed x → N ≡ put (s .memory) t (3 + i) x
-          → o ≡ Walks (s .walk .place) (s .walk .field + 1) → worked (withMemory s N) o ≡ stepped s (copyRef s v t i >>= nextField s)
+      pub ref-copied : {N : Memory} {x : ℕ} → forward (s .memory) (tospace s) q ≡ passed x → N ≡ put (s .memory) t (3 + i) x
+          → went (withWalk (withMemory s N) (s .walk .place) (s .walk .field + 1)) ≡ stepped s (copyRef s v t i >>= nextField s)
       unfolding copyRef
-      ref-copied f p e = rw (← c, lt-ltb i n l, ← w, f, ← p, e)
+      ref-copied f p = rw (← c, lt-ltb i n l, ← w, f, ← p)
 
   module _ {m : ℕ} (c : m ≡ plains (s .memory) t) where
     pub plain-short : m ≤ i → record { store = s; reply = answer (Refused 12) } ≡ stepped s (copyPlain s v t i >>= nextField s)
     unfolding copyPlain
     plain-short l = rw (← c, le-ltb i m l)
 
-    pub plain-copied : {o : Work} {N : Memory} {r n x : ℕ} → i < m → r ≡ refs (s .memory) v → n ≡ refs (s .memory) t
+    pub plain-copied : {N : Memory} {r n x : ℕ} → i < m → r ≡ refs (s .memory) v → n ≡ refs (s .memory) t
         → x ≡ word (s .memory) v (3 + r + i) → N ≡ put (s .memory) t (3 + n + i) x
-        → o ≡ Walks (s .walk .place) (s .walk .field + 1) → worked (withMemory s N) o ≡ stepped s (copyPlain s v t i >>= nextField s)
+        → went (withWalk (withMemory s N) (s .walk .place) (s .walk .field + 1)) ≡ stepped s (copyPlain s v t i >>= nextField s)
     unfolding copyPlain
-    plain-copied {x = x} l a b w p e = rw (← c, lt-ltb i m l, ← b, ← a, ← w, ← p, e)
+    plain-copied {x = x} l a b w p = rw (← c, lt-ltb i m l, ← b, ← a, ← w, ← p)
 
 module _ {t : ℕ} (s : Store) (v : ℕ) (w : t ≡ replica (s .memory) v) where
   pub field-lost : sound (s .memory) t ≡ false → record { store = s; reply = answer (Refused 12) } ≡ stepped s (copyField s v (s .walk .field))
@@ -96,11 +93,10 @@ module _ (s : Store) where
     copy-lost d = rw (b, ← w, d)
 
     module _ {k r p t : ℕ} (f : Found (s .memory) v k r p) (y : t ≡ replica (s .memory) v) where
-      pub copy-passes : {o : Work} → (eqb t 0 || leb (r + p) (s .walk .field)) ≡ true
-          → o ≡ Walks (s .walk .place + (r + p + 3)) 0 → worked s o ≡ stepped s (copy s)
+      pub copy-passes : (eqb t 0 || leb (r + p) (s .walk .field)) ≡ true → went (withWalk s (s .walk .place + (r + p + 3)) 0) ≡ stepped s (copy s)
       unfolding copy followed pastRecord
-      copy-passes x e =
-          rw (b, ← w, f .sound, size-found f, ← y, ← f .refs, ← f .plains, none-left (eqb t 0) (r + p) (s .walk .field) x, e)
+      copy-passes x =
+          rw (b, ← w, f .sound, size-found f, ← y, ← f .refs, ← f .plains, none-left (eqb t 0) (r + p) (s .walk .field) x)
 
       pub copy-copies : {o : Outcome Store} → (eqb t 0 || leb (r + p) (s .walk .field)) ≡ false
           → o ≡ stepped s (copyField s v (s .walk .field)) → o ≡ stepped s (copy s)

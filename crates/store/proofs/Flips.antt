@@ -3,19 +3,19 @@ use Prim.Native.Nat.{ℕ, _+_, _≤_, _<_}
 use mathlib.Core.Path.{_≡_}
 use mathlib.Core.Bool.{true, false, not}
 use mathlib.Core.List.{List}
-use lib.ListN.{length, getD}
+use lib.ListN.{length, getD, set}
 use borrow.Author.Tests.{lt-ltb, le-ltb, not-true, not-false}
 use Rattle.rules.specs.Refusals.{refused, passed}
 use Rattle.rules.specs.Memory.{forward}
-use Rattle.rules.specs.Control.{Store}
-use Rattle.rules.specs.Phases.{tospace, sessionAt, lowestUnmarked, moveOn}
+use Rattle.rules.specs.Control.{Store, withWalk, withGlobals, withCurrent}
+use Rattle.rules.specs.Phases.{tospace, sessionAt, withSession, withRegisters, withMark, lowestUnmarked, moveOn}
 use Rattle.rules.specs.Collector.{rootFlip, forwardAll, stackFlip}
-use Rattle.store.specs.Steps.{stepped}
+use Rattle.store.specs.Steps.{went, stepped}
 use Rattle.store.specs.Work.{registers, worked}
 use Rattle.store.specs.Flips.{forwarded}
 use Rattle.store.specs.declared.flipping.Registers.{Registers}
 use Rattle.store.specs.declared.work.Stack.{Stack}
-use Rattle.store.specs.declared.work.Work.the-variants.{Refused, Marks, Forwards, MovesOn, Flips}
+use Rattle.store.specs.declared.work.Work.the-variants.{Refused}
 
 -- what the code forwarded, by its flag
 pub moved-false : (r : Registers) → not (r .sound) ≡ true → forwarded r ≡ refused 12
@@ -25,7 +25,7 @@ pub moved-true : (r : Registers) → not (r .sound) ≡ false → forwarded r �
 moved-true r e = rw (not-false (r .sound) e)
 
 module _ (s : Store) where
-  pub roots-done : 32 ≤ s .walk .place → worked s MovesOn ≡ stepped s (rootFlip s)
+  pub roots-done : 32 ≤ s .walk .place → went (moveOn s) ≡ stepped s (rootFlip s)
   unfolding rootFlip
   roots-done l = rw (le-ltb (s .walk .place) 32 l)
 
@@ -35,12 +35,12 @@ module _ (s : Store) where
     root-lost f = rw (lt-ltb (s .walk .place) 32 l, f)
 
     pub root-flips : {q : ℕ} → forward (s .memory) (tospace s) (getD (s .globals) (s .walk .place) 0) ≡ passed q
-        → worked s (Forwards q (s .walk .place + 1)) ≡ stepped s (rootFlip s)
+        → went (withWalk (withGlobals s (set (s .globals) (s .walk .place) q)) (s .walk .place + 1) (s .walk .field)) ≡ stepped s (rootFlip s)
     unfolding rootFlip
     root-flips f = rw (lt-ltb (s .walk .place) 32 l, f)
 
   module _ {n : ℕ} (m : n ≡ lowestUnmarked (s .sessions)) (k : length (s .sessions) ≡ 16) where
-    pub stacks-done : {h : ℕ} → 16 ≤ n → h ≡ tospace s → worked s (Flips h) ≡ stepped s (stackFlip s)
+    pub stacks-done : {h : ℕ} → 16 ≤ n → h ≡ tospace s → went (moveOn (withCurrent s h)) ≡ stepped s (stackFlip s)
     unfolding stackFlip moveOn
     stacks-done l h = rw (← m, k, le-ltb n 16 l, h)
 
@@ -50,6 +50,6 @@ module _ (s : Store) where
       stack-lost f = rw (← m, k, lt-ltb n 16 l, f)
 
       pub stack-flips : {x : Stack} {ws : List ℕ} → forwardAll (s .memory) (tospace s) (sessionAt s n .registers) ≡ passed ws → registers x ≡ ws
-          → worked s (Marks n x) ≡ stepped s (stackFlip s)
+          → went (withSession s n (withMark (withRegisters (sessionAt s n) (registers x)) true)) ≡ stepped s (stackFlip s)
       unfolding stackFlip
       stack-flips f e = rw (← m, k, lt-ltb n 16 l, f, e)

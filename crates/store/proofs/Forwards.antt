@@ -25,12 +25,12 @@ bounds-over c h0 h1 f = f h0 h1 _ (sym (length-replicate (c .capacity) 0))
 -- what the code forwarded is what the rules forward, over any list
 module _ {b : Bounds} (c : Control) (h0 h1 l : List ℕ) (e : heap b h0 h1 ≡ heapOf (over c h0 h1)) where
   pub forward-told : {x y : Tested ℕ} (q : ℕ) → x ≡ forward (heap b h0 h1 .memory) (to (heap b h0 h1)) q → x ≡ y
-      → forward (memory h0 h1 (c .frontier0) (c .frontier1)) (tospace (view c h0 h1 l)) q ≡ y
+      → forward (memory h0 h1 (c .cursor .frontier0) (c .cursor .frontier1)) (tospace (view c h0 h1 l)) q ≡ y
   unfolding tospace fromspace
   forward-told q f t = sym (f ∙ ap (λ (z : Heap). forward (z .memory) (to z) q) e) ∙ t
 
   pub all-told : {x y : Tested (List ℕ)} (vs : List ℕ) → x ≡ forwardAll (heap b h0 h1 .memory) (to (heap b h0 h1)) vs → x ≡ y
-      → forwardAll (memory h0 h1 (c .frontier0) (c .frontier1)) (tospace (view c h0 h1 l)) vs ≡ y
+      → forwardAll (memory h0 h1 (c .cursor .frontier0) (c .cursor .frontier1)) (tospace (view c h0 h1 l)) vs ≡ y
   unfolding tospace fromspace
   all-told vs f t = sym (f ∙ ap (λ (z : Heap). forwardAll (z .memory) (to z) vs) e) ∙ t
 

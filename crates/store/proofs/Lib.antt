@@ -24,6 +24,8 @@ pub mod Targets
 pub mod Comparing
 -- stores and puts by their plans
 pub mod Storing
+-- the collector's numbers
+pub mod Cursors
 -- the collector's walk over the records, and shells
 pub mod Walks
 pub mod Shelling

@@ -55,12 +55,11 @@ module _ {r : Checked} (s : Store) (q : ℕ) (e : checked r ≡ shading (heapOf 
     next-shaded n m l k i = next-found k i ∙ ap (λ (t : Store). passed (withWalk t k i)) (sym (shade-record s w n m l refl))
 
     -- what shading asks of its caller
-    pub next-allowed : inRange s ≡ true → (w ≡ 0 → ⊥)
+    pub next-allowed : s .memory .frontier0 ≤ length (s .memory .half0) → s .memory .frontier1 ≤ length (s .memory .half1) → (w ≡ 0 → ⊥)
         → Inside (s .memory .half0) (s .memory .half1) w colourAt × (s .list .tail < length (s .list .words))
-    next-allowed t n =
-        let k = in-range s t in
+    next-allowed a b n =
         let f = shading-known (heapOf s) q w (answered (check.Word w) d) n in
-        (header-inside (s .memory .half0) (s .memory .half1) (s .memory .frontier0) (s .memory .frontier1) w (f .sound) (omega arith) (omega arith) 1 (omega arith), f .room)
+        (header-inside (s .memory .half0) (s .memory .half1) (s .memory .frontier0) (s .memory .frontier1) w (f .sound) a b 1 (omega arith), f .room)
 
 -- ---- RootMark
 
@@ -75,7 +74,8 @@ module _ (s : Store) (k : inRange s ≡ true) where
 
 -- ---- HeapMark: a listed record
 
-module _ {x : Followed} (s : Store) (k : inRange s ≡ true) (v : ℕ) (e : x ≡ follow (s .memory) v) where
+module _ {x : Followed} (s : Store) (a : s .memory .frontier0 ≤ length (s .memory .half0)) (b : s .memory .frontier1 ≤ length (s .memory .half1))
+    (v : ℕ) (e : x ≡ follow (s .memory) v) where
   pub record-damage : x ≡ Damage → scanRecord s v ≡ refused 12
   unfolding scanRecord followed
   record-damage d = rw (lost (s .memory) v e d)
@@ -84,15 +84,13 @@ module _ {x : Followed} (s : Store) (k : inRange s ≡ true) (v : ℕ) (e : x �
     pub colour-inside : Inside (s .memory .half0) (s .memory .half1) v colourAt
     colour-inside =
         let g = found (s .memory) v e f in
-        let i = in-range s k in
-        header-inside (s .memory .half0) (s .memory .half1) (s .memory .frontier0) (s .memory .frontier1) v (g .sound) (omega arith) (omega arith) 1 (omega arith)
+        header-inside (s .memory .half0) (s .memory .half1) (s .memory .frontier0) (s .memory .frontier1) v (g .sound) a b 1 (omega arith)
 
     pub field-inside : s .walk .field < r → Inside (s .memory .half0) (s .memory .half1) v (s .walk .field + 3)
     field-inside h =
         let g = found (s .memory) v e f in
-        let i = in-range s k in
         let c : s .walk .field + 3 ≡ 3 + s .walk .field = omega arith in
-        rw c (ref-inside (s .memory .half0) (s .memory .half1) (s .memory .frontier0) (s .memory .frontier1) v (g .sound) (omega arith) (omega arith) (s .walk .field) (rw (← g .refs) h))
+        rw c (ref-inside (s .memory .half0) (s .memory .half1) (s .memory .frontier0) (s .memory .frontier1) v (g .sound) a b (s .walk .field) (rw (← g .refs) h))
 
     pub field-next : {q : ℕ} → s .walk .field < r → q ≡ word (s .memory) v (s .walk .field + 3)
         → scanRecord s v ≡ shadeNext s q (s .walk .place) (s .walk .field + 1)

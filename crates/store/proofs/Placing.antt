@@ -64,32 +64,32 @@ frontier-small h0 h1 f0 f1 h x y = front-small (eqb h 0) f0 f1 x y
 -- ---- room
 
 module _ (c : Control) (h0 h1 : List ℕ) (l r p : ℕ) (a : Allocatable c h0 h1 l r p) where
-  room-of : (h : ℕ) → roomIn (memory h0 h1 (c .frontier0) (c .frontier1)) h r p ≡ true → Room c h0 h1 h r p
+  room-of : (h : ℕ) → roomIn (memory h0 h1 (c .cursor .frontier0) (c .cursor .frontier1)) h r p ≡ true → Room c h0 h1 h r p
   unfolding roomIn
   room-of h e =
-      let M = memory h0 h1 (c .frontier0) (c .frontier1) in
+      let M = memory h0 h1 (c .cursor .frontier0) (c .cursor .frontier1) in
       let g : frontier M h + (3 + r + p) ≤ length (half M h) = leb-true (frontier M h + (3 + r + p)) (length (half M h)) e in
       record {
         above = omega arith;
-        short = frontier-small h0 h1 (c .frontier0) (c .frontier1) h (a .small .low) (a .small .high);
+        short = frontier-small h0 h1 (c .cursor .frontier0) (c .cursor .frontier1) h (a .small .low) (a .small .high);
         refs = a .small .refs;
         plains = a .small .plains;
       }
 
-  pub room-one : l ≤ 2 → Room c h0 h1 (c .current) r p
+  pub room-one : l ≤ 2 → Room c h0 h1 (c .cursor .current) r p
   unfolding allocationRoom
-  room-one g = room-of (c .current) (rw (le-leb l 2 g) at (a .room []))
+  room-one g = room-of (c .cursor .current) (rw (le-leb l 2 g) at (a .room []))
 
   pub room-each : 2 < l → (h : ℕ) → h ≤ 1 → Room c h0 h1 h r p
   unfolding allocationRoom
   room-each g h n =
-      let M = memory h0 h1 (c .frontier0) (c .frontier1) in
+      let M = memory h0 h1 (c .cursor .frontier0) (c .cursor .frontier1) in
       let e : (roomIn M 0 r p && roomIn M 1 r p) ≡ true = rw (lt-leb l 2 g) at (a .room []) in
       let b = both (roomIn M 0 r p) (roomIn M 1 r p) e in
       room-of h (which h n (b .0) (b .1))
     where
-      which : (h : ℕ) → h ≤ 1 → roomIn (memory h0 h1 (c .frontier0) (c .frontier1)) 0 r p ≡ true
-          → roomIn (memory h0 h1 (c .frontier0) (c .frontier1)) 1 r p ≡ true → roomIn (memory h0 h1 (c .frontier0) (c .frontier1)) h r p ≡ true
+      which : (h : ℕ) → h ≤ 1 → roomIn (memory h0 h1 (c .cursor .frontier0) (c .cursor .frontier1)) 0 r p ≡ true
+          → roomIn (memory h0 h1 (c .cursor .frontier0) (c .cursor .frontier1)) 1 r p ≡ true → roomIn (memory h0 h1 (c .cursor .frontier0) (c .cursor .frontier1)) h r p ≡ true
       which zero n x y = x
       which (suc zero) n x y = y
       which (suc (suc h)) n x y = absurd (omega arith)
@@ -106,8 +106,8 @@ pub room-second : {to : ℕ} (d c : Control) (h0 h1 k0 k1 : List ℕ) (from r p 
     → view d k0 k1 [] ≡ withMemory (view c h0 h1 []) (placed (view c h0 h1 [] .memory) from r p x v)
     → Room d k0 k1 to r p
 room-second {to} d c h0 h1 k0 k1 from r p x v n t m e =
-    let M = memory h0 h1 (c .frontier0) (c .frontier1) in
-    let N = memory k0 k1 (d .frontier0) (d .frontier1) in
+    let M = memory h0 h1 (c .cursor .frontier0) (c .cursor .frontier1) in
+    let N = memory k0 k1 (d .cursor .frontier0) (d .cursor .frontier1) in
     let E : N ≡ placed M from r p x v = ap (λ (s : Store). s .memory) e in
     let k = other-kept M from r p x v n in
     let a : frontier N to ≡ frontier M to = ap (λ (Z : Memory). frontier Z to) E ∙ rw t (k .0) in

@@ -14,16 +14,16 @@ use Rattle.rules.specs.Control.{Store, withMemory, withWalk}
 use Rattle.rules.specs.Phases.{otherHalf}
 use Rattle.rules.specs.Collector.{walked, below, pastRecord, handshake, needsShell, shellOf, withShell, allocateShells}
 use Rattle.rules.specs.declared.Answer.the-variants.{Refused}
-use Rattle.rules.proofs.Ranges.{InRange}
+use Rattle.rules.proofs.memory.Cases.{chosen-below}
 use Rattle.heap.specs.View.{memory}
 use Rattle.heap.proofs.Soundness.{Found}
 use Rattle.heap.proofs.Written.{appended}
 use Rattle.store.specs.Steps.{went, stepped}
-use Rattle.store.specs.Work.{worked}
-use Rattle.store.specs.declared.work.Work.{Work}
-use Rattle.store.specs.declared.work.Work.the-variants.{Walks}
 use Rattle.store.specs.Shells.{Shelled}
-use Rattle.store.proofs.Walks.{header-at, size-found}
+use Rattle.store.specs.Cursors.{Ready}
+use Rattle.store.specs.declared.Cursor.{Cursor}
+use Rattle.store.proofs.Cursors.{header-of}
+use Rattle.store.proofs.Walks.{size-found}
 
 -- ---- the shell
 
@@ -63,21 +63,28 @@ half-long : (b : Bool) (h0 h1 : List ℕ) {n : ℕ} → n ≡ length h0 → n �
 half-long true h0 h1 x y = sym x
 half-long false h0 h1 x y = sym y
 
-pub other-long : {s : Store} (h f0 f1 : ℕ) → InRange s → length (half (memory (s .memory .half0) (s .memory .half1) f0 f1) h) ≡ s .lengths .half0
+pub other-long : {c : Cursor} {h0 h1 : List ℕ} (h f0 f1 : ℕ) → Ready c h0 h1 → length (half (memory h0 h1 f0 f1) h) ≡ length h0
 unfolding half
-other-long {s} h f0 f1 k = half-long (eqb h 0) (s .memory .half0) (s .memory .half1) (k .lent0) (k .equal ∙ k .lent1)
+other-long {c} {h0} {h1} h f0 f1 k = half-long (eqb h 0) h0 h1 refl (k .equal)
 
-pub shell-ready : {s : Store} {other at v k r p : ℕ} → InRange s → Found (s .memory) v k r p → other ≡ otherHalf (s .current)
-    → at + (r + p + 3) ≤ s .lengths .half0 → Shelled (s .memory .half0) (s .memory .half1) other at v (r + p)
+pub front-small : {c : Cursor} {h0 h1 : List ℕ} {at : ℕ} (h : ℕ) → Ready c h0 h1 → at ≡ frontier (memory h0 h1 (c .frontier0) (c .frontier1)) h
+    → at ≤ 1048576
+unfolding frontier
+front-small {c} {h0} {h1} {at} h k e =
+    let l = chosen-below (eqb h 0) (c .frontier0) (c .frontier1) (length h0) (k .low) (omega (arith, k .high, k .equal)) in
+    omega (arith, k .most)
+
+pub shell-ready : {c : Cursor} {h0 h1 : List ℕ} {other at v k r p : ℕ} → Ready c h0 h1 → Found (memory h0 h1 (c .frontier0) (c .frontier1)) v k r p
+    → other ≡ otherHalf (c .current) → at + (r + p + 3) ≤ length h0 → Shelled h0 h1 other at v (r + p)
 unfolding otherHalf
-shell-ready {s} {other} {at} {v} g f o l =
+shell-ready {c} {h0} {h1} {other} {at} {v} g f o l =
     let e = other-long other 0 0 g in
     record {
-      shape = header-at g f 0 (omega arith);
-      replica = header-at g f 2 (omega arith);
-      fields = sym (fields-any (s .memory .half0) (s .memory .half1) (s .memory .frontier0) (s .memory .frontier1) v ∙ sym (sum (f .refs) (f .plains)));
-      side = omega arith;
-      few = omega arith;
+      shape = header-of g f 0 (omega arith);
+      replica = header-of g f 2 (omega arith);
+      fields = sym (fields-any h0 h1 (c .frontier0) (c .frontier1) v ∙ sym (sum (f .refs) (f .plains)));
+      side = omega (arith, g .half);
+      few = omega (arith, g .most);
       room = omega arith;
     }
   where
@@ -97,18 +104,18 @@ module _ (s : Store) where
     shells-lost d = rw (b, ← w, d)
 
     module _ {k r p : ℕ} (f : Found (s .memory) v k r p) where
-      pub shells-passed : {o : Work} → needsShell (s .memory) v ≡ false → o ≡ Walks (s .walk .place + (r + p + 3)) 0 → worked s o ≡ stepped s (allocateShells s)
+      pub shells-passed : needsShell (s .memory) v ≡ false → went (withWalk s (s .walk .place + (r + p + 3)) 0) ≡ stepped s (allocateShells s)
       unfolding allocateShells followed pastRecord
-      shells-passed d e = rw (b, ← w, f .sound, d, size-found f, e)
+      shells-passed d = rw (b, ← w, f .sound, d, size-found f)
 
-      module _ {other at : ℕ} (d : needsShell (s .memory) v ≡ true) (h : other ≡ otherHalf (s .current)) (a : at ≡ frontier (s .memory) other) (g : length (half (s .memory) other) ≡ s .lengths .half0) where
-        pub shells-full : s .lengths .half0 < at + (r + p + 3) → record { store = s; reply = answer (Refused 12) } ≡ stepped s (allocateShells s)
+      module _ {other at m : ℕ} (d : needsShell (s .memory) v ≡ true) (h : other ≡ otherHalf (s .current)) (a : at ≡ frontier (s .memory) other) (g : length (half (s .memory) other) ≡ m) where
+        pub shells-full : m < at + (r + p + 3) → record { store = s; reply = answer (Refused 12) } ≡ stepped s (allocateShells s)
         unfolding allocateShells followed
         shells-full l =
-            rw (b, ← w, f .sound, d, size-found f, ← h, ← a, g, lt-leb (at + (r + p + 3)) (s .lengths .half0) l)
+            rw (b, ← w, f .sound, d, size-found f, ← h, ← a, g, lt-leb (at + (r + p + 3)) m l)
 
-        pub shells-made : {N : Memory} → at + (r + p + 3) ≤ s .lengths .half0 → N ≡ withShell (s .memory) other v
+        pub shells-made : {N : Memory} → at + (r + p + 3) ≤ m → N ≡ withShell (s .memory) other v
             → went (withWalk (withMemory s N) (s .walk .place + (r + p + 3)) 0) ≡ stepped s (allocateShells s)
         unfolding allocateShells followed pastRecord
         shells-made l n =
-            rw (b, ← w, f .sound, d, size-found f, ← h, ← a, g, le-leb (at + (r + p + 3)) (s .lengths .half0) l, ← n)
+            rw (b, ← w, f .sound, d, size-found f, ← h, ← a, g, le-leb (at + (r + p + 3)) m l, ← n)

@@ -6,17 +6,19 @@ use mathlib.Core.List.{List}
 use lib.ListN.{length, getD, length-replicate}
 use Rattle.rules.specs.Refusals.{Tested, refused, passed, _>>=_, Outcome, answer, answered, settle}
 use Rattle.rules.specs.Control.{Store, inRange}
-use Rattle.rules.specs.Phases.{sessionAt}
+use Rattle.rules.specs.Phases.{sessionAt, moveOn}
 use Rattle.rules.specs.Collector.{rest, handshake, units, step}
 use Rattle.rules.specs.declared.Answer.the-variants as answers
 use Rattle.rules.proofs.Ranges.{in-range, in-range-tested}
 use Rattle.store.specs.View.{view}
 use Rattle.store.specs.Steps.{stepped, over, unit}
-use Rattle.store.specs.Work.{change, InPhase, worked}
+use Rattle.store.specs.Work.{worked}
+use Rattle.store.specs.Cursors.{having, movedOn, atList}
 use Rattle.store.specs.declared.Control.{Control}
+use Rattle.store.specs.declared.Cursor.{Cursor}
+use Rattle.store.specs.declared.work.Touch.the-variants.{Unmark}
 use Rattle.store.specs.declared.work.Work.{Work}
-use Rattle.store.specs.declared.work.Work.the-variants.{Refused, Starts}
-use Rattle.store.proofs.Changes.{any-work}
+use Rattle.store.specs.declared.work.Work.the-variants.{Refused, Goes}
 
 -- the ranges over one list are those over any as long
 pub over-range : (c : Control) (h0 h1 l : List ℕ) → inRange (view c h0 h1 l) ≡ true → inRange (over c h0 h1) ≡ true
@@ -89,21 +91,21 @@ pub record Met (c : Control) (h0 h1 l k0 k1 m : List ℕ) (w : Work) : Type 0 wh
   pub low : length k0 ≡ length h0
   pub high : length k1 ≡ length h1
   pub listed : length m ≡ length l
-  pub phased : InPhase (c .phase) (change w)
   pub left : worked (view c k0 k1 m) w ≡ settle (view c h0 h1 l) (step (view c h0 h1 l))
 
 module _ (c : Control) (h0 h1 l : List ℕ) {k0 k1 m : List ℕ} {w : Work} where
   pub met-refused : inRange (view c h0 h1 l) ≡ false → k0 ≡ h0 → k1 ≡ h1 → m ≡ l → w ≡ Refused 4 → Met c h0 h1 l k0 k1 m w
   met-refused r a b d e =
-      rw (a, b, d, e) (record { low = refl; high = refl; listed = refl; phased = tt {0}; left = step-refused (view c h0 h1 l) r })
+      rw (a, b, d, e) (record { low = refl; high = refl; listed = refl; left = step-refused (view c h0 h1 l) r })
 
   pub met-done : {j0 j1 n : List ℕ} {x : Work} → inRange (view c h0 h1 l) ≡ true → length j0 ≡ length h0 → length j1 ≡ length h1 → length n ≡ length l
       → worked (view c j0 j1 n) x ≡ stepped (view c h0 h1 l) (unit (view c h0 h1 l)) → k0 ≡ j0 → k1 ≡ j1 → m ≡ n → w ≡ x → Met c h0 h1 l k0 k1 m w
   met-done {x = x} r p q o f a b d e =
       rw (a, b, d, e)
-      (record { low = p; high = q; listed = o; phased = any-work (c .phase) (in-range (view c h0 h1 l) r .phases) (change x); left = step-done (view c h0 h1 l) r f })
+      (record { low = p; high = q; listed = o; left = step-done (view c h0 h1 l) r f })
 
 -- phase 0 empties the list and moves on
-pub rests : (s : Store) → worked s Starts ≡ stepped s (rest s)
-unfolding rest
-rests s = refl
+pub rests : {w : Work} (s : Store) (c : Cursor) (h0 h1 l : List ℕ) → w ≡ Goes (movedOn (atList c 0 0)) Unmark
+    → worked (having s c h0 h1 l) w ≡ stepped (having s c h0 h1 l) (rest (having s c h0 h1 l))
+unfolding rest moveOn
+rests s c h0 h1 l e = rw e

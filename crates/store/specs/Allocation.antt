@@ -17,16 +17,16 @@ pub record Fits (c : Control) (h0 h1 : List ℕ) : Type 0 where
 
 -- the current half, the frontiers and the counts are in range
 pub record Small (c : Control) (r p : ℕ) : Type 0 where
-  pub half : c .current ≤ 1
-  pub low : c .frontier0 ≤ 1048576
-  pub high : c .frontier1 ≤ 1048576
+  pub half : c .cursor .current ≤ 1
+  pub low : c .cursor .frontier0 ≤ 1048576
+  pub high : c .cursor .frontier1 ≤ 1048576
   pub refs : r ≤ 255
   pub plains : p ≤ 255
 
 -- half h has room above its frontier
 pub record Room (c : Control) (h0 h1 : List ℕ) (h r p : ℕ) : Type 0 where
-  pub above : frontier (memory h0 h1 (c .frontier0) (c .frontier1)) h + (r + p + 3) ≤ length (half (memory h0 h1 (c .frontier0) (c .frontier1)) h)
-  pub short : frontier (memory h0 h1 (c .frontier0) (c .frontier1)) h ≤ 1048576
+  pub above : frontier (memory h0 h1 (c .cursor .frontier0) (c .cursor .frontier1)) h + (r + p + 3) ≤ length (half (memory h0 h1 (c .cursor .frontier0) (c .cursor .frontier1)) h)
+  pub short : frontier (memory h0 h1 (c .cursor .frontier0) (c .cursor .frontier1)) h ≤ 1048576
   pub refs : r ≤ 255
   pub plains : p ≤ 255
 

@@ -5,10 +5,11 @@ use mathlib.Core.Bool.{true}
 use mathlib.Core.List.{List}
 use Rattle.rules.specs.Refusals.{Tested, passed, _>>=_, Outcome}
 use Rattle.rules.specs.Memory.{Memory, sound, refs, plains, replica}
-use Rattle.rules.specs.Control.{Store, withMemory, withWalk, inRange}
+use Rattle.rules.specs.Control.{Store, withMemory, withWalk}
 use Rattle.heap.specs.View.{memory}
-use Rattle.store.specs.Steps.{stepped, over}
-use Rattle.store.specs.declared.Control.{Control}
+use Rattle.store.specs.Steps.{stepped}
+use Rattle.store.specs.Cursors.{Ready}
+use Rattle.store.specs.declared.Cursor.{Cursor}
 
 -- the walk goes on to the next field of its record
 abbrev pub nextField : Store → Memory → Tested Store
@@ -19,14 +20,14 @@ abbrev pub fieldCopied : Store → Tested Memory → Outcome Store
 fieldCopied s m = stepped s (m >>= nextField s)
 
 -- two sound records, one to be copied to the other
-pub record Copies (c : Control) (h0 h1 : List ℕ) (v t : ℕ) : Type 0 where
-  pub ranges : inRange (over c h0 h1) ≡ true
+pub record Copies (c : Cursor) (h0 h1 : List ℕ) (v t : ℕ) : Type 0 where
+  pub ranges : Ready c h0 h1
   pub here : sound (memory h0 h1 (c .frontier0) (c .frontier1)) v ≡ true
   pub there : sound (memory h0 h1 (c .frontier0) (c .frontier1)) t ≡ true
 
 -- a sound record of r reference fields that has a field left, and its replica
-pub record Copying (c : Control) (h0 h1 : List ℕ) (v t r : ℕ) : Type 0 where
-  pub ranges : inRange (over c h0 h1) ≡ true
+pub record Copying (c : Cursor) (h0 h1 : List ℕ) (v t r : ℕ) : Type 0 where
+  pub ranges : Ready c h0 h1
   pub here : sound (memory h0 h1 (c .frontier0) (c .frontier1)) v ≡ true
   pub replica : t ≡ replica (memory h0 h1 (c .frontier0) (c .frontier1)) v
   pub count : r ≡ refs (memory h0 h1 (c .frontier0) (c .frontier1)) v

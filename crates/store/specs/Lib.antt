@@ -10,6 +10,8 @@ pub mod Plain
 pub mod Stores
 -- What a collector step leaves.
 pub mod Steps
+-- The collector's numbers.
+pub mod Cursors
 -- What a unit of the collector's work leaves, by what the code hands out of it.
 pub mod Work
 -- Marking: white registers, and shading as a step of a walk.

@@ -11,11 +11,11 @@ abbrev pub view : Control → List ℕ → List ℕ → List ℕ → Store
 view c h0 h1 l =
     record {
       lengths = record { half0 = c .length0; half1 = c .length1; list = c .capacity };
-      memory = record { half0 = h0; half1 = h1; frontier0 = c .frontier0; frontier1 = c .frontier1 };
-      current = c .current;
-      phase = c .phase;
-      walk = record { place = c .place; field = c .field };
-      list = record { words = l; head = c .head; tail = c .tail };
+      memory = record { half0 = h0; half1 = h1; frontier0 = c .cursor .frontier0; frontier1 = c .cursor .frontier1 };
+      current = c .cursor .current;
+      phase = c .cursor .phase;
+      walk = record { place = c .cursor .place; field = c .cursor .field };
+      list = record { words = l; head = c .cursor .head; tail = c .cursor .tail };
       globals = c .globals;
       sessions = c .sessions;
     }

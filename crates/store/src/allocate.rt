@@ -24,12 +24,12 @@ impl Control {
         ensures { λ b. ⌜ ((h0 h1 l : List ℕ) → Fits self h0 h1 → b ≡ allocationRoom (view self h0 h1 l) level r p) ⌝ }
     {
         let n = 3 + (r as usize) + (p as usize);
-        let low = self.frontier0 + n <= self.length0;
-        let high = self.frontier1 + n <= self.length0;
+        let low = self.cursor.frontier0 + n <= self.length0;
+        let high = self.cursor.frontier1 + n <= self.length0;
         if 2 < level {
             return low & high;
         }
-        if self.current == 0 { low } else { high }
+        if self.cursor.current == 0 { low } else { high }
     }
 
     // The tests 4, 5, 6, 8, 10 and 14: the number of the first that fails, or 0.
@@ -78,7 +78,7 @@ impl Control {
             ≡ withMemory (view self (now (h0 .entry)) (now (h1 .entry)) l)
             (placed (view self (now (h0 .entry)) (now (h1 .entry)) l .memory) h r p colour replica)) ⌝ }
     {
-        let at = frontier(self.frontier0, self.frontier1, h);
+        let at = frontier(self.cursor.frontier0, self.cursor.frontier1, h);
         let n = (r as usize) + (p as usize);
         append_record(h0, h1, h, at, 256 * r + p, colour, replica, n);
         self.with_frontier(h, at + (n + 3))
@@ -93,26 +93,32 @@ impl Control {
             (allocated (view self (now (h0 .entry)) (now (h1 .entry)) l) level r p)) ⌝ }
     {
         if level <= 1 {
-            return self.placed(h0, h1, self.current, r, p, 0, 0);
+            return self.placed(h0, h1, self.cursor.current, r, p, 0, 0);
         }
         if level <= 2 {
-            return self.placed(h0, h1, self.current, r, p, 2, 0);
+            return self.placed(h0, h1, self.cursor.current, r, p, 2, 0);
         }
         let from = self.fromspace();
         let to = other_half(from);
-        let old = reference(from, frontier(self.frontier0, self.frontier1, from));
-        let new = reference(to, frontier(self.frontier0, self.frontier1, to));
+        let old = reference(
+            from,
+            frontier(self.cursor.frontier0, self.cursor.frontier1, from),
+        );
+        let new = reference(
+            to,
+            frontier(self.cursor.frontier0, self.cursor.frontier1, to),
+        );
         let first = self.placed(h0, h1, from, r, p, 2, new);
         first.placed(h0, h1, to, r, p, 0, old)
     }
 
     // The half whose copy the register gets.
     fn allocated_half(self, level: u32) -> u32
-        requires { ⌜ self .current ≤ 1 ⌝ }
+        requires { ⌜ self .cursor .current ≤ 1 ⌝ }
         ensures { λ h. ⌜ (h ≤ 1) × ((h0 h1 l : List ℕ) → nextReference (view self h0 h1 l .memory) h ≡ allocatedReference (view self h0 h1 l) level) ⌝ }
     {
         if level <= 2 {
-            return self.current;
+            return self.cursor.current;
         }
         let from = self.fromspace();
         if level <= 5 {
@@ -123,11 +129,11 @@ impl Control {
 
     // The reference that the register gets.
     fn allocated_reference(self, level: u32) -> u32
-        requires { ⌜ (self .current ≤ 1) × (self .frontier0 ≤ 1048576) × (self .frontier1 ≤ 1048576) ⌝ }
+        requires { ⌜ (self .cursor .current ≤ 1) × (self .cursor .frontier0 ≤ 1048576) × (self .cursor .frontier1 ≤ 1048576) ⌝ }
         ensures { λ v. ⌜ ((h0 h1 l : List ℕ) → v ≡ allocatedReference (view self h0 h1 l) level) ⌝ }
     {
         let h = self.allocated_half(level);
-        reference(h, frontier(self.frontier0, self.frontier1, h))
+        reference(h, frontier(self.cursor.frontier0, self.cursor.frontier1, h))
     }
 
     // Allocate: the register gets a record of r null references and p zeros.

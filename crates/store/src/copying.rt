@@ -1,18 +1,16 @@
 // Phase 7, Copy: field after field of each record with a replica, references forwarded.
 ghost use mathlib.Core.Path.{_≡_};
-ghost use Prim.Native.Nat.{ℕ, _+_, _≤_, _<_};
-ghost use mathlib.Core.Bool.{true};
+ghost use Prim.Native.Nat.{ℕ, _<_};
 ghost use mathlib.Core.List.{List};
 ghost use Rattle.rules.specs.Memory.{refs, plains};
-ghost use Rattle.rules.specs.Control.{inRange};
+ghost use Rattle.rules.specs.Control.{Store};
 ghost use Rattle.rules.specs.Collector.{copyRef, copyPlain, copyField, copy};
 ghost use Rattle.heap.specs.View.{memory, Inside};
-ghost use Rattle.store.specs.View.{view};
-ghost use Rattle.store.specs.Steps.{stepped, over};
+ghost use Rattle.store.specs.Steps.{stepped};
+ghost use Rattle.store.specs.Cursors.{having, Ready};
 ghost use Rattle.store.specs.Work.{worked};
-ghost use Rattle.store.specs.declared.work.Work.the-variants.{Walks};
 ghost use Rattle.store.specs.Copies.{fieldCopied, Copies, Copying};
-use crate::Control;
+use crate::Cursor;
 use crate::work::Work;
 use heap::Checked;
 use heap::following::follow;
@@ -31,21 +29,13 @@ fn plains_of<'a>(h0: &'a [u32], h1: &'a [u32], v: u32) -> u32
     shape % 256
 }
 
-impl Control {
-    // The walk goes on to the next field of its record.
-    fn past_field(self) -> Work
-        requires { ⌜ self .field ≤ 510 ⌝ }
-        ensures { λ r. ⌜ r ≡ Walks (self .place) (self .field + 1) ⌝ }
-    {
-        Work::Walks(self.place, self.field + 1)
-    }
-
+impl Cursor {
     // The next field of v, a reference field, forwarded and written to the replica t.
     fn copy_ref(self, h0: &mut [u32], h1: &mut [u32], v: u32, t: u32) -> Work
         requires { ⌜ Copies self (now h0) (now h1) v t × (self .field < refs (memory (now h0) (now h1) (self .frontier0) (self .frontier1)) v) ⌝ }
-        ensures { λ o. ⌜ ((l : List ℕ) → worked (view self (now (h0 .exit)) (now (h1 .exit)) l) o
-            ≡ fieldCopied (view self (now (h0 .entry)) (now (h1 .entry)) l)
-            (copyRef (view self (now (h0 .entry)) (now (h1 .entry)) l) v t (self .field))) ⌝ }
+        ensures { λ o. ⌜ ((s : Store) (l : List ℕ) → worked (having s self (now (h0 .exit)) (now (h1 .exit)) l) o
+            ≡ fieldCopied (having s self (now (h0 .entry)) (now (h1 .entry)) l)
+            (copyRef (having s self (now (h0 .entry)) (now (h1 .entry)) l) v t (self .field))) ⌝ }
     {
         let i = self.field;
         let n = refs_of(h0, h1, t);
@@ -53,7 +43,7 @@ impl Control {
             return Work::Refused(12);
         }
         let q = get_word(h0, h1, v, 3 + i);
-        let b = self.bounds();
+        let b = self.bounds(self.tail);
         let Checked::Word(w) = forward(b, h0, h1, q) else {
             return Work::Refused(12);
         };
@@ -64,9 +54,9 @@ impl Control {
     // The next field of v, plain field number i, written to the replica t.
     fn copy_plain(self, h0: &mut [u32], h1: &mut [u32], v: u32, t: u32, i: usize) -> Work
         requires { ⌜ Copies self (now h0) (now h1) v t × (i < plains (memory (now h0) (now h1) (self .frontier0) (self .frontier1)) v) ⌝ }
-        ensures { λ o. ⌜ ((l : List ℕ) → worked (view self (now (h0 .exit)) (now (h1 .exit)) l) o
-            ≡ fieldCopied (view self (now (h0 .entry)) (now (h1 .entry)) l)
-            (copyPlain (view self (now (h0 .entry)) (now (h1 .entry)) l) v t i)) ⌝ }
+        ensures { λ o. ⌜ ((s : Store) (l : List ℕ) → worked (having s self (now (h0 .exit)) (now (h1 .exit)) l) o
+            ≡ fieldCopied (having s self (now (h0 .entry)) (now (h1 .entry)) l)
+            (copyPlain (having s self (now (h0 .entry)) (now (h1 .entry)) l) v t i)) ⌝ }
     {
         let m = plains_of(h0, h1, t);
         if (m as usize) <= i {
@@ -82,9 +72,9 @@ impl Control {
     // The next field of v, a record with a replica t, copied to t.
     fn copy_field(self, h0: &mut [u32], h1: &mut [u32], v: u32, t: u32, r: u32) -> Work
         requires { ⌜ Copying self (now h0) (now h1) v t r ⌝ }
-        ensures { λ o. ⌜ ((l : List ℕ) → worked (view self (now (h0 .exit)) (now (h1 .exit)) l) o
-            ≡ stepped (view self (now (h0 .entry)) (now (h1 .entry)) l)
-            (copyField (view self (now (h0 .entry)) (now (h1 .entry)) l) v (self .field))) ⌝ }
+        ensures { λ o. ⌜ ((s : Store) (l : List ℕ) → worked (having s self (now (h0 .exit)) (now (h1 .exit)) l) o
+            ≡ stepped (having s self (now (h0 .entry)) (now (h1 .entry)) l)
+            (copyField (having s self (now (h0 .entry)) (now (h1 .entry)) l) v (self .field))) ⌝ }
     {
         let Followed::Sound(_, _, _) = follow(h0, h1, self.frontier0, self.frontier1, t) else {
             return Work::Refused(12);
@@ -100,14 +90,14 @@ impl Control {
     // Phase 7: the next field of a record with a replica is copied; past the last one, or without a replica, the walk
     // goes on to the next record. At the frontier the step moves on.
     pub(crate) fn copy(self, h0: &mut [u32], h1: &mut [u32]) -> Work
-        requires { ⌜ inRange (over self (now h0) (now h1)) ≡ true ⌝ }
-        ensures { λ r. ⌜ ((l : List ℕ) → worked (view self (now (h0 .exit)) (now (h1 .exit)) l) r
-            ≡ stepped (view self (now (h0 .entry)) (now (h1 .entry)) l)
-            (copy (view self (now (h0 .entry)) (now (h1 .entry)) l))) ⌝ }
+        requires { ⌜ Ready self (now h0) (now h1) ⌝ }
+        ensures { λ r. ⌜ ((s : Store) (l : List ℕ) → worked (having s self (now (h0 .exit)) (now (h1 .exit)) l) r
+            ≡ stepped (having s self (now (h0 .entry)) (now (h1 .entry)) l)
+            (copy (having s self (now (h0 .entry)) (now (h1 .entry)) l))) ⌝ }
     {
         let below = self.below();
         if !below {
-            return Work::MovesOn;
+            return self.moves_on();
         }
         let v = self.walked();
         let Followed::Sound(_, r, p) = follow(h0, h1, self.frontier0, self.frontier1, v) else {

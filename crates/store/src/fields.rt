@@ -34,7 +34,13 @@ impl Control {
             Held::Operands(operands) => operands,
         };
         let v = operands.own;
-        let Followed::Sound(_, r, _) = follow(h0, h1, self.frontier0, self.frontier1, v) else {
+        let Followed::Sound(_, r, _) = follow(
+            h0,
+            h1,
+            self.cursor.frontier0,
+            self.cursor.frontier1,
+            v,
+        ) else {
             return Reply {
                 control: self,
                 answer: rules::Answer::Refused(12),
@@ -73,7 +79,13 @@ impl Control {
             Held::Operands(operands) => operands,
         };
         let v = operands.own;
-        let Followed::Sound(_, r, p) = follow(h0, h1, self.frontier0, self.frontier1, v) else {
+        let Followed::Sound(_, r, p) = follow(
+            h0,
+            h1,
+            self.cursor.frontier0,
+            self.cursor.frontier1,
+            v,
+        ) else {
             return rules::Answer::Refused(12);
         };
         if p <= field {

@@ -14,6 +14,7 @@ ghost use Rattle.store.specs.Flips.{forwarded};
 use crate::Control;
 use crate::searching::Wanted;
 use crate::work::Stack;
+use crate::work::Touch;
 use crate::work::Work;
 use heap::Bounds;
 use heap::Checked;
@@ -58,16 +59,19 @@ impl Control {
             ≡ stepped (view self (now (h0 .entry)) (now (h1 .entry)) l)
             (rootFlip (view self (now (h0 .entry)) (now (h1 .entry)) l))) ⌝ }
     {
-        let place = self.place;
+        let place = self.cursor.place;
         if Control::GLOBALS <= place {
-            return Work::MovesOn;
+            let c = self.cursor;
+            return c.moves_on();
         }
         let v = self.globals[place];
         let b = self.bounds();
         let Checked::Word(q) = forward(b, h0, h1, v) else {
             return Work::Refused(12);
         };
-        Work::Forwards(q, place + 1)
+        let mut c = self.cursor;
+        c.place = place + 1;
+        Work::Goes(c, Touch::Global(place, q))
     }
 
     // Phase 11: the registers of the lowest attached session without a mark forwarded, and the session marked; with
@@ -82,7 +86,9 @@ impl Control {
         let sessions = self.sessions;
         let n = Control::lowest(sessions, 0, Wanted::Unscanned);
         if 16 <= n {
-            return Work::Flips(other_half(b.from));
+            let half = other_half(b.from);
+            let c = self.cursor;
+            return c.flips(half);
         }
         let session = self.sessions[n];
         let registers = session.registers;
@@ -92,6 +98,7 @@ impl Control {
         }
         let words = moved.words;
         let stack = Stack::of(words);
-        Work::Marks(n, stack)
+        let c = self.cursor;
+        Work::Goes(c, Touch::Session(n, stack))
     }
 }

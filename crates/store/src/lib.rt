@@ -31,12 +31,9 @@ mod flipping; // flipping.rt: phases 10 and 11, RootFlip and StackFlip
 mod reclaiming; // reclaiming.rt: phase 12, Reclaim
 mod step; // step.rt: the collector step
 
-// Document 01's list: the three lent lengths, current half, frontiers, phase, walk place, walk field, the grey list's
-// place (head) and end (tail), 32 global references and the sessions.
-pub struct Control {
-    pub length0: usize,
-    pub length1: usize,
-    pub capacity: usize,
+// The collector's own numbers: current half, frontiers, phase, walk place, walk field, the grey list's place (head) and
+// end (tail).
+pub struct Cursor {
     pub current: u32,
     pub frontier0: usize,
     pub frontier1: usize,
@@ -45,6 +42,14 @@ pub struct Control {
     pub field: usize,
     pub head: usize,
     pub tail: usize,
+}
+
+// Document 01's list: the three lent lengths, the collector's numbers, 32 global references and the sessions.
+pub struct Control {
+    pub length0: usize,
+    pub length1: usize,
+    pub capacity: usize,
+    pub cursor: Cursor,
     pub globals: [u32; 32],
     pub sessions: [rules::Session; 16],
 }
@@ -117,10 +122,7 @@ impl Control {
             attached: false,
             scanned: false,
         };
-        Self {
-            length0,
-            length1,
-            capacity,
+        let cursor = Cursor {
             current: 0,
             frontier0: 0,
             frontier1: 0,
@@ -129,6 +131,12 @@ impl Control {
             field: 0,
             head: 0,
             tail: 0,
+        };
+        Self {
+            length0,
+            length1,
+            capacity,
+            cursor,
             globals: [0; 32],
             sessions: [nobody; 16],
         }

@@ -16,11 +16,17 @@ impl Control {
             & (n <= Control::MOST_LENGTH)
             & (n == self.length1)
             & (n / Control::HEADER <= self.capacity);
-        let halves = (self.current <= 1) & (self.frontier0 <= n) & (self.frontier1 <= n);
-        let roots = (self.phase == Control::ROOT_MARK) | (self.phase == Control::ROOT_FLIP);
-        let place = (roots & (self.place <= Control::GLOBALS)) | (!roots & (self.place <= n));
-        let walk = (self.phase <= Control::RECLAIM) & place & (self.field <= Control::MOST_FIELDS);
-        let grey = (self.head <= self.tail) & (self.tail <= self.capacity);
+        let halves = (self.cursor.current <= 1)
+            & (self.cursor.frontier0 <= n)
+            & (self.cursor.frontier1 <= n);
+        let roots = (self.cursor.phase == Control::ROOT_MARK)
+            | (self.cursor.phase == Control::ROOT_FLIP);
+        let place = (roots & (self.cursor.place <= Control::GLOBALS))
+            | (!roots & (self.cursor.place <= n));
+        let walk = (self.cursor.phase <= Control::RECLAIM)
+            & place
+            & (self.cursor.field <= Control::MOST_FIELDS);
+        let grey = (self.cursor.head <= self.cursor.tail) & (self.cursor.tail <= self.capacity);
         let sessions = self.sessions;
         let levels = Control::lowest(sessions, 0, Wanted::Above(Control::LAST_LEVEL)) == 16;
         lent & allowed & halves & walk & grey & levels

@@ -16,6 +16,7 @@ ghost use Rattle.store.specs.Marking.{among, whites, greyed};
 use crate::Control;
 use crate::shade::put_grey;
 use crate::work::Stack;
+use crate::work::Touch;
 use crate::work::Work;
 use heap::Bounds;
 use heap::Checked;
@@ -119,17 +120,19 @@ impl Control {
         let count = found.count;
         let words = found.words;
         let sound = found.sound;
-        let fits = count <= self.capacity - self.tail;
+        let fits = count <= self.capacity - self.cursor.tail;
         if !(sound & fits) {
             return Work::Refused(12);
         }
         if count == 0 {
             let stack = Stack::of(registers);
-            return Work::Marks(n, stack);
+            let c = self.cursor;
+            return Work::Goes(c, Touch::Session(n, stack));
         }
-        let end = self.tail;
+        let end = self.cursor.tail;
         shade_all(h0, h1, list, end, count, words);
         let next = end + count;
-        Work::Shades(next, self.place, self.field)
+        let c = self.cursor;
+        c.shades(next, c.place, c.field)
     }
 }

@@ -62,7 +62,7 @@ impl Control {
             };
         }
         let i = s as usize;
-        let phase = self.phase;
+        let phase = self.cursor.phase;
         let level = Control::level_of(phase);
         self.sessions[i] = rules::Session {
             registers: [0; 8],
@@ -115,7 +115,7 @@ impl Control {
             };
         }
         let i = s as usize;
-        let phase = self.phase;
+        let phase = self.cursor.phase;
         let mut session = self.sessions[i];
         session.level = Control::level_of(phase);
         self.sessions[i] = session;

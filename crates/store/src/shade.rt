@@ -11,7 +11,6 @@ ghost use Rattle.store.specs.View.{view};
 use crate::Control;
 use crate::searching::Wanted;
 use heap::Bounds;
-use heap::forwarding::other_half;
 use heap::words::put_word;
 
 // What shading writes: the record v coloured grey, and put on the list at its end.
@@ -30,24 +29,16 @@ impl Control {
     pub(crate) fn fromspace(self) -> u32
         ensures { λ r. ⌜ ((h0 h1 l : List ℕ) → r ≡ fromspace (view self h0 h1 l)) ⌝ }
     {
-        if self.phase == Control::RECLAIM {
-            return other_half(self.current);
-        }
-        self.current
+        let c = self.cursor;
+        c.fromspace()
     }
 
     // The bounds that the functions over lent halves ask for.
     pub(crate) fn bounds(self) -> Bounds
         ensures { λ r. ⌜ ((h0 h1 l : List ℕ) → self .capacity ≡ length l → heap r h0 h1 ≡ heapOf (view self h0 h1 l)) ⌝ }
     {
-        let from = self.fromspace();
-        Bounds {
-            frontier0: self.frontier0,
-            frontier1: self.frontier1,
-            from,
-            tail: self.tail,
-            capacity: self.capacity,
-        }
+        let c = self.cursor;
+        c.bounds(self.capacity)
     }
 
     // The sessions with no scanned mark. Only a session that has one is written.
@@ -67,14 +58,16 @@ impl Control {
 
     // The record v shaded; nothing where v is null.
     pub(crate) fn shade(mut self, h0: &mut [u32], h1: &mut [u32], list: &mut [u32], v: u32) -> Self
-        requires { ⌜ ((v ≡ 0 → ⊥) → Inside (now h0) (now h1) v colourAt × (self .tail < length (now list))) ⌝ }
+        requires { ⌜ ((v ≡ 0 → ⊥) → Inside (now h0) (now h1) v colourAt × (self .cursor .tail < length (now list))) ⌝ }
         ensures { λ r. ⌜ view r (now (h0 .exit)) (now (h1 .exit)) (now (list .exit))
             ≡ shade (view self (now (h0 .entry)) (now (h1 .entry)) (now (list .entry))) v ⌝ }
     {
         if v != 0 {
-            let end = self.tail;
+            let end = self.cursor.tail;
             put_grey(h0, h1, list, end, v);
-            self.tail = end + 1;
+            let mut c = self.cursor;
+            c.tail = end + 1;
+            self.cursor = c;
             let sessions = self.sessions;
             let unscanned = Control::unmarked(sessions);
             self.sessions = unscanned;

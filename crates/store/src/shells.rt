@@ -1,17 +1,16 @@
 // Phase 5, Allocate: a shell in the other half for each record that isn't white and has no replica.
 ghost use mathlib.Core.Path.{_≡_};
 ghost use Prim.Native.Nat.{ℕ, _+_};
-ghost use mathlib.Core.Bool.{true};
 ghost use mathlib.Core.List.{List};
 ghost use Rattle.rules.specs.Memory.{frontier, withFrontier};
-ghost use Rattle.rules.specs.Control.{inRange};
-ghost use Rattle.rules.specs.Collector.{needsShell, withShell, allocateShells};
+ghost use Rattle.rules.specs.Control.{Store};
+ghost use Rattle.rules.specs.Collector.{haveLevel, needsShell, withShell, allocateShells};
 ghost use Rattle.heap.specs.View.{memory, Inside};
-ghost use Rattle.store.specs.View.{view};
-ghost use Rattle.store.specs.Steps.{stepped, over};
+ghost use Rattle.store.specs.Steps.{stepped};
+ghost use Rattle.store.specs.Cursors.{having, Ready};
 ghost use Rattle.store.specs.Work.{worked};
 ghost use Rattle.store.specs.Shells.{Shelled};
-use crate::Control;
+use crate::Cursor;
 use crate::walking::frontier;
 use crate::walking::reference;
 use crate::work::Work;
@@ -45,17 +44,18 @@ fn put_shell(h0: &mut [u32], h1: &mut [u32], other: u32, at: usize, v: u32, n: u
     put_word(h0, h1, v, 2, shell);
 }
 
-impl Control {
+impl Cursor {
     // Phase 5: the next record gets its shell where it needs one; at the frontier the handshake.
-    pub(crate) fn allocate_shells(self, h0: &mut [u32], h1: &mut [u32]) -> Work
-        requires { ⌜ inRange (over self (now h0) (now h1)) ≡ true ⌝ }
-        ensures { λ r. ⌜ ((l : List ℕ) → worked (view self (now (h0 .exit)) (now (h1 .exit)) l) r
-            ≡ stepped (view self (now (h0 .entry)) (now (h1 .entry)) l)
-            (allocateShells (view self (now (h0 .entry)) (now (h1 .entry)) l))) ⌝ }
+    pub(crate) fn allocate_shells(self, ready: bool, h0: &mut [u32], h1: &mut [u32]) -> Work
+        requires { ⌜ Ready self (now h0) (now h1) ⌝ }
+        ensures { λ r. ⌜ ((s : Store) (l : List ℕ) → ready ≡ haveLevel (having s self (now (h0 .entry)) (now (h1 .entry)) l)
+            → worked (having s self (now (h0 .exit)) (now (h1 .exit)) l) r
+            ≡ stepped (having s self (now (h0 .entry)) (now (h1 .entry)) l)
+            (allocateShells (having s self (now (h0 .entry)) (now (h1 .entry)) l))) ⌝ }
     {
         let below = self.below();
         if !below {
-            return self.handshake();
+            return self.handshake(ready);
         }
         let v = self.walked();
         let Followed::Sound(_, r, p) = follow(h0, h1, self.frontier0, self.frontier1, v) else {
@@ -68,10 +68,11 @@ impl Control {
         }
         let other = other_half(self.current);
         let at = frontier(self.frontier0, self.frontier1, other);
-        if self.length0 < at + (n + 3) {
+        if h0.len() < at + (n + 3) {
             return Work::Refused(12);
         }
         put_shell(h0, h1, other, at, v, n);
-        Work::Shells(other, at + (n + 3), self.place + (n + 3))
+        let grown = self.with_frontier(other, at + (n + 3));
+        grown.past_record(n + 3)
     }
 }

@@ -14,26 +14,36 @@ impl Control {
     {
         // test 4 is the first of the session tests, whatever the session
         let refusal = self.session_tests(h0, h1, list, 0);
-        let phase = self.phase;
+        let c = self.cursor;
+        let phase = c.phase;
         let work = if refusal == 4 {
             Work::Refused(4)
         } else {
             match phase {
-                0 => Work::Starts,
+                0 => c.starts(),
                 3 => self.root_mark(h0, h1, list),
                 4 => self.heap_mark(h0, h1, list),
-                5 => self.allocate_shells(h0, h1),
-                7 => self.copy(h0, h1),
+                5 => {
+                    let ready = self.have_level();
+                    c.allocate_shells(ready, h0, h1)
+                }
+                7 => c.copy(h0, h1),
                 10 => self.root_flip(h0, h1),
                 11 => self.stack_flip(h0, h1),
-                12 => self.reclaim(h0, h1),
-                _ => self.handshake(),
+                12 => {
+                    let ready = self.have_level();
+                    c.reclaim(ready, h0, h1)
+                }
+                _ => {
+                    let ready = self.have_level();
+                    c.handshake(ready)
+                }
             }
         };
         let next = self.after(work);
         let answer = match work {
             Work::Refused(n) => rules::Answer::Refused(n),
-            _ => rules::Answer::Phase(next.phase),
+            _ => rules::Answer::Phase(next.cursor.phase),
         };
         Reply {
             control: next,

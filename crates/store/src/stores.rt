@@ -39,8 +39,8 @@ impl Control {
             Held::Operands(operands) => operands,
         };
         let v = operands.own;
-        let f0 = self.frontier0;
-        let f1 = self.frontier1;
+        let f0 = self.cursor.frontier0;
+        let f1 = self.cursor.frontier1;
         let Followed::Sound(_, r, _) = follow(h0, h1, f0, f1, v) else {
             return Storing::Refusal(12);
         };

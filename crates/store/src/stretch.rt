@@ -25,7 +25,13 @@ impl Control {
             return &h0[..0];
         };
         let v = operands.own;
-        let Followed::Sound(at, r, p) = follow(h0, h1, self.frontier0, self.frontier1, v) else {
+        let Followed::Sound(at, r, p) = follow(
+            h0,
+            h1,
+            self.cursor.frontier0,
+            self.cursor.frontier1,
+            v,
+        ) else {
             return &h0[..0];
         };
         let half = half_of(h0, h1, v);
@@ -52,7 +58,13 @@ impl Control {
             Held::Operands(operands) => operands,
         };
         let v = operands.own;
-        let Followed::Sound(_, _, _) = follow(h0, h1, self.frontier0, self.frontier1, v) else {
+        let Followed::Sound(_, _, _) = follow(
+            h0,
+            h1,
+            self.cursor.frontier0,
+            self.cursor.frontier1,
+            v,
+        ) else {
             return rules::Answer::Refused(12);
         };
         rules::Answer::Done

@@ -1,13 +1,14 @@
 // What a unit of the collector's work hands out, and the control record after it. A phase reads the control record and
 // writes the lent words; what becomes of the control record it only hands out, so that a step copies it once.
 ghost use mathlib.Core.Path.{_≡_};
-ghost use Prim.Native.Nat.{ℕ, _≤_};
+ghost use Prim.Native.Nat.{ℕ};
 ghost use mathlib.Core.Bool.{true};
 ghost use mathlib.Core.List.{List};
 ghost use Rattle.rules.specs.Phases.{sessionAt, withSession, withRegisters, withMark};
 ghost use Rattle.store.specs.View.{view};
-ghost use Rattle.store.specs.Work.{registers, change, InPhase, moved, after};
+ghost use Rattle.store.specs.Work.{registers, touched, after};
 use crate::Control;
+use crate::Cursor;
 
 // The eight registers of a session, one by one: an enum holds no array.
 pub struct Stack {
@@ -55,32 +56,22 @@ impl Stack {
     }
 }
 
-// What a unit of work changes in the control record, its words being written already.
-pub enum Work {
-    // nothing: the number of the refusal
-    Refused(u32),
-    // nothing: some session has not the level yet
-    Waits,
-    // walk place and walk field
-    Walks(usize, usize),
-    // records were shaded: the list's end, no scanned mark, walk place and walk field
-    Shades(usize, usize, usize),
-    // a record was coloured black: the list's place
-    Blackens(usize),
+// What is touched beside the collector's numbers.
+pub enum Touch {
+    Nothing,
+    // the scanned marks, cleared
+    Unmark,
+    // a global's word
+    Global(usize, u32),
     // a session's registers, and its scanned mark
-    Marks(usize, Stack),
-    // a shell was made: the frontier of a half, and the walk place
-    Shells(u32, usize, usize),
-    // the global at the walk place, and the next walk place
-    Forwards(u32, usize),
-    // the next phase
-    MovesOn,
-    // the list emptied, and the next phase
-    Starts,
-    // the current half, and the next phase
-    Flips(u32),
-    // a half emptied, and the next phase
-    Empties(u32),
+    Session(usize, Stack),
+}
+
+// What a unit of work hands out, its words being written already: the number of the refusal, or the collector's next
+// numbers and what else is touched.
+pub enum Work {
+    Refused(u32),
+    Goes(Cursor, Touch),
 }
 
 impl Control {
@@ -99,62 +90,37 @@ impl Control {
         self
     }
 
-    // The next phase, after what changes beside it.
-    fn moved(mut self, work: Work) -> Self
-        requires { ⌜ self .phase ≤ 12 ⌝ }
-        ensures { λ r. ⌜ ((h0 h1 l : List ℕ) → view r h0 h1 l ≡ moved (view self h0 h1 l) work) ⌝ }
+    // The control record with what a unit of work touches.
+    fn touched(mut self, touch: Touch) -> Self
+        ensures { λ r. ⌜ ((h0 h1 l : List ℕ) → view r h0 h1 l ≡ touched (view self h0 h1 l) touch) ⌝ }
     {
-        match work {
-            Work::Starts => {
-                self.head = 0;
-                self.tail = 0;
+        match touch {
+            Touch::Nothing => {}
+            Touch::Unmark => {
+                let sessions = self.sessions;
+                self.sessions = Control::unmarked(sessions);
             }
-            Work::Flips(half) => self.current = half,
-            Work::Empties(half) => self = self.with_frontier(half, 0),
-            _ => {}
+            Touch::Global(place, word) => {
+                // past the last global nothing
+                if place < Control::GLOBALS {
+                    self.globals[place] = word;
+                }
+            }
+            Touch::Session(n, stack) => self = self.with_scanned(n, stack),
         }
-        self.move_on()
+        self
     }
 
     // The control record after a unit of work.
     pub(crate) fn after(mut self, work: Work) -> Self
-        requires { ⌜ InPhase (self .phase) (change work) ⌝ }
         ensures { λ r. ⌜ ((h0 h1 l : List ℕ) → view r h0 h1 l ≡ after (view self h0 h1 l) work) ⌝ }
     {
         match work {
             Work::Refused(_) => {}
-            Work::Waits => {}
-            Work::Walks(place, field) => {
-                self.place = place;
-                self.field = field;
+            Work::Goes(cursor, touch) => {
+                self.cursor = cursor;
+                self = self.touched(touch);
             }
-            Work::Shades(tail, place, field) => {
-                let sessions = self.sessions;
-                self.sessions = Control::unmarked(sessions);
-                self.tail = tail;
-                self.place = place;
-                self.field = field;
-            }
-            Work::Blackens(head) => {
-                self.head = head;
-                self.field = 0;
-            }
-            Work::Marks(n, stack) => self = self.with_scanned(n, stack),
-            Work::Shells(half, end, place) => {
-                self = self.with_frontier(half, end);
-                self.place = place;
-                self.field = 0;
-            }
-            Work::Forwards(word, next) => {
-                // past the last global only the walk goes on
-                let place = self.place;
-                if place < Control::GLOBALS {
-                    self.globals[place] = word;
-                }
-                self.place = next;
-            }
-            Work::MovesOn => self = self.move_on(),
-            Work::Starts | Work::Flips(_) | Work::Empties(_) => self = self.moved(work),
         }
         self
     }

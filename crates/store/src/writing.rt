@@ -39,7 +39,13 @@ impl Control {
             Held::Operands(operands) => operands,
         };
         let v = operands.own;
-        let Followed::Sound(_, r, p) = follow(h0, h1, self.frontier0, self.frontier1, v) else {
+        let Followed::Sound(_, r, p) = follow(
+            h0,
+            h1,
+            self.cursor.frontier0,
+            self.cursor.frontier1,
+            v,
+        ) else {
             return Target::Refusal(12);
         };
         if p <= field {

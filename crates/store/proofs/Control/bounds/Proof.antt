@@ -1,13 +1,14 @@
--- The bounds are those of what a barrier looks at.
+-- The bounds of its numbers.
+use Rattle.store.specs.View.{view}
 use borrow.Author.Needs.{needs}
 use Rattle.store.proofs.Control.bounds.Statement.{statement}
 use Rattle.store.proofs.Control.bounds.Tie as tie
 
-fromspace-requires : tie.Need-fromspace-requires
-fromspace-requires c κs = search needs
+bounds-requires : tie.Need-bounds-requires
+bounds-requires c κs = search needs
 
 returns : tie.Need-returns
-returns c = λ h0 h1 l e. rw (c .fromspace .ensures h0 h1 l, e)
+returns c = λ h0 h1 l e. c .bounds .ensures (view (c .before .before .args .self) h0 h1 l) h0 h1 l e
 
 pub bounds-spec : {M : Type 1} → statement M
-bounds-spec = tie.close (tie.spec fromspace-requires returns)
+bounds-spec = tie.close (tie.spec bounds-requires returns)

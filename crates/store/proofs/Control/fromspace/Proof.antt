@@ -1,20 +1,14 @@
--- Fromspace by phase and current half.
-use borrow.Author.Tests.{eq-eqb, ne-eqb}
-use Rattle.rules.specs.Phases.{fromspace}
+-- Fromspace of its numbers.
+use Rattle.store.specs.View.{view}
 use borrow.Author.Needs.{needs}
 use Rattle.store.proofs.Control.fromspace.Statement.{statement}
 use Rattle.store.proofs.Control.fromspace.Tie as tie
 
-other-half-requires : tie.Need-other-half-requires
-other-half-requires c κs = search needs
+fromspace-requires : tie.Need-fromspace-requires
+fromspace-requires c κs = search needs
 
 returns : tie.Need-returns
-unfolding fromspace
-returns c = λ h0 h1 l. rw (eq-eqb _ _ (c .before .if1 .taken)) (c .other-half .ensures)
-
-returns-2 : tie.Need-returns-2
-unfolding fromspace
-returns-2 c = λ h0 h1 l. rw (ne-eqb _ _ (c .if1 .left))
+returns c = λ h0 h1 l. c .fromspace .ensures (view (c .before .before .args .self) h0 h1 l) h0 h1 l
 
 pub fromspace-spec : {M : Type 1} → statement M
-fromspace-spec = tie.close (tie.spec other-half-requires returns returns-2)
+fromspace-spec = tie.close (tie.spec fromspace-requires returns)

@@ -81,9 +81,10 @@ of-requires c κs = search needs
 returns-2 : tie.Need-returns-2
 unfolding sessionAt
 returns-2 c =
-    let c1 = c .before in
+    let c0 = c .before in
+    let c1 = c0 .before in
     let c2 = c1 .before in
-    rw (session-marked (known (c2 .before)) (c2 .if1 .left) (c1 .if2 .taken), c .of .ensures)
+    rw (session-marked (known (c2 .before)) (c2 .if1 .left) (c1 .if2 .taken), c0 .of .ensures)
 
 shade-all-requires : tie.Need-shade-all-requires
 shade-all-requires c κs =
@@ -102,6 +103,9 @@ add-next c =
     let room = session-room k (c1 .if1 .left) in
     omega arith
 
+shades-requires : tie.Need-shades-requires
+shades-requires c κs = search needs
+
 same-length-5 : tie.Need-same-length-5
 same-length-5 c = search needs
 
@@ -113,33 +117,13 @@ same-length-7 c = search needs
 
 returns-3 : tie.Need-returns-3
 returns-3 c =
-    let c1 = c .before .before .before .before .before .before in
+    let c1 = c .before .before .before .before .before .before .before .before in
     let c2 = c1 .before .before .before .before in
     let c3 = c2 .before in
     let c4 = c3 .before in
     let self = c4 .before .before .before .before .before .before .before .before .before .before .args .t1 in
     let e = c1 .shade-all .ensures in
-    rw (session-shaded (known c4) (c3 .if1 .left) (c2 .if2 .left) (e .0 (self .frontier0) (self .frontier1)) (e .1))
+    rw (session-shaded (known c4) (c3 .if1 .left) (c2 .if2 .left) (e .0 (self .cursor .frontier0) (self .cursor .frontier1)) (e .1), c .shades .ensures)
 
 pub scan-session-spec : {M : Type 1} → statement M
-scan-session-spec =
-    tie.close
-    (tie.spec
-    bounds-requires
-    mul-session
-    element-copy-out-session
-    white-registers-requires
-    sub-fits
-    same-length
-    same-length-2
-    returns
-    of-requires
-    same-length-3
-    same-length-4
-    returns-2
-    shade-all-requires
-    add-next
-    same-length-5
-    same-length-6
-    same-length-7
-    returns-3)
+scan-session-spec = tie.close (tie.spec bounds-requires mul-session element-copy-out-session white-registers-requires sub-fits same-length same-length-2 returns of-requires same-length-3 same-length-4 returns-2 shade-all-requires add-next shades-requires same-length-5 same-length-6 same-length-7 returns-3)

@@ -13,6 +13,7 @@ use Rattle.rules.specs.Calls.{sessionOf}
 use Rattle.rules.proofs.Ranges.{in-range}
 use Rattle.store.specs.View.{view}
 use Rattle.store.specs.Steps.{over}
+use Rattle.store.proofs.Cursors.{ready}
 use Rattle.store.proofs.Changes.{told-refusal, told-phase}
 use Rattle.store.proofs.Units.{over-range, unit-of, unit-waits, waits, rests, Met, met-refused, met-done}
 use borrow.Author.Needs.{needs}
@@ -46,13 +47,16 @@ session-tests-requires c κs = search needs
 -- past test 4 the ranges hold, over the list lent and over any as long
 module _ (c : tie.Else1) where
   abbrev lent : tie.Start
-  lent = c .before .before .before .before .before .before .before .before
+  lent = c .before .before .before .before .before .before .before .before .before
 
   passed-4 : inRange (view (lent .args .self) (lent .args .h0 .now) (lent .args .h1 .now) (lent .args .list .now)) ≡ true
-  passed-4 = within _ _ (c .before .session-tests .ensures) (c .if1 .left)
+  passed-4 = within _ _ (c .before .before .session-tests .ensures) (c .if1 .left)
 
   passed-over : inRange (over (lent .args .self) (lent .args .h0 .now) (lent .args .h1 .now)) ≡ true
   passed-over = over-range (lent .args .self) _ _ (lent .args .list .now) passed-4
+
+starts-requires : tie.Need-starts-requires
+starts-requires c κs = in-range _ (passed-4 (c .before)) .phases
 
 root-mark-requires : tie.Need-root-mark-requires
 root-mark-requires c κs = passed-4 (c .before .before .before .before)
@@ -60,11 +64,14 @@ root-mark-requires c κs = passed-4 (c .before .before .before .before)
 heap-mark-requires : tie.Need-heap-mark-requires
 heap-mark-requires c κs = passed-4 (c .before .before .before .before)
 
+have-level-requires : tie.Need-have-level-requires
+have-level-requires c κs = in-range _ (passed-4 (c .before)) .phases
+
 allocate-shells-requires : tie.Need-allocate-shells-requires
-allocate-shells-requires c κs = passed-over (c .before .before .before)
+allocate-shells-requires c κs = ready _ (in-range _ (passed-4 (c .before .before .before .before)))
 
 copy-requires : tie.Need-copy-requires
-copy-requires c κs = passed-over (c .before .before .before)
+copy-requires c κs = ready _ (in-range _ (passed-4 (c .before .before .before)))
 
 root-flip-requires : tie.Need-root-flip-requires
 root-flip-requires c κs = passed-over (c .before .before .before)
@@ -72,18 +79,24 @@ root-flip-requires c κs = passed-over (c .before .before .before)
 stack-flip-requires : tie.Need-stack-flip-requires
 stack-flip-requires c κs = passed-over (c .before .before .before)
 
+have-level-requires-2 : tie.Need-have-level-requires-2
+have-level-requires-2 c κs = in-range _ (passed-4 (c .before)) .phases
+
 reclaim-requires : tie.Need-reclaim-requires
-reclaim-requires c κs = passed-over (c .before .before .before)
+reclaim-requires c κs = ready _ (in-range _ (passed-4 (c .before .before .before .before)))
+
+have-level-requires-3 : tie.Need-have-level-requires-3
+have-level-requires-3 c κs = in-range _ (passed-4 (c .before)) .phases
 
 handshake-requires : tie.Need-handshake-requires
-handshake-requires c κs = in-range _ (passed-4 (c .before)) .phases
+handshake-requires c κs = in-range _ (passed-4 (c .before .before)) .phases
 
 -- where the arms meet: the words left, and the work
 met : (j : tie.Joined1)
-    → let a = j .before .before .before .before .before .before .before .before .args in
+    → let a = j .before .before .before .before .before .before .before .before .before .args in
     Met (a .self) (a .h0 .now) (a .h1 .now) (a .list .now) (j .if1 .h0) (j .if1 .h1) (j .if1 .list) (j .if1 .work)
 met j =
-    let p = j .before in
+    let p = j .before .before in
     let a = p .before .before .before .before .before .before .before .args in
     let c = a .self in
     let h0 = a .h0 .now in
@@ -92,22 +105,22 @@ met j =
     let s = view c h0 h1 l in
     let e = p .session-tests .ensures in
     ⊎-elim (λ w. met-refused c h0 h1 l (out s 0 e (w .0 .taken)) (w .1) (w .2) (w .3) (w .4))
-    (⊎-elim (λ w. met-done c h0 h1 l (within s 0 e (w .0 .left)) refl refl refl (unit-of s 0 (w .1 .keys1) (rests s)) (w .2) (w .3) (w .4) (w .5))
+    (⊎-elim (λ w. met-done c h0 h1 l (within s 0 e (w .0 .left)) refl refl refl (unit-of s 0 (w .1 .keys1) (rests s (c .cursor) h0 h1 l (w .2 .ensures))) (w .3) (w .4) (w .5) (w .6))
     (⊎-elim (λ w. met-done c h0 h1 l (within s 0 e (w .0 .left)) (w .5 .kept .1 .0) (w .5 .kept .1 .1 .0) (w .5 .kept .1 .1 .1 .0) (unit-of s 3 (w .1 .keys2) (w .5 .ensures)) (w .12) (w .13) (w .14) (w .15))
     (⊎-elim (λ w. met-done c h0 h1 l (within s 0 e (w .0 .left)) (w .5 .kept .1 .0) (w .5 .kept .1 .1 .0) (w .5 .kept .1 .1 .1 .0) (unit-of s 4 (w .1 .keys3) (w .5 .ensures)) (w .12) (w .13) (w .14) (w .15))
-    (⊎-elim (λ w. met-done c h0 h1 l (within s 0 e (w .0 .left)) (w .4 .kept .1 .0) (w .4 .kept .1 .1 .0) refl (unit-of s 5 (w .1 .keys4) (w .4 .ensures l)) (w .9) (w .10) (w .11) (w .12))
-    (⊎-elim (λ w. met-done c h0 h1 l (within s 0 e (w .0 .left)) (w .4 .kept .1 .0) (w .4 .kept .1 .1 .0) refl (unit-of s 7 (w .1 .keys5) (w .4 .ensures l)) (w .9) (w .10) (w .11) (w .12))
+    (⊎-elim (λ w. met-done c h0 h1 l (within s 0 e (w .0 .left)) (w .5 .kept .1 .1 .0) (w .5 .kept .1 .1 .1 .0) refl (unit-of s 5 (w .1 .keys4) (w .5 .ensures s l (w .2 .ensures h0 h1 l))) (w .10) (w .11) (w .12) (w .13))
+    (⊎-elim (λ w. met-done c h0 h1 l (within s 0 e (w .0 .left)) (w .4 .kept .1 .0) (w .4 .kept .1 .1 .0) refl (unit-of s 7 (w .1 .keys5) (w .4 .ensures s l)) (w .9) (w .10) (w .11) (w .12))
     (⊎-elim (λ w. met-done c h0 h1 l (within s 0 e (w .0 .left)) refl refl refl (unit-of s 10 (w .1 .keys6) (w .4 .ensures l)) (w .5) (w .6) (w .7) (w .8))
     (⊎-elim (λ w. met-done c h0 h1 l (within s 0 e (w .0 .left)) refl refl refl (unit-of s 11 (w .1 .keys7) (w .4 .ensures l)) (w .5) (w .6) (w .7) (w .8))
-    (⊎-elim (λ w. met-done c h0 h1 l (within s 0 e (w .0 .left)) (w .4 .kept .1 .0) (w .4 .kept .1 .1 .0) refl (unit-of s 12 (w .1 .keys8) (w .4 .ensures l)) (w .9) (w .10) (w .11) (w .12))
+    (⊎-elim (λ w. met-done c h0 h1 l (within s 0 e (w .0 .left)) (w .5 .kept .1 .1 .0) (w .5 .kept .1 .1 .1 .0) refl (unit-of s 12 (w .1 .keys8) (w .5 .ensures s l (w .2 .ensures h0 h1 l))) (w .10) (w .11) (w .12) (w .13))
     (λ w.
     let r = w .1 .rest in
-    let n = waits (c .phase) (r .0 .0 .0 .0 .0 .0 .0 .1) (r .0 .0 .0 .0 .0 .0 .1) (r .0 .0 .0 .0 .0 .1) (r .0 .0 .0 .0 .1) (r .0 .0 .0 .1) (r .0 .0 .1) (r .0 .1) (r .1) in
-    met-done c h0 h1 l (within s 0 e (w .0 .left)) refl refl refl (unit-waits s n (w .2 .ensures h0 h1 l)) (w .3) (w .4) (w .5) (w .6))))))))))
+    let n = waits (c .cursor .phase) (r .0 .0 .0 .0 .0 .0 .0 .1) (r .0 .0 .0 .0 .0 .0 .1) (r .0 .0 .0 .0 .0 .1) (r .0 .0 .0 .0 .1) (r .0 .0 .0 .1) (r .0 .0 .1) (r .0 .1) (r .1) in
+    met-done c h0 h1 l (within s 0 e (w .0 .left)) refl refl refl (unit-waits s n (w .3 .ensures s h0 h1 l (w .2 .ensures h0 h1 l))) (w .4) (w .5) (w .6) (w .7))))))))))
     (j .if1 .came)
 
 after-requires : tie.Need-after-requires
-after-requires c κs = met c .phased
+after-requires c κs = search needs
 
 enum-known-work : tie.Need-enum-known-work
 enum-known-work c = search needs
@@ -128,40 +141,22 @@ returns c =
     told-refusal _ (c .before .work .given .1) (c1 .after .ensures (j .if1 .h0) (j .if1 .h1) (j .if1 .list)) ∙ met j .left
 
 same-length-4 : tie.Need-same-length-4
-same-length-4 c = met (c .before .before) .low
+same-length-4 c = met (c .before .before .before) .low
 
 same-length-5 : tie.Need-same-length-5
-same-length-5 c = met (c .before .before) .high
+same-length-5 c = met (c .before .before .before) .high
 
 same-length-6 : tie.Need-same-length-6
-same-length-6 c = met (c .before .before) .listed
+same-length-6 c = met (c .before .before .before) .listed
 
 returns-2 : tie.Need-returns-2
 returns-2 c =
-    let c1 = c .before in
+    let c1 = c .before .before in
     let j = c1 .before in
-    told-phase _ (j .if1 .work) (c .match2 .keys2) (c1 .after .ensures (j .if1 .h0) (j .if1 .h1) (j .if1 .list)) ∙ met j .left
+    told-phase _ (j .if1 .work) (c .before .match2 .keys2) (c1 .after .ensures (j .if1 .h0) (j .if1 .h1) (j .if1 .list)) ∙ met j .left
+
+enum-told : tie.Need-enum-told
+enum-told c = search needs
 
 pub step-spec : {M : Type 1} → statement M
-step-spec =
-    tie.close
-    (tie.spec
-    session-tests-requires
-    root-mark-requires
-    heap-mark-requires
-    allocate-shells-requires
-    copy-requires
-    root-flip-requires
-    stack-flip-requires
-    reclaim-requires
-    handshake-requires
-    after-requires
-    enum-known-work
-    same-length
-    same-length-2
-    same-length-3
-    returns
-    same-length-4
-    same-length-5
-    same-length-6
-    returns-2)
+step-spec = tie.close (tie.spec session-tests-requires starts-requires root-mark-requires heap-mark-requires have-level-requires allocate-shells-requires copy-requires root-flip-requires stack-flip-requires have-level-requires-2 reclaim-requires have-level-requires-3 handshake-requires after-requires enum-known-work enum-told same-length same-length-2 same-length-3 returns same-length-4 same-length-5 same-length-6 returns-2)

@@ -1,16 +1,15 @@
 -- The frontier of one half set.
-use borrow.Author.Tests.{eq-eqb, ne-eqb}
 use Rattle.rules.specs.Memory.{withFrontier}
+use borrow.Author.Needs.{needs}
 use Rattle.store.proofs.Control.with_frontier.Statement.{statement}
 use Rattle.store.proofs.Control.with_frontier.Tie as tie
 
+with-frontier-requires : tie.Need-with-frontier-requires
+with-frontier-requires c κs = search needs
+
 returns : tie.Need-returns
 unfolding withFrontier
-returns c = λ h0 h1 l. rw (eq-eqb _ _ (c .if1 .taken))
-
-returns-2 : tie.Need-returns-2
-unfolding withFrontier
-returns-2 c = λ h0 h1 l. rw (ne-eqb _ _ (c .if1 .left))
+returns c = λ h0 h1 l. rw (c .with-frontier .ensures)
 
 pub with-frontier-spec : {M : Type 1} → statement M
-with-frontier-spec = tie.close (tie.spec returns returns-2)
+with-frontier-spec = tie.close (tie.spec with-frontier-requires returns)

@@ -31,7 +31,7 @@ returns c = λ h0 h1 l. rw (c .registers .ensures)
 returns-2 : tie.Need-returns-2
 returns-2 c =
     let c1 = c .before in
-    let sessions = c1 .good .0 .1 .1 .1 .1 .1 .1 .1 .1 .1 .1 .1 .1 .1 .1 .0 in
+    let sessions = c1 .good .0 .1 .1 .1 .1 .1 .1 .1 .0 in
     let k : length (c1 .args .t1 .sessions) ≡ 16 = search (needs, unmapped) in
     λ h0 h1 l. session-out _ _ _ (omega arith)
 

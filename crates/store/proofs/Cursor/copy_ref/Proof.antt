@@ -1,22 +1,20 @@
 -- A replica without the field, damage, or the field forwarded and written.
 use mathlib.Core.Path.{ap}
 use native.Mathlib.Omega.{arith}
-use Rattle.rules.proofs.Ranges.{in-range, fronts}
 use Rattle.heap.specs.View.{checked}
 use Rattle.heap.proofs.Soundness.{header-inside}
 use Rattle.heap.proofs.Fields.{ref-inside}
-use Rattle.store.specs.View.{view}
-use Rattle.store.proofs.Shaded.{within}
-use Rattle.store.proofs.Forwards.{bounds-over, forward-told}
+use Rattle.store.specs.Cursors.{having}
+use Rattle.store.proofs.Cursors.{goes, bounds-within, forward-by}
 use Rattle.store.proofs.FieldCopies.{ref-short, ref-lost, ref-copied}
 use borrow.Author.Needs.{needs}
-use Rattle.store.proofs.Control.copy_ref.Statement.{statement}
-use Rattle.store.proofs.Control.copy_ref.Tie as tie
+use Rattle.store.proofs.Cursor.copy_ref.Statement.{statement}
+use Rattle.store.proofs.Cursor.copy_ref.Tie as tie
 
 refs-of-requires : tie.Need-refs-of-requires
 refs-of-requires c κs =
-    let b = fronts (in-range _ (c .before .before .before .before .pre .0 .ranges)) in
-    header-inside _ _ _ _ _ (c .before .before .before .before .pre .0 .there) (b .0) (b .1) 0 (omega arith)
+    let b = c .before .before .before .before .pre .0 .ranges in
+    header-inside _ _ _ _ _ (c .before .before .before .before .pre .0 .there) (b .low) (b .high) 0 (omega arith)
 
 cast-if1 : tie.Need-cast-if1
 cast-if1 c = search needs
@@ -32,18 +30,18 @@ returns c =
     let c1 = c .before in
     let c2 = c1 .before .before .before .before .before in
     let a = c2 .args in
-    λ l. ref-short (view (a .self) (a .h0 .now) (a .h1 .now) l) (a .v) (a .t) (a .self .field) (c1 .refs-of .ensures (a .self .frontier0) (a .self .frontier1)) (c .if1 .taken)
+    λ s l. ref-short (having s (a .self) (a .h0 .now) (a .h1 .now) l) (a .v) (a .t) (a .self .field) (c1 .refs-of .ensures (a .self .frontier0) (a .self .frontier1)) (c .if1 .taken)
 
 add-get-word : tie.Need-add-get-word
 add-get-word c =
-    let k = in-range _ (c .before .before .before .before .before .before .before .before .pre .0 .ranges) in
+    let k = c .before .before .before .before .before .before .before .before .pre .0 .ranges in
     omega arith
 
 get-word-requires : tie.Need-get-word-requires
 get-word-requires c κs =
     let c1 = c .before .before .before .before .before .before .before .before in
-    let b = fronts (in-range _ (c1 .pre .0 .ranges)) in
-    ref-inside _ _ _ _ _ (c1 .pre .0 .here) (b .0) (b .1) _ (c1 .pre .1)
+    let b = c1 .pre .0 .ranges in
+    ref-inside _ _ _ _ _ (c1 .pre .0 .here) (b .low) (b .high) _ (c1 .pre .1)
 
 bounds-requires : tie.Need-bounds-requires
 bounds-requires c κs = search needs
@@ -52,7 +50,7 @@ forward-requires : tie.Need-forward-requires
 forward-requires c κs =
     let c1 = c .before .before in
     let c2 = c1 .before .before .before .before .before .before .before .before .before .before in
-    within _ _ (bounds-over (c2 .args .self) _ _ (c1 .bounds .ensures)) (in-range _ (c2 .pre .0 .ranges))
+    bounds-within (c2 .args .self) _ _ (c1 .bounds .ensures) (c2 .pre .0 .ranges) (omega arith)
 
 enum-known-w : tie.Need-enum-known-w
 enum-known-w c = search needs
@@ -75,13 +73,13 @@ returns-2 c =
     let c5 = c4 .before in
     let c6 = c5 .before .before .before .before .before in
     let a = c6 .args in
-    λ l. ref-lost (view (a .self) (a .h0 .now) (a .h1 .now) l) (a .v) (a .t) (a .self .field) (c5 .refs-of .ensures (a .self .frontier0) (a .self .frontier1)) (c4 .if1 .left) (c3 .get-word .ensures (a .self .frontier0) (a .self .frontier1))
-    (forward-told (a .self) (a .h0 .now) (a .h1 .now) l (bounds-over (a .self) (a .h0 .now) (a .h1 .now) (c2 .bounds .ensures)) _ (c1 .forward .ensures) (ap checked (c .enum-told .given .1)))
+    λ s l. ref-lost (having s (a .self) (a .h0 .now) (a .h1 .now) l) (a .v) (a .t) (a .self .field) (c5 .refs-of .ensures (a .self .frontier0) (a .self .frontier1)) (c4 .if1 .left) (c3 .get-word .ensures (a .self .frontier0) (a .self .frontier1))
+    (forward-by (a .self) (a .h0 .now) (a .h1 .now) (c2 .bounds .ensures) s l _ (c1 .forward .ensures) (ap checked (c .enum-told .given .1)))
 
 add-put-word : tie.Need-add-put-word
 add-put-word c =
     let c1 = c .before .before .before .before .before .before .before .before .before .before .before .before .before .before .before .before .before .before in
-    let k = in-range _ (c1 .pre .0 .ranges) in
+    let k = c1 .pre .0 .ranges in
     omega arith
 
 put-word-requires : tie.Need-put-word-requires
@@ -89,13 +87,13 @@ put-word-requires c κs =
     let c1 = c .before .before .before .before .before .before .before .before .before .before .before .before in
     let c2 = c1 .before in
     let c3 = c2 .before .before .before .before .before in
-    let b = fronts (in-range _ (c3 .pre .0 .ranges)) in
-    ref-inside _ _ _ _ _ (c3 .pre .0 .there) (b .0) (b .1) _ (rw (← c2 .refs-of .ensures (c3 .args .self .frontier0) (c3 .args .self .frontier1)) (c1 .if1 .left))
+    let b = c3 .pre .0 .ranges in
+    ref-inside _ _ _ _ _ (c3 .pre .0 .there) (b .low) (b .high) _ (rw (← c2 .refs-of .ensures (c3 .args .self .frontier0) (c3 .args .self .frontier1)) (c1 .if1 .left))
 
 past-field-requires : tie.Need-past-field-requires
 past-field-requires c κs =
     let c1 = c .before .before .before .before .before .before .before .before .before .before .before .before .before .before .before .before .before .before .before .before .before .before .before in
-    let k = in-range _ (c1 .pre .0 .ranges) in
+    let k = c1 .pre .0 .ranges in
     k .fields
 
 same-length-5 : tie.Need-same-length-5
@@ -115,9 +113,10 @@ returns-3 c =
     let c7 = c6 .before in
     let c8 = c7 .before .before .before .before .before in
     let a = c8 .args in
-    λ l. ref-copied (view (a .self) (a .h0 .now) (a .h1 .now) l) (a .v) (a .t) (a .self .field) (c7 .refs-of .ensures (a .self .frontier0) (a .self .frontier1)) (c6 .if1 .left) (c5 .get-word .ensures (a .self .frontier0) (a .self .frontier1))
-    (forward-told (a .self) (a .h0 .now) (a .h1 .now) l (bounds-over (a .self) (a .h0 .now) (a .h1 .now) (c4 .bounds .ensures)) _ (c3 .forward .ensures) (ap checked (c2 .w .given .1)))
-    (c1 .put-word .ensures (a .self .frontier0) (a .self .frontier1)) (c .past-field .ensures)
+    λ s l. goes _ (c .past-field .ensures)
+    (ref-copied (having s (a .self) (a .h0 .now) (a .h1 .now) l) (a .v) (a .t) (a .self .field) (c7 .refs-of .ensures (a .self .frontier0) (a .self .frontier1)) (c6 .if1 .left) (c5 .get-word .ensures (a .self .frontier0) (a .self .frontier1))
+    (forward-by (a .self) (a .h0 .now) (a .h1 .now) (c4 .bounds .ensures) s l _ (c3 .forward .ensures) (ap checked (c2 .w .given .1)))
+    (c1 .put-word .ensures (a .self .frontier0) (a .self .frontier1)))
 
 pub copy-ref-spec : {M : Type 1} → statement M
 copy-ref-spec =

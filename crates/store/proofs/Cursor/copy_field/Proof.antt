@@ -1,14 +1,13 @@
 -- The replica followed, then a reference field or a plain one.
 use native.Mathlib.Omega.{arith}
-use Rattle.rules.proofs.Ranges.{in-range, fronts}
 use Rattle.heap.proofs.Soundness.{found, lost}
 use Rattle.store.proofs.FieldCopies.{field-lost, field-ref, field-plain}
 use borrow.Author.Needs.{needs}
-use Rattle.store.proofs.Control.copy_field.Statement.{statement}
-use Rattle.store.proofs.Control.copy_field.Tie as tie
+use Rattle.store.proofs.Cursor.copy_field.Statement.{statement}
+use Rattle.store.proofs.Cursor.copy_field.Tie as tie
 
 follow-requires : tie.Need-follow-requires
-follow-requires c κs = fronts (in-range _ (c .before .before .before .before .pre .ranges))
+follow-requires c κs = (c .before .before .before .before .pre .ranges .low, c .before .before .before .before .pre .ranges .high)
 
 enum-told : tie.Need-enum-told
 enum-told c = search needs
@@ -26,7 +25,7 @@ returns : tie.Need-returns
 returns c =
     let c1 = c .before .before in
     let c2 = c1 .before .before .before .before .before in
-    λ l. field-lost _ _ (c2 .pre .replica) (lost _ _ (c1 .follow .ensures) (c .enum-told2 .given .1))
+    λ s l. field-lost _ _ (c2 .pre .replica) (lost _ _ (c1 .follow .ensures) (c .enum-told2 .given .1))
 
 copy-ref-requires : tie.Need-copy-ref-requires
 copy-ref-requires c κs =
@@ -50,7 +49,7 @@ returns-2 c =
     let c3 = c2 .before in
     let c4 = c3 .before .before in
     let c5 = c4 .before .before .before .before .before in
-    λ l. field-ref _ _ (c5 .pre .replica) (found _ _ (c4 .follow .ensures) (c3 .enum-told .given .1) .sound) (c5 .pre .count) (c2 .if1 .taken) (c1 .copy-ref .ensures l)
+    λ s l. field-ref _ _ (c5 .pre .replica) (found _ _ (c4 .follow .ensures) (c3 .enum-told .given .1) .sound) (c5 .pre .count) (c2 .if1 .taken) (c1 .copy-ref .ensures s l)
 
 copy-plain-requires : tie.Need-copy-plain-requires
 copy-plain-requires c κs =
@@ -74,7 +73,7 @@ returns-3 c =
     let c3 = c2 .before in
     let c4 = c3 .before .before in
     let c5 = c4 .before .before .before .before .before in
-    λ l. field-plain _ _ (c5 .pre .replica) (found _ _ (c4 .follow .ensures) (c3 .enum-told .given .1) .sound) (c5 .pre .count) (c2 .if1 .left) (c1 .copy-plain .ensures l)
+    λ s l. field-plain _ _ (c5 .pre .replica) (found _ _ (c4 .follow .ensures) (c3 .enum-told .given .1) .sound) (c5 .pre .count) (c2 .if1 .left) (c1 .copy-plain .ensures s l)
 
 pub copy-field-spec : {M : Type 1} → statement M
 copy-field-spec =

@@ -1,27 +1,29 @@
 -- At the frontier the step moves on; below it damage, the record passed over, or its next field copied.
 use native.Mathlib.Omega.{arith}
-use Rattle.rules.proofs.Ranges.{in-range, place-small, fronts}
 use Rattle.heap.proofs.Soundness.{found, lost}
 use Rattle.store.proofs.Flags.{no, yes}
-use Rattle.store.proofs.Walks.{header-at}
+use Rattle.store.proofs.Cursors.{header-of, goes, moves}
 use Rattle.store.proofs.FieldCopies.{replica-word, field-left, copy-ends, copy-lost, copy-passes, copy-copies}
 use borrow.Author.Needs.{needs}
-use Rattle.store.proofs.Control.copy.Statement.{statement}
-use Rattle.store.proofs.Control.copy.Tie as tie
+use Rattle.store.proofs.Cursor.copy.Statement.{statement}
+use Rattle.store.proofs.Cursor.copy.Tie as tie
 
 below-requires : tie.Need-below-requires
 below-requires c κs = search needs
 
+moves-on-requires : tie.Need-moves-on-requires
+moves-on-requires c κs = c .before .before .before .before .pre .phases
+
 returns : tie.Need-returns
-returns c = λ l. copy-ends _ (no (c .before .below .ensures _ _ l) (c .if1 .taken))
+returns c = λ s l. moves s _ _ _ l (c .moves-on .ensures) (copy-ends _ (no (c .before .before .below .ensures s _ _ l) (c .before .if1 .taken)))
 
 walked-requires : tie.Need-walked-requires
 walked-requires c κs =
-    let k = in-range _ (c .before .before .before .before .pre) in
-    (k .half, place-small k)
+    let k = c .before .before .before .before .pre in
+    (k .half, k .places)
 
 follow-requires : tie.Need-follow-requires
-follow-requires c κs = fronts (in-range _ (c .before .before .before .before .before .before .before .pre))
+follow-requires c κs = (c .before .before .before .before .before .before .before .pre .low, c .before .before .before .before .before .before .before .pre .high)
 
 enum-known-r : tie.Need-enum-known-r
 enum-known-r c = search needs
@@ -41,14 +43,14 @@ returns-2 c =
     let c2 = c1 .before .before .before in
     let c3 = c2 .before in
     let c4 = c3 .before in
-    λ l. copy-lost _ (yes (c4 .below .ensures _ _ l) (c3 .if1 .left)) (c2 .walked .ensures _ _ l) (lost _ _ (c1 .follow .ensures) (c .enum-told .given .1))
+    λ s l. copy-lost _ (yes (c4 .below .ensures s _ _ l) (c3 .if1 .left)) (c2 .walked .ensures s _ _ l) (lost _ _ (c1 .follow .ensures) (c .enum-told .given .1))
 
 get-word-requires : tie.Need-get-word-requires
 get-word-requires c κs =
     let c1 = c .before .before .before in
     let c2 = c1 .before .before in
     let c3 = c2 .before .before .before .before .before .before .before .before in
-    header-at (in-range _ (c3 .pre)) (found _ _ (c2 .follow .ensures) (c1 .r .given .1)) 2 (omega arith)
+    header-of (c3 .pre) (found _ _ (c2 .follow .ensures) (c1 .r .given .1)) 2 (omega arith)
 
 cast-n : tie.Need-cast-n
 cast-n c = search needs
@@ -68,7 +70,7 @@ past-record-requires c κs =
     let c2 = c1 .before .before in
     let c3 = c2 .before .before .before .before .before .before .before .before in
     let f = found _ _ (c2 .follow .ensures) (c1 .r .given .1) in
-    (place-small (in-range _ (c3 .pre)), omega arith)
+    (c3 .pre .places, omega arith)
 
 same-length-3 : tie.Need-same-length-3
 same-length-3 c = search needs
@@ -85,8 +87,9 @@ returns-3 c =
     let c5 = c4 .before .before .before in
     let c6 = c5 .before in
     let c7 = c6 .before in
-    λ l. copy-passes _ (yes (c7 .below .ensures _ _ l) (c6 .if1 .left)) (c5 .walked .ensures _ _ l) (found _ _ (c4 .follow .ensures) (c3 .r .given .1))
-    (replica-word _ _ (c2 .get-word .ensures _ _)) (c1 .if2 .taken) (c .past-record .ensures)
+    λ s l. goes _ (c .past-record .ensures)
+    (copy-passes _ (yes (c7 .below .ensures s _ _ l) (c6 .if1 .left)) (c5 .walked .ensures s _ _ l) (found _ _ (c4 .follow .ensures) (c3 .r .given .1))
+    (replica-word _ _ (c2 .get-word .ensures _ _)) (c1 .if2 .taken))
 
 copy-field-requires : tie.Need-copy-field-requires
 copy-field-requires c κs =
@@ -115,14 +118,15 @@ returns-4 c =
     let c6 = c5 .before .before .before in
     let c7 = c6 .before in
     let c8 = c7 .before in
-    λ l. copy-copies _ (yes (c8 .below .ensures _ _ l) (c7 .if1 .left)) (c6 .walked .ensures _ _ l) (found _ _ (c5 .follow .ensures) (c4 .r .given .1))
-    (replica-word _ _ (c3 .get-word .ensures _ _)) (c2 .if2 .left) (c1 .copy-field .ensures l)
+    λ s l. copy-copies _ (yes (c8 .below .ensures s _ _ l) (c7 .if1 .left)) (c6 .walked .ensures s _ _ l) (found _ _ (c5 .follow .ensures) (c4 .r .given .1))
+    (replica-word _ _ (c3 .get-word .ensures _ _)) (c2 .if2 .left) (c1 .copy-field .ensures s l)
 
 pub copy-spec : {M : Type 1} → statement M
 copy-spec =
     tie.close
     (tie.spec
     below-requires
+    moves-on-requires
     returns
     walked-requires
     follow-requires

@@ -1,0 +1,78 @@
+-- Waiting for level 0, the other half emptied, damage, or the next record's replica word cleared.
+use native.Mathlib.Omega.{arith}
+use Rattle.heap.proofs.Soundness.{found, lost}
+use Rattle.store.proofs.Flags.{no, yes}
+use Rattle.store.proofs.Cursors.{header-of, goes, empties}
+use Rattle.store.proofs.Walks.{reclaim-waits, reclaim-ends, reclaim-lost, reclaim-clears}
+use borrow.Author.Needs.{needs}
+use Rattle.store.proofs.Cursor.reclaim.Statement.{statement}
+use Rattle.store.proofs.Cursor.reclaim.Tie as tie
+
+returns : tie.Need-returns
+returns c = λ s l e. reclaim-waits _ (no e (c .if1 .taken))
+
+below-requires : tie.Need-below-requires
+below-requires c κs = search needs
+
+other-half-requires : tie.Need-other-half-requires
+other-half-requires c κs = search needs
+
+with-frontier-requires : tie.Need-with-frontier-requires
+with-frontier-requires c κs = search needs
+
+moves-on-requires : tie.Need-moves-on-requires
+moves-on-requires c κs = rw (c .with-frontier .ensures) (c .before .before .before .before .before .before .before .pre .phases)
+
+returns-2 : tie.Need-returns-2
+returns-2 c = λ s l e. empties s _ _ _ l _ (c .before .with-frontier .ensures) (c .moves-on .ensures) (reclaim-ends _ (yes e (c .before .before .before .before .before .if1 .left)) (no (c .before .before .before .before .below .ensures s _ _ l) (c .before .before .before .if2 .taken)) (c .before .before .other-half .ensures))
+
+walked-requires : tie.Need-walked-requires
+walked-requires c κs = (c .before .before .before .before .before .pre .half, c .before .before .before .before .before .pre .places)
+
+follow-requires : tie.Need-follow-requires
+follow-requires c κs = (c .before .before .before .before .before .before .before .before .pre .low, c .before .before .before .before .before .before .before .before .pre .high)
+
+enum-known-r : tie.Need-enum-known-r
+enum-known-r c = search needs
+
+enum-told : tie.Need-enum-told
+enum-told c = search needs
+
+same-length : tie.Need-same-length
+same-length c = search needs
+
+same-length-2 : tie.Need-same-length-2
+same-length-2 c = search needs
+
+returns-3 : tie.Need-returns-3
+returns-3 c = λ s l e. reclaim-lost _ (yes e (c .before .before .before .before .before .before .before .before .if1 .left)) (yes (c .before .before .before .before .before .before .before .below .ensures s _ _ l) (c .before .before .before .before .before .before .if2 .left)) (c .before .before .before .before .before .walked .ensures s _ _ l) (lost _ _ (c .before .before .follow .ensures) (c .enum-told .given .1))
+
+put-word-requires : tie.Need-put-word-requires
+put-word-requires c κs = header-of (c .before .before .before .before .before .before .before .before .before .before .before .before .before .before .pre) (found _ _ (c .before .before .before .before .before .follow .ensures) (c .before .before .before .r .given .1)) 2 (omega arith)
+
+cast-past-record : tie.Need-cast-past-record
+cast-past-record c = search needs
+
+cast-past-record-2 : tie.Need-cast-past-record-2
+cast-past-record-2 c = search needs
+
+add-past-record : tie.Need-add-past-record
+add-past-record c = search needs
+
+add-past-record-2 : tie.Need-add-past-record-2
+add-past-record-2 c = search needs
+
+past-record-requires : tie.Need-past-record-requires
+past-record-requires c κs = let f = found _ _ (c .before .before .before .before .before .before .before .before .before .before .follow .ensures) (c .before .before .before .before .before .before .before .before .r .given .1) in (c .before .before .before .before .before .before .before .before .before .before .before .before .before .before .before .before .before .before .before .pre .places, omega arith)
+
+same-length-3 : tie.Need-same-length-3
+same-length-3 c = search needs
+
+same-length-4 : tie.Need-same-length-4
+same-length-4 c = search needs
+
+returns-4 : tie.Need-returns-4
+returns-4 c = λ s l e. goes _ (c .past-record .ensures) (reclaim-clears _ (yes e (c .before .before .before .before .before .before .before .before .before .before .before .before .before .before .before .before .before .if1 .left)) (yes (c .before .before .before .before .before .before .before .before .before .before .before .before .before .before .before .before .below .ensures s _ _ l) (c .before .before .before .before .before .before .before .before .before .before .before .before .before .before .before .if2 .left)) (c .before .before .before .before .before .before .before .before .before .before .before .before .before .before .walked .ensures s _ _ l) (found _ _ (c .before .before .before .before .before .before .before .before .before .before .before .follow .ensures) (c .before .before .before .before .before .before .before .before .before .r .given .1)) (c .before .before .before .before .before .put-word .ensures _ _))
+
+pub reclaim-spec : {M : Type 1} → statement M
+reclaim-spec = tie.close (tie.spec returns below-requires other-half-requires with-frontier-requires moves-on-requires returns-2 walked-requires follow-requires enum-known-r enum-told same-length same-length-2 returns-3 put-word-requires cast-past-record cast-past-record-2 add-past-record add-past-record-2 past-record-requires same-length-3 same-length-4 returns-4)

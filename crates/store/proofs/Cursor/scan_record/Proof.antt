@@ -1,0 +1,74 @@
+-- Damage is refused; else the next reference field is shaded, or the record coloured black.
+use native.Mathlib.Omega.{arith}
+use Rattle.store.specs.Cursors.{having}
+use Rattle.store.proofs.Cursors.{some}
+use Rattle.store.proofs.Marked.{record-damage, colour-inside, field-inside, field-next, record-done}
+use borrow.Author.Needs.{needs}
+use Rattle.store.proofs.Cursor.scan_record.Statement.{statement}
+use Rattle.store.proofs.Cursor.scan_record.Tie as tie
+
+follow-requires : tie.Need-follow-requires
+follow-requires c κs = (c .before .before .before .before .before .pre .1 .low, c .before .before .before .before .before .pre .1 .high)
+
+enum-known-r : tie.Need-enum-known-r
+enum-known-r c = search needs
+
+enum-told : tie.Need-enum-told
+enum-told c = search needs
+
+same-length : tie.Need-same-length
+same-length c = search needs
+
+same-length-2 : tie.Need-same-length-2
+same-length-2 c = search needs
+
+returns : tie.Need-returns
+returns c = λ s. rw (record-damage (having s (c .before .before .before .before .before .before .before .before .args .self) (c .before .before .before .before .before .before .before .before .args .h0 .now) (c .before .before .before .before .before .before .before .before .args .h1 .now) (c .before .before .before .before .before .before .before .before .args .list .now)) (c .before .before .before .before .before .before .before .before .pre .1 .low) (c .before .before .before .before .before .before .before .before .pre .1 .high) _ (c .before .before .follow .ensures) (c .enum-told .given .1))
+
+cast-if1 : tie.Need-cast-if1
+cast-if1 c = search needs
+
+add-get-word : tie.Need-add-get-word
+add-get-word c = search needs
+
+get-word-requires : tie.Need-get-word-requires
+get-word-requires c κs = field-inside (having some (c .before .before .before .before .before .before .before .before .before .before .before .before .args .self) (c .before .before .before .before .before .before .before .before .before .before .before .before .args .h0 .now) (c .before .before .before .before .before .before .before .before .before .before .before .before .args .h1 .now) (c .before .before .before .before .before .before .before .before .before .before .before .before .args .list .now)) (c .before .before .before .before .before .before .before .before .before .before .before .before .pre .1 .low) (c .before .before .before .before .before .before .before .before .before .before .before .before .pre .1 .high) _ (c .before .before .before .before .before .before .follow .ensures) (c .before .before .before .before .r .given .1) (c .before .before .if1 .taken)
+
+add-shade-next : tie.Need-add-shade-next
+add-shade-next c = search needs
+
+shade-next-requires : tie.Need-shade-next-requires
+shade-next-requires c κs = (c .before .before .before .before .before .before .before .before .before .before .before .before .before .before .before .before .pre .1, c .before .before .before .before .before .before .before .before .before .before .before .before .before .before .before .before .pre .2)
+
+same-length-3 : tie.Need-same-length-3
+same-length-3 c = search needs
+
+same-length-4 : tie.Need-same-length-4
+same-length-4 c = search needs
+
+same-length-5 : tie.Need-same-length-5
+same-length-5 c = search needs
+
+returns-2 : tie.Need-returns-2
+returns-2 c = λ s. rw (field-next (having s (c .before .before .before .before .before .before .before .before .before .before .before .before .before .before .before .before .before .before .before .before .before .before .before .args .self) (c .before .before .before .before .before .before .before .before .before .before .before .before .before .before .before .before .before .before .before .before .before .before .before .args .h0 .now) (c .before .before .before .before .before .before .before .before .before .before .before .before .before .before .before .before .before .before .before .before .before .before .before .args .h1 .now) (c .before .before .before .before .before .before .before .before .before .before .before .before .before .before .before .before .before .before .before .before .before .before .before .args .list .now)) (c .before .before .before .before .before .before .before .before .before .before .before .before .before .before .before .before .before .before .before .before .before .before .before .pre .1 .low) (c .before .before .before .before .before .before .before .before .before .before .before .before .before .before .before .before .before .before .before .before .before .before .before .pre .1 .high) _ (c .before .before .before .before .before .before .before .before .before .before .before .before .before .before .before .before .before .follow .ensures) (c .before .before .before .before .before .before .before .before .before .before .before .before .before .before .before .r .given .1) (c .before .before .before .before .before .before .before .before .before .before .before .before .before .if1 .taken) (c .before .before .before .before .before .before .before .before .before .before .get-word .ensures _ _)) (c .before .before .before .before .before .before .shade-next .ensures s)
+
+put-word-requires : tie.Need-put-word-requires
+put-word-requires c κs = colour-inside (having some (c .before .before .before .before .before .before .before .before .before .before .before .before .args .self) (c .before .before .before .before .before .before .before .before .before .before .before .before .args .h0 .now) (c .before .before .before .before .before .before .before .before .before .before .before .before .args .h1 .now) (c .before .before .before .before .before .before .before .before .before .before .before .before .args .list .now)) (c .before .before .before .before .before .before .before .before .before .before .before .before .pre .1 .low) (c .before .before .before .before .before .before .before .before .before .before .before .before .pre .1 .high) _ (c .before .before .before .before .before .before .follow .ensures) (c .before .before .before .before .r .given .1)
+
+add-next : tie.Need-add-next
+add-next c = omega (arith, c .before .before .before .before .before .before .before .before .before .before .before .before .before .before .before .before .before .before .pre .0, c .before .before .before .before .before .before .before .before .before .before .before .before .before .before .before .before .before .before .pre .2)
+
+blackens-requires : tie.Need-blackens-requires
+blackens-requires c κs = search needs
+
+same-length-6 : tie.Need-same-length-6
+same-length-6 c = search needs
+
+same-length-7 : tie.Need-same-length-7
+same-length-7 c = search needs
+
+returns-3 : tie.Need-returns-3
+returns-3 c = λ s. rw (record-done (having s (c .before .before .before .before .before .before .before .before .before .before .before .before .before .before .before .before .before .before .before .args .self) (c .before .before .before .before .before .before .before .before .before .before .before .before .before .before .before .before .before .before .before .args .h0 .now) (c .before .before .before .before .before .before .before .before .before .before .before .before .before .before .before .before .before .before .before .args .h1 .now) (c .before .before .before .before .before .before .before .before .before .before .before .before .before .before .before .before .before .before .before .args .list .now)) (c .before .before .before .before .before .before .before .before .before .before .before .before .before .before .before .before .before .before .before .pre .1 .low) (c .before .before .before .before .before .before .before .before .before .before .before .before .before .before .before .before .before .before .before .pre .1 .high) _ (c .before .before .before .before .before .before .before .before .before .before .before .before .before .follow .ensures) (c .before .before .before .before .before .before .before .before .before .before .before .r .given .1) (c .before .before .before .before .before .before .before .before .before .if1 .left) (c .before .before .before .before .before .before .put-word .ensures (c .before .before .before .before .before .before .before .before .before .before .before .before .before .before .before .before .before .before .before .args .self .frontier0) (c .before .before .before .before .before .before .before .before .before .before .before .before .before .before .before .before .before .before .before .args .self .frontier1)), c .blackens .ensures)
+
+pub scan-record-spec : {M : Type 1} → statement M
+scan-record-spec = tie.close (tie.spec follow-requires enum-known-r enum-told same-length same-length-2 returns cast-if1 add-get-word get-word-requires add-shade-next shade-next-requires same-length-3 same-length-4 same-length-5 returns-2 put-word-requires add-next blackens-requires same-length-6 same-length-7 returns-3)

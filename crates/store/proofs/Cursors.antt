@@ -1,0 +1,102 @@
+-- The collector's numbers: what test 4 gives of them, their bounds, and what a unit of work leaves that hands them on.
+use Prim.Native.Nat.{ℕ, _+_, _≤_, _<_}
+use mathlib.Core.Path.{_≡_, _∙_, sym, ap, refl}
+use mathlib.Core.List.{List, []}
+use native.Mathlib.Omega.{arith}
+use lib.ListN.{length, replicate, length-replicate}
+use Rattle.rules.specs.Refusals.{Tested, Outcome}
+use Rattle.rules.specs.Memory.{withFrontier, forward}
+use Rattle.rules.specs.Control.{Store, withMemory, withWalk, withCurrent, newStore}
+use Rattle.rules.specs.Phases.{fromspace, tospace, moveOn}
+use Rattle.rules.specs.Barriers.{Heap, heapOf, to}
+use Rattle.rules.proofs.Ranges.{InRange, place-small, fronts}
+use Rattle.heap.specs.View.{memory, heap, Within, Inside}
+use Rattle.heap.specs.declared.Bounds.{Bounds}
+use Rattle.heap.proofs.Soundness.{Found, header-inside}
+use Rattle.store.specs.View.{view, lengths}
+use Rattle.store.specs.Steps.{went}
+use Rattle.store.specs.Cursors.{having, numbered, movedOn, atFrontier, atHalf, atWalk, Ready}
+use Rattle.store.specs.Work.{touched, worked}
+use Rattle.store.specs.declared.Cursor.{Cursor}
+use Rattle.store.specs.declared.Control.{Control}
+use Rattle.store.specs.declared.work.Touch.{Touch}
+use Rattle.store.specs.declared.work.Touch.the-variants.{Nothing, Unmark}
+use Rattle.store.specs.declared.work.Work.{Work}
+use Rattle.store.specs.declared.work.Work.the-variants.{Goes}
+
+pub ready : {h0 h1 l : List ℕ} (c : Control) → InRange (view c h0 h1 l) → Ready (c .cursor) h0 h1
+ready c k =
+    let b = fronts k in
+    record {
+      half = k .half;
+      low = b .0;
+      high = b .1;
+      phases = k .phases;
+      places = place-small k;
+      fields = k .fields;
+      equal = omega arith;
+      most = omega arith;
+    }
+
+-- a store, where any will do
+abbrev pub some : Store
+some = newStore (lengths 0 0 0) [] [] []
+
+-- the header of a record found
+pub header-of : {c : Cursor} {h0 h1 : List ℕ} {v at r p : ℕ} → Ready c h0 h1 → Found (memory h0 h1 (c .frontier0) (c .frontier1)) v at r p
+    → (j : ℕ) → j < 3 → Inside h0 h1 v j
+header-of {v = v} k f j l = header-inside _ _ _ _ v (f .sound) (k .low) (k .high) j l
+
+-- ---- what a unit of work leaves
+
+module _ {o : Work} {x : Outcome Store} (s : Store) where
+  pub goes : {d : Cursor} {t : Touch} → o ≡ Goes d t → went (touched (numbered s d) t) ≡ x → worked s o ≡ x
+  goes e f = rw e f
+
+pub moves : {o : Work} {x : Outcome Store} (s : Store) (c : Cursor) (h0 h1 l : List ℕ) → o ≡ Goes (movedOn c) Unmark
+    → went (moveOn (having s c h0 h1 l)) ≡ x → worked (having s c h0 h1 l) o ≡ x
+unfolding moveOn
+moves s c h0 h1 l e f = rw e f
+
+pub empties : {o : Work} {x : Outcome Store} {d : Cursor} (s : Store) (c : Cursor) (h0 h1 l : List ℕ) (h : ℕ) → d ≡ atFrontier c h 0
+    → o ≡ Goes (movedOn d) Unmark
+    → went (moveOn (withMemory (having s c h0 h1 l) (withFrontier (memory h0 h1 (c .frontier0) (c .frontier1)) h 0))) ≡ x
+    → worked (having s c h0 h1 l) o ≡ x
+unfolding moveOn withFrontier
+empties s c h0 h1 l h e g f = rw (g, e) f
+
+pub flipped : {o : Work} {x : Outcome Store} (s : Store) (c : Cursor) (h0 h1 l : List ℕ) (h : ℕ) → o ≡ Goes (movedOn (atHalf c h)) Unmark
+    → went (moveOn (withCurrent (having s c h0 h1 l) h)) ≡ x → worked (having s c h0 h1 l) o ≡ x
+unfolding moveOn
+flipped s c h0 h1 l h e f = rw e f
+
+-- a frontier moved, and the walk past a record of n words
+pub shells : {o : Work} {x : Outcome Store} {d : Cursor} (s : Store) (c : Cursor) (h0 h1 l : List ℕ) (h end n : ℕ) → d ≡ atFrontier c h end
+    → o ≡ Goes (atWalk d (d .place + n) 0) Nothing
+    → went (withWalk (withMemory (having s c h0 h1 l) (withFrontier (memory h0 h1 (c .frontier0) (c .frontier1)) h end)) (c .place + n) 0) ≡ x
+    → worked (having s c h0 h1 l) o ≡ x
+unfolding withFrontier
+shells s c h0 h1 l h end n e g f = rw (g, e) f
+
+-- ---- bounds
+
+module _ {b : Bounds} {n : ℕ} (c : Cursor) (h0 h1 : List ℕ)
+    (f : (s : Store) (h0 h1 l : List ℕ) → n ≡ length l → heap b h0 h1 ≡ heapOf (having s c h0 h1 l)) where
+  bounds-any : (s : Store) → heap b h0 h1 ≡ heapOf (having s c h0 h1 (replicate n 0))
+  bounds-any s = f s h0 h1 (replicate n 0) (sym (length-replicate n 0))
+
+  pub bounds-within : Ready c h0 h1 → c .tail ≤ n → Within b h0 h1
+  bounds-within k t =
+      let e = bounds-any some in
+      let b0 : b .frontier0 ≡ c .frontier0 = ap (λ (z : Heap). z .memory .frontier0) e in
+      let b1 : b .frontier1 ≡ c .frontier1 = ap (λ (z : Heap). z .memory .frontier1) e in
+      let bt : b .tail ≡ c .tail = ap (λ (z : Heap). z .tail) e in
+      let bn : b .capacity ≡ length (replicate {A = ℕ} n 0) = ap (λ (z : Heap). z .capacity) e in
+      let ln = length-replicate {A = ℕ} n 0 in
+      record { low = omega (arith, k .low); high = omega (arith, k .high); listed = omega arith }
+
+  -- what the code forwarded is what the rules forward, over any list
+  pub forward-by : {x y : Tested ℕ} (s : Store) (l : List ℕ) (q : ℕ) → x ≡ forward (heap b h0 h1 .memory) (to (heap b h0 h1)) q → x ≡ y
+      → forward (memory h0 h1 (c .frontier0) (c .frontier1)) (tospace (having s c h0 h1 l)) q ≡ y
+  unfolding tospace fromspace
+  forward-by s l q g t = sym (g ∙ ap (λ (z : Heap). forward (z .memory) (to z) q) (bounds-any s)) ∙ t
