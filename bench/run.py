@@ -3,10 +3,12 @@
 
     python3 bench/run.py
 
-Needs `rt check` done, rustc and valgrind. Output must be byte-equal. It prints time, instructions per entry (callgrind), peak memory
-and the share of the Rust program's speed, side by side, and then how the cost of an entry grows with live records and with the
-halves' length. For longer halves it proves and builds the script program once more, in a copy of the repository under target/ where
-the two arrays and the list of its `main` are longer and nothing else differs (about a minute).
+Needs the program built (`rt check`), rustc, valgrind and GNU time; it says which are missing and how to get them. Both programs must
+write the same bytes. For each script it prints, side by side, the best of five times (start of the program included), instructions
+per entry (callgrind: the program's own, not the kernel's), peak memory and the share of the Rust program's speed; then, for each
+script, how the instructions of an entry grow with live records and with the halves' length. For longer halves it proves and builds
+the script program once more, in a copy of the repository under target/ where the two arrays and the list of its `main` are longer
+and nothing else differs (about a minute).
 """
 import os
 import re
@@ -16,15 +18,26 @@ import sys
 import tempfile
 import time
 
-from workloads import GROWTH, WORKLOADS, encode
+from workloads import WORKLOADS, encode
 
 ROOT = os.path.join(os.path.dirname(os.path.abspath(__file__)), "..")
 OURS = os.path.join(ROOT, "target", "bin", "script_main")
 PLAIN = os.path.join(ROOT, "target", "bench", "plain")
 COPY = os.path.join(ROOT, "target", "bench", "longer")
 LONGER = os.path.join(COPY, "target", "bin", "script_main")
+TIME = "/usr/bin/time"
 LONG = 65536
 ENTRIES = 120000
+# what the benchmark runs, and how to get it
+NEEDS = {"rt": "it is the Rattle kit's", OURS: "the script program; rt check proves and builds it",
+         "rustc": "on Debian: apt-get install rustc", "valgrind": "on Debian: apt-get install valgrind",
+         TIME: "GNU time; on Debian: apt-get install time"}
+
+
+def check_needs():
+    missing = [f"  {os.path.normpath(what)}: {how}" for what, how in NEEDS.items() if not shutil.which(what)]
+    if missing:
+        sys.exit("\n".join(["bench/run.py: missing, or not executable:"] + missing))
 
 
 def build():
@@ -69,7 +82,7 @@ def instructions(command, data):
 
 
 def peak_kilobytes(command, data):
-    done = subprocess.run(["/usr/bin/time", "-f", "%M"] + command, input=data, stdout=subprocess.DEVNULL, stderr=subprocess.PIPE, check=True)
+    done = subprocess.run([TIME, "-f", "%M"] + command, input=data, stdout=subprocess.DEVNULL, stderr=subprocess.PIPE, check=True)
     return int(done.stderr.split()[-1])
 
 
@@ -87,7 +100,7 @@ def compare(name, entries):
 def growth(title, ours, plain, counts):
     """Instructions per entry by the number of live records; the entries that make those records are in the count."""
     print(f"\ninstructions per entry, ours / plain, by live records, {title}")
-    for name, make in GROWTH.items():
+    for name, make in WORKLOADS.items():
         cells = []
         for live in counts:
             entries = make(40000 + 5 * live, live)
@@ -99,6 +112,7 @@ def growth(title, ours, plain, counts):
 
 
 def main():
+    check_needs()
     build()
     print(f"{'script':28} {'entries':>7} {'ms ours':>8} {'ms plain':>8} {'instr':>8} {'plain':>8} {'ratio':>6} {'KB ours':>7} {'KB':>7} {'speed':>7}")
     for name, make in WORKLOADS.items():

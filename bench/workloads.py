@@ -1,11 +1,12 @@
-"""The scripts of the benchmark, each from a fixed seed: mostly reads and writes; allocation and collection; stores under a running
-collection. `live` fills the store with that many linked records first, so that cost can be held against the number of live records."""
+"""The scripts of the benchmark, the same in every run: mostly reads and writes; allocation and collection; stores under a running
+collection; collector steps alone. The first has no step, the last next to nothing else. `live` fills the store with that many linked
+records first, so that cost can be held against the number of live records."""
 import os
 import random
 import sys
 
 sys.path.insert(0, os.path.join(os.path.dirname(os.path.abspath(__file__)), "..", "tests"))
-from model import ATTACH, SAFE, ALLOCATE, LOAD, STORE, READ, WRITE, MOVE, CLEAR, SAME, GET, PUT, STEP  # noqa: E402
+from model import ATTACH, SAFE, ALLOCATE, LOAD, STORE, READ, WRITE, CLEAR, SAME, GET, PUT, STEP  # noqa: E402
 from scripts import encode  # noqa: E402,F401
 
 
@@ -70,6 +71,4 @@ def steps_alone(length, live=100):
 
 
 WORKLOADS = {"reads and writes": reads_and_writes, "allocation and collection": allocation_and_collection,
-             "stores under a collection": stores_under_collection}
-# how the cost of a call and of a step grows: the first script of the benchmark has no step, this one next to nothing else
-GROWTH = {**WORKLOADS, "steps alone": steps_alone}
+             "stores under a collection": stores_under_collection, "steps alone": steps_alone}

@@ -1,14 +1,25 @@
 """Runs the script program, or the program that the environment names as SCRIPT_PROGRAM."""
 import os
+import resource
 import subprocess
 
 BUILT = os.path.join(os.path.dirname(os.path.abspath(__file__)), "..", "target", "bin", "script_main")
 PROGRAM = os.environ.get("SCRIPT_PROGRAM", BUILT)
 
 
+def run(data, stack=None):
+    """The ended run of the program on these bytes. `stack` is the most bytes of stack that it gets; the environment would lie on that
+    stack too, so then there is none."""
+    def limit():
+        resource.setrlimit(resource.RLIMIT_CORE, (0, 0))
+        resource.setrlimit(resource.RLIMIT_STACK, (stack, stack))
+    limited = {} if stack is None else {"preexec_fn": limit, "env": {}}
+    return subprocess.run([PROGRAM], input=data, stdout=subprocess.PIPE, stderr=subprocess.PIPE, timeout=120, **limited)
+
+
 def output(data):
     """What the program writes to standard output on these bytes; it must end well and write nothing to standard error."""
-    done = subprocess.run([PROGRAM], input=data, stdout=subprocess.PIPE, stderr=subprocess.PIPE, timeout=120)
+    done = run(data)
     if done.returncode != 0 or done.stderr:
         raise SystemExit(f"the program ended with status {done.returncode} and wrote to standard error: {done.stderr[:200]}")
     return done.stdout

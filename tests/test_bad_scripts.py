@@ -1,12 +1,13 @@
 #!/usr/bin/env python3
-"""The script program on damaged scripts: cut at every byte, every kind with every wrong length, unknown kinds, random bytes. What it
-must print is worked out here from document 01: 15 at the first bad entry, and nothing after it."""
+"""The script program on damaged scripts: cut at every byte and at the edges of the input buffer, every kind with every wrong length,
+unknown kinds, random bytes. What it must print is worked out here from document 01: 15 at the first bad entry, and nothing after
+it."""
 import random
 import sys
 
 import program
 import sapphire
-from model import STEP, WRITE
+from model import ALLOCATE, ATTACH, READ, SAFE, STEP, WRITE
 from scripts import ARGUMENTS, encode, random_script
 
 SIZES = {kind: 1 + n + (3 if kind == WRITE else 0) for kind, n in ARGUMENTS.items()}
@@ -31,14 +32,32 @@ def expected(data):
     return "".join(out).encode()
 
 
+def writes_and_reads(shift):
+    """Entries of nine and of five bytes in turn, over several input buffers and from a place that `shift` moves: each number written
+    is read back."""
+    rng = random.Random(shift)
+    entries = [(ATTACH, [0]), (ALLOCATE, [0, 0, 0, 1])] + [(SAFE, [0])] * shift + [(STEP, [])] * (14 - shift)
+    for _ in range(900):
+        entries += [(WRITE, [0, 0, 0, rng.randrange(1 << 32)]), (READ, [0, 0, 0])]
+    return entries
+
+
 def inputs():
     whole = encode(random_script(7, 60))
     for cut in range(len(whole) + 1):
         yield f"cut at {cut}", whole[:cut]
-    # the program reads 65,536 bytes at once: entries across that edge, whole and cut
+    # the program's input buffer has 4,096 bytes: entries across its first edge, whole and cut, from each of their bytes on
+    for shift in range(14):
+        long = encode(writes_and_reads(shift))
+        yield f"writes and reads {shift}", long
+        for cut in range(4088, 4109):
+            yield f"writes and reads {shift} cut at {cut}", long[:cut]
+    # what is there of an entry is moved to the front before the program reads on, so the next edge is 4,088 to 4,096 bytes further;
+    # the last cuts are around the edge of a buffer of 65,536 bytes
     long = encode(random_script(9, 30000))
-    for cut in range(65528, 65548):
-        yield f"long script cut at {cut}", long[:cut]
+    for first, last in ((8170, 8200), (12256, 12296), (16340, 16392), (65528, 65548)):
+        for cut in range(first, last + 1):
+            yield f"long script cut at {cut}", long[:cut]
     start = encode([(1, [0]), (4, [0, 0, 2, 2])])
     for kind in range(256):
         for length in range(12):

@@ -137,8 +137,8 @@ fn main() {
     let mut half0 = [0u32; 4096];
     let mut half1 = [0u32; 4096];
     let mut list = [0u32; 1365];
-    let mut input = io::large_buffer();
-    let mut out = io::large_buffer();
+    let mut input = io::buffer();
+    let mut out = io::buffer();
     let filled = io::read_full(STDIN_FILENO, &mut input);
     if script::is_version(&input[..filled]) {
         run(

@@ -9,6 +9,7 @@ use Rattle.rules.specs.Memory.{withFrontier, forward}
 use Rattle.rules.specs.Control.{Store, withMemory, withWalk, withCurrent, newStore}
 use Rattle.rules.specs.Phases.{fromspace, tospace, moveOn}
 use Rattle.rules.specs.Barriers.{Heap, heapOf, to}
+use Rattle.rules.specs.Collector.{forwardAll}
 use Rattle.rules.proofs.Ranges.{InRange, place-small, fronts}
 use Rattle.heap.specs.View.{memory, heap, Within, Inside}
 use Rattle.heap.specs.declared.Bounds.{Bounds}
@@ -20,9 +21,9 @@ use Rattle.store.specs.Work.{touched, worked}
 use Rattle.store.specs.declared.Cursor.{Cursor}
 use Rattle.store.specs.declared.Control.{Control}
 use Rattle.store.specs.declared.work.Touch.{Touch}
-use Rattle.store.specs.declared.work.Touch.the-variants.{Nothing, Unmark}
+use Rattle.store.specs.declared.work.Touch.the-variants.{Nothing, Marks}
 use Rattle.store.specs.declared.work.Work.{Work}
-use Rattle.store.specs.declared.work.Work.the-variants.{Goes}
+use Rattle.store.specs.declared.work.Work.the-variants.{Next}
 
 pub ready : {h0 h1 l : List ℕ} (c : Control) → InRange (view c h0 h1 l) → Ready (c .cursor) h0 h1
 ready c k =
@@ -38,6 +39,9 @@ ready c k =
       most = omega arith;
     }
 
+pub ends : {h0 h1 l : List ℕ} (c : Control) → InRange (view c h0 h1 l) → c .cursor .tail ≤ length l
+ends c k = omega arith
+
 -- a store, where any will do
 abbrev pub some : Store
 some = newStore (lengths 0 0 0) [] [] []
@@ -50,29 +54,29 @@ header-of {v = v} k f j l = header-inside _ _ _ _ v (f .sound) (k .low) (k .high
 -- ---- what a unit of work leaves
 
 module _ {o : Work} {x : Outcome Store} (s : Store) where
-  pub goes : {d : Cursor} {t : Touch} → o ≡ Goes d t → went (touched (numbered s d) t) ≡ x → worked s o ≡ x
+  pub goes : {d : Cursor} {t : Touch} → o ≡ Next d t → went (touched (numbered s d) t) ≡ x → worked s o ≡ x
   goes e f = rw e f
 
-pub moves : {o : Work} {x : Outcome Store} (s : Store) (c : Cursor) (h0 h1 l : List ℕ) → o ≡ Goes (movedOn c) Unmark
+pub moves : {o : Work} {x : Outcome Store} (s : Store) (c : Cursor) (h0 h1 l : List ℕ) → o ≡ Next (movedOn c) Marks
     → went (moveOn (having s c h0 h1 l)) ≡ x → worked (having s c h0 h1 l) o ≡ x
 unfolding moveOn
 moves s c h0 h1 l e f = rw e f
 
 pub empties : {o : Work} {x : Outcome Store} {d : Cursor} (s : Store) (c : Cursor) (h0 h1 l : List ℕ) (h : ℕ) → d ≡ atFrontier c h 0
-    → o ≡ Goes (movedOn d) Unmark
+    → o ≡ Next (movedOn d) Marks
     → went (moveOn (withMemory (having s c h0 h1 l) (withFrontier (memory h0 h1 (c .frontier0) (c .frontier1)) h 0))) ≡ x
     → worked (having s c h0 h1 l) o ≡ x
 unfolding moveOn withFrontier
 empties s c h0 h1 l h e g f = rw (g, e) f
 
-pub flipped : {o : Work} {x : Outcome Store} (s : Store) (c : Cursor) (h0 h1 l : List ℕ) (h : ℕ) → o ≡ Goes (movedOn (atHalf c h)) Unmark
+pub flipped : {o : Work} {x : Outcome Store} (s : Store) (c : Cursor) (h0 h1 l : List ℕ) (h : ℕ) → o ≡ Next (movedOn (atHalf c h)) Marks
     → went (moveOn (withCurrent (having s c h0 h1 l) h)) ≡ x → worked (having s c h0 h1 l) o ≡ x
 unfolding moveOn
 flipped s c h0 h1 l h e f = rw e f
 
 -- a frontier moved, and the walk past a record of n words
 pub shells : {o : Work} {x : Outcome Store} {d : Cursor} (s : Store) (c : Cursor) (h0 h1 l : List ℕ) (h end n : ℕ) → d ≡ atFrontier c h end
-    → o ≡ Goes (atWalk d (d .place + n) 0) Nothing
+    → o ≡ Next (atWalk d (d .place + n) 0) Nothing
     → went (withWalk (withMemory (having s c h0 h1 l) (withFrontier (memory h0 h1 (c .frontier0) (c .frontier1)) h end)) (c .place + n) 0) ≡ x
     → worked (having s c h0 h1 l) o ≡ x
 unfolding withFrontier
@@ -95,8 +99,17 @@ module _ {b : Bounds} {n : ℕ} (c : Cursor) (h0 h1 : List ℕ)
       let ln = length-replicate {A = ℕ} n 0 in
       record { low = omega (arith, k .low); high = omega (arith, k .high); listed = omega arith }
 
-  -- what the code forwarded is what the rules forward, over any list
+  -- what the code forwarded is what the rules forward, over any list; and the other half is tospace
   pub forward-by : {x y : Tested ℕ} (s : Store) (l : List ℕ) (q : ℕ) → x ≡ forward (heap b h0 h1 .memory) (to (heap b h0 h1)) q → x ≡ y
       → forward (memory h0 h1 (c .frontier0) (c .frontier1)) (tospace (having s c h0 h1 l)) q ≡ y
   unfolding tospace fromspace
   forward-by s l q g t = sym (g ∙ ap (λ (z : Heap). forward (z .memory) (to z) q) (bounds-any s)) ∙ t
+
+  pub all-by : {x y : Tested (List ℕ)} (s : Store) (l : List ℕ) (vs : List ℕ) → x ≡ forwardAll (heap b h0 h1 .memory) (to (heap b h0 h1)) vs → x ≡ y
+      → forwardAll (memory h0 h1 (c .frontier0) (c .frontier1)) (tospace (having s c h0 h1 l)) vs ≡ y
+  unfolding tospace fromspace
+  all-by s l vs g t = sym (g ∙ ap (λ (z : Heap). forwardAll (z .memory) (to z) vs) (bounds-any s)) ∙ t
+
+  pub tospace-by : {h : ℕ} (s : Store) (l : List ℕ) → h ≡ to (heap b h0 h1) → h ≡ tospace (having s c h0 h1 l)
+  unfolding tospace fromspace
+  tospace-by s l g = g ∙ ap (λ (z : Heap). to z) (bounds-any s)

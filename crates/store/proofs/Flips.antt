@@ -8,7 +8,7 @@ use borrow.Author.Tests.{lt-ltb, le-ltb, not-true, not-false}
 use Rattle.rules.specs.Refusals.{refused, passed}
 use Rattle.rules.specs.Memory.{forward}
 use Rattle.rules.specs.Control.{Store, withWalk, withGlobals, withCurrent}
-use Rattle.rules.specs.Phases.{tospace, sessionAt, withSession, withRegisters, withMark, lowestUnmarked, moveOn}
+use Rattle.rules.specs.Phases.{tospace, absent, sessionAt, withSession, withRegisters, withMark, lowestUnmarked, moveOn}
 use Rattle.rules.specs.Collector.{rootFlip, forwardAll, stackFlip}
 use Rattle.store.specs.Steps.{went, stepped}
 use Rattle.store.specs.Work.{registers, worked}
@@ -29,27 +29,27 @@ module _ (s : Store) where
   unfolding rootFlip
   roots-done l = rw (le-ltb (s .walk .place) 32 l)
 
-  module _ (l : s .walk .place < 32) where
-    pub root-lost : forward (s .memory) (tospace s) (getD (s .globals) (s .walk .place) 0) ≡ refused 12 → worked s (Refused 12) ≡ stepped s (rootFlip s)
+  module _ {v : ℕ} (l : s .walk .place < 32) (g : v ≡ getD (s .globals) (s .walk .place) 0) where
+    pub root-lost : forward (s .memory) (tospace s) v ≡ refused 12 → worked s (Refused 12) ≡ stepped s (rootFlip s)
     unfolding rootFlip
-    root-lost f = rw (lt-ltb (s .walk .place) 32 l, f)
+    root-lost f = rw (lt-ltb (s .walk .place) 32 l, ← g, f)
 
-    pub root-flips : {q : ℕ} → forward (s .memory) (tospace s) (getD (s .globals) (s .walk .place) 0) ≡ passed q
+    pub root-flips : {q : ℕ} → forward (s .memory) (tospace s) v ≡ passed q
         → went (withWalk (withGlobals s (set (s .globals) (s .walk .place) q)) (s .walk .place + 1) (s .walk .field)) ≡ stepped s (rootFlip s)
     unfolding rootFlip
-    root-flips f = rw (lt-ltb (s .walk .place) 32 l, f)
+    root-flips f = rw (lt-ltb (s .walk .place) 32 l, ← g, f)
 
   module _ {n : ℕ} (m : n ≡ lowestUnmarked (s .sessions)) (k : length (s .sessions) ≡ 16) where
     pub stacks-done : {h : ℕ} → 16 ≤ n → h ≡ tospace s → went (moveOn (withCurrent s h)) ≡ stepped s (stackFlip s)
     unfolding stackFlip moveOn
     stacks-done l h = rw (← m, k, le-ltb n 16 l, h)
 
-    module _ (l : n < 16) where
-      pub stack-lost : forwardAll (s .memory) (tospace s) (sessionAt s n .registers) ≡ refused 12 → worked s (Refused 12) ≡ stepped s (stackFlip s)
-      unfolding stackFlip
-      stack-lost f = rw (← m, k, lt-ltb n 16 l, f)
+    module _ {vs : List ℕ} (l : n < 16) (g : vs ≡ getD (s .sessions) n absent .registers) where
+      pub stack-lost : forwardAll (s .memory) (tospace s) vs ≡ refused 12 → worked s (Refused 12) ≡ stepped s (stackFlip s)
+      unfolding stackFlip sessionAt
+      stack-lost f = rw (← m, k, lt-ltb n 16 l, ← g, f)
 
-      pub stack-flips : {x : Stack} {ws : List ℕ} → forwardAll (s .memory) (tospace s) (sessionAt s n .registers) ≡ passed ws → registers x ≡ ws
+      pub stack-flips : {x : Stack} {ws : List ℕ} → forwardAll (s .memory) (tospace s) vs ≡ passed ws → registers x ≡ ws
           → went (withSession s n (withMark (withRegisters (sessionAt s n) (registers x)) true)) ≡ stepped s (stackFlip s)
-      unfolding stackFlip
-      stack-flips f e = rw (← m, k, lt-ltb n 16 l, f, e)
+      unfolding stackFlip sessionAt
+      stack-flips f e = rw (← m, k, lt-ltb n 16 l, ← g, f, e)

@@ -1,44 +1,13 @@
--- Forwarding by the code's bounds, and all registers of a session forwarded one after another.
+-- All registers of a session forwarded one after another.
 use Prim.Native.Nat.{ℕ, _+_, _≤_, _<_}
 use mathlib.Core.Path.{_≡_, _∙_, sym, ap, refl}
 use mathlib.Core.List.{List, [], _∷_, _++_, append-assoc, append-nil}
 use native.Mathlib.Numerals.{add-one}
-use lib.ListN.{length, take, drop, set, getD, length-replicate, drop-of-length-le}
+use lib.ListN.{length, take, drop, set, getD, drop-of-length-le}
 use lib.Seq.{drop-cons, take-all, take-suc-set}
 use Rattle.rules.specs.Refusals.{Tested, refused, passed, _>>=_}
 use Rattle.rules.specs.Memory.{Memory, forward}
-use Rattle.rules.specs.Phases.{tospace, fromspace}
-use Rattle.rules.specs.Barriers.{Heap, heapOf, to}
 use Rattle.rules.specs.Collector.{forwardAll}
-use Rattle.heap.specs.View.{memory, heap}
-use Rattle.heap.specs.declared.Bounds.{Bounds}
-use Rattle.store.specs.View.{view}
-use Rattle.store.specs.Steps.{over}
-use Rattle.store.specs.declared.Control.{Control}
-
--- ---- the bounds of a control record
-
-pub bounds-over : {b : Bounds} (c : Control) (h0 h1 : List ℕ)
-    → ((h0 h1 l : List ℕ) → c .capacity ≡ length l → heap b h0 h1 ≡ heapOf (view c h0 h1 l)) → heap b h0 h1 ≡ heapOf (over c h0 h1)
-bounds-over c h0 h1 f = f h0 h1 _ (sym (length-replicate (c .capacity) 0))
-
--- what the code forwarded is what the rules forward, over any list
-module _ {b : Bounds} (c : Control) (h0 h1 l : List ℕ) (e : heap b h0 h1 ≡ heapOf (over c h0 h1)) where
-  pub forward-told : {x y : Tested ℕ} (q : ℕ) → x ≡ forward (heap b h0 h1 .memory) (to (heap b h0 h1)) q → x ≡ y
-      → forward (memory h0 h1 (c .cursor .frontier0) (c .cursor .frontier1)) (tospace (view c h0 h1 l)) q ≡ y
-  unfolding tospace fromspace
-  forward-told q f t = sym (f ∙ ap (λ (z : Heap). forward (z .memory) (to z) q) e) ∙ t
-
-  pub all-told : {x y : Tested (List ℕ)} (vs : List ℕ) → x ≡ forwardAll (heap b h0 h1 .memory) (to (heap b h0 h1)) vs → x ≡ y
-      → forwardAll (memory h0 h1 (c .cursor .frontier0) (c .cursor .frontier1)) (tospace (view c h0 h1 l)) vs ≡ y
-  unfolding tospace fromspace
-  all-told vs f t = sym (f ∙ ap (λ (z : Heap). forwardAll (z .memory) (to z) vs) e) ∙ t
-
-  pub tospace-told : {h : ℕ} → h ≡ to (heap b h0 h1) → h ≡ tospace (view c h0 h1 l)
-  unfolding tospace fromspace
-  tospace-told f = f ∙ ap (λ (z : Heap). to z) e
-
--- ---- all registers
 
 same : (t : Tested (List ℕ)) → t ≡ (t >>= λ (rest : List ℕ). passed rest)
 same (refused n) = refl

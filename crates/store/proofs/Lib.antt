@@ -43,7 +43,7 @@ pub mod Allocating
 pub mod Forwards
 pub mod Flips
 pub mod FieldCopies
--- the control record after a unit of work
-pub mod Changes
+-- the registers of a session one by one
+pub mod Stacks
 -- the collector step by the number of its phase
 pub mod Units

@@ -1,4 +1,4 @@
--- The arms of the phases that mark. A law takes the control record test of its store, by which a proof names the store.
+-- The arms of the phases that mark.
 use Prim.Native.Nat.{ℕ, _+_, _-_, _≤_, _<_}
 use mathlib.Core.Path.{_≡_, _∙_, sym, refl, ap}
 use mathlib.Core.Bool.{Bool, true, false, cond, not, _&&_, false≢true}
@@ -8,22 +8,23 @@ use lib.Dec.{leb}
 use lib.ListN.{length, length-map, getD, set, take}
 use lib.Seq.{getD-take, length-take-le, sets}
 use borrow.Author.Tests.{lt-ltb, le-ltb, le-leb, lt-leb, leb-true, leb-false, not-true, not-false}
-use Rattle.rules.specs.Refusals.{refused, passed}
+use Rattle.rules.specs.Refusals.{Tested, refused, passed}
 use Rattle.rules.specs.Memory.{Memory, word, put, refs, sound, follow, followed, colourAt, grey, black}
-use Rattle.rules.specs.Control.{Store, inRange, withMemory, withWalk, withList, withSessions}
-use Rattle.rules.specs.Phases.{moveOn, lowestUnmarked, sessionAt, withSession, withMark, unmarked}
+use Rattle.rules.specs.Control.{Store, withMemory, withWalk, withList, withSessions}
+use Rattle.rules.specs.Phases.{moveOn, lowestUnmarked, absent, sessionAt, withSession, withMark, unmarked}
 use Rattle.rules.specs.Barriers.{Heap, heapOf, listRoom, shading, shade}
 use Rattle.rules.specs.Collector.{rootMark, scanRecord, scanSession, heapMark, toShadeAll, shadeAll}
 use Rattle.rules.specs.declared.Followed.{Followed}
 use Rattle.rules.specs.declared.Followed.the-variants.{Sound, Damage}
-use Rattle.rules.proofs.Ranges.{InRange, in-range}
-use Rattle.heap.specs.View.{checked, Inside}
+use Rattle.heap.specs.View.{memory, checked, Inside}
 use Rattle.heap.specs.declared.Checked.{Checked}
 use Rattle.heap.specs.declared.Checked.the-variants as check
 use Rattle.heap.proofs.Soundness.{found, lost, header-inside}
 use Rattle.heap.proofs.Fields.{ref-inside}
 use Rattle.heap.proofs.Plans.{shading-known}
+use Rattle.store.specs.Cursors.{having, Ready}
 use Rattle.store.specs.Marking.{shadeNext, whites, greyed}
+use Rattle.store.specs.declared.Cursor.{Cursor}
 use Rattle.store.specs.declared.scanning.Whites.{Whites}
 use Rattle.store.proofs.Collected.{whites-sound}
 use Rattle.store.proofs.Shaded.{shade-null, shade-record}
@@ -63,14 +64,15 @@ module _ {r : Checked} (s : Store) (q : ℕ) (e : checked r ≡ shading (heapOf 
 
 -- ---- RootMark
 
-module _ (s : Store) (k : inRange s ≡ true) where
+module _ (s : Store) where
   pub roots-done : 32 ≤ s .walk .place → rootMark s ≡ passed (moveOn s)
   unfolding rootMark
   roots-done h = rw (le-ltb (s .walk .place) 32 h)
 
-  pub root-next : s .walk .place < 32 → rootMark s ≡ shadeNext s (getD (s .globals) (s .walk .place) 0) (s .walk .place + 1) (s .walk .field)
+  pub root-next : {q : ℕ} → s .walk .place < 32 → q ≡ getD (s .globals) (s .walk .place) 0
+      → rootMark s ≡ shadeNext s q (s .walk .place + 1) (s .walk .field)
   unfolding rootMark shadeNext
-  root-next h = rw (lt-ltb (s .walk .place) 32 h)
+  root-next h e = rw (lt-ltb (s .walk .place) 32 h, e)
 
 -- ---- HeapMark: a listed record
 
@@ -124,77 +126,77 @@ module _ (s : Store) (n : ℕ) where
     unfolding scanSession listRoom
     session-scanned h = rw (e, le-leb (s .list .tail + length vs) (length (s .list .words)) h)
 
--- by the code's test: the registers are sound, and c entries fit
-module _ (s : Store) (k : InRange s) (n c : ℕ) (vs : List ℕ) (l : length vs ≡ c) where
-  refused-whites : (a : Bool) → cond a (passed vs) (refused 12) ≡ toShadeAll (s .memory) (sessionAt s n .registers)
-      → not (a && leb c (s .lengths .list - s .list .tail)) ≡ true → scanSession s n ≡ refused 12
-  refused-whites true e t =
-      let f = leb-false c (s .lengths .list - s .list .tail) (not-true _ t) in
-      session-full s n vs (sym e) (omega arith)
-  refused-whites false e t = session-damage s n (sym e)
+-- by the code's test: the registers are sound, and c entries fit behind i in a list of m
+accepted-whites : {x : Tested (List ℕ)} (i m c : ℕ) (vs : List ℕ) (a : Bool) → i ≤ m → cond a (passed vs) (refused 12) ≡ x
+    → not (a && leb c (m - i)) ≡ false → (x ≡ passed vs) × (i + c ≤ m)
+accepted-whites i m c vs true k e t =
+    let f = leb-true c (m - i) (not-false _ t) in
+    (sym e, omega arith)
+accepted-whites i m c vs false k e t = absurd (false≢true (sym t))
 
-  accepted-whites : (a : Bool) → cond a (passed vs) (refused 12) ≡ toShadeAll (s .memory) (sessionAt s n .registers)
-      → not (a && leb c (s .lengths .list - s .list .tail)) ≡ false
-      → (toShadeAll (s .memory) (sessionAt s n .registers) ≡ passed vs) × (s .list .tail + c ≤ length (s .list .words))
-  accepted-whites true e t =
-      let f = leb-true c (s .lengths .list - s .list .tail) (not-false _ t) in
-      (sym e, omega arith)
-  accepted-whites false e t = absurd (false≢true (sym t))
+refused-whites : (s : Store) (n c : ℕ) (vs : List ℕ) (a : Bool) → s .list .tail ≤ length (s .list .words) → length vs ≡ c
+    → cond a (passed vs) (refused 12) ≡ toShadeAll (s .memory) (sessionAt s n .registers)
+    → not (a && leb c (length (s .list .words) - s .list .tail)) ≡ true → scanSession s n ≡ refused 12
+refused-whites s n c vs true k l e t =
+    let f = leb-false c (length (s .list .words) - s .list .tail) (not-true _ t) in
+    session-full s n vs (sym e) (omega arith)
+refused-whites s n c vs false k l e t = session-damage s n (sym e)
 
--- what is known where the registers of session n gave w
-pub record Scanning (s : Store) (n : ℕ) (w : Whites) : Type 0 where
-  pub known : InRange s
+-- what is known where the registers vs gave w
+pub record Scanning (c : Cursor) (h0 h1 l vs : List ℕ) (w : Whites) : Type 0 where
+  pub ranges : Ready c h0 h1
+  pub ends : c .tail ≤ length l
   pub few : w .count ≤ length (w .words)
-  pub answer : whites w ≡ toShadeAll (s .memory) (sessionAt s n .registers)
+  pub answer : whites w ≡ toShadeAll (memory h0 h1 (c .frontier0) (c .frontier1)) vs
 
-pub scanning : {z : Heap} (s : Store) (n : ℕ) (w : Whites) (vs : List ℕ) → InRange s → w .count ≤ 8 → length (w .words) ≡ 8
-    → whites w ≡ toShadeAll (z .memory) vs → z ≡ heapOf s → vs ≡ sessionAt s n .registers → Scanning s n w
-scanning s n w vs k c l e b g =
-    record {
-      known = k;
-      few = omega arith;
-      answer = e ∙ ap (λ (y : Heap). toShadeAll (y .memory) vs) b ∙ ap (toShadeAll (s .memory)) g;
-    }
-
-module _ {s : Store} {n : ℕ} {w : Whites} (k : Scanning s n w) where
+module _ {c : Cursor} {h0 h1 l vs : List ℕ} {w : Whites} (k : Scanning c h0 h1 l vs w) where
   counted : length (take (w .count) (w .words)) ≡ w .count
   counted = length-take-le (w .count) (w .words) (k .few)
 
-  pub session-refused : not (w .sound && leb (w .count) (s .lengths .list - s .list .tail)) ≡ true → scanSession s n ≡ refused 12
-  session-refused = refused-whites s (k .known) n (w .count) (take (w .count) (w .words)) counted (w .sound) (k .answer)
+  module _ (t : not (w .sound && leb (w .count) (length l - c .tail)) ≡ false) where
+    accepted : (toShadeAll (memory h0 h1 (c .frontier0) (c .frontier1)) vs ≡ passed (take (w .count) (w .words))) × (c .tail + w .count ≤ length l)
+    accepted = accepted-whites (c .tail) (length l) (w .count) (take (w .count) (w .words)) (w .sound) (k .ends) (k .answer) t
 
-  module _ (t : not (w .sound && leb (w .count) (s .lengths .list - s .list .tail)) ≡ false) where
-    accepted : (toShadeAll (s .memory) (sessionAt s n .registers) ≡ passed (take (w .count) (w .words)))
-        × (s .list .tail + w .count ≤ length (s .list .words))
-    accepted = accepted-whites s (k .known) n (w .count) (take (w .count) (w .words)) counted (w .sound) (k .answer) t
-
-    session-accepted : scanSession s n ≡ passed (shadeAll (withSession s n (withMark (sessionAt s n) true)) (take (w .count) (w .words)))
-    session-accepted = session-scanned s n (take (w .count) (w .words)) (accepted .0) (rw counted (accepted .1))
-
-    pub session-room : s .list .tail + w .count ≤ length (s .list .words)
+    pub session-room : c .tail + w .count ≤ length l
     session-room = accepted .1
 
-    pub session-inside : (j : ℕ) → j < w .count → Inside (s .memory .half0) (s .memory .half1) (getD (w .words) j 0) colourAt
+    pub session-inside : (j : ℕ) → j < w .count → Inside h0 h1 (getD (w .words) j 0) colourAt
     session-inside j h =
-        let r = k .known in
-        let l : j < length (take (w .count) (w .words)) = rw counted h in
-        let f = whites-sound (s .memory) (sessionAt s n .registers) (take (w .count) (w .words)) (accepted .0) j l in
-        header-inside (s .memory .half0) (s .memory .half1) (s .memory .frontier0) (s .memory .frontier1) (getD (w .words) j 0)
-        (rw (getD-take (w .count) (w .words) j 0 h) at f) (omega arith) (omega arith) 1 (omega arith)
+        let r : j < length (take (w .count) (w .words)) = rw counted h in
+        let f = whites-sound (memory h0 h1 (c .frontier0) (c .frontier1)) vs (take (w .count) (w .words)) (accepted .0) j r in
+        header-inside h0 h1 (c .frontier0) (c .frontier1) (getD (w .words) j 0)
+        (rw (getD-take (w .count) (w .words) j 0 h) at f) (k .ranges .low) (k .ranges .high) 1 (omega arith)
 
-    -- no white record: the session is marked
-    pub session-marked : w .count ≡ 0 → scanSession s n ≡ passed (withSession s n (withMark (sessionAt s n) true))
-    session-marked z = session-accepted ∙ rw z
+  -- of a store whose session n has these registers
+  module _ (s : Store) (n : ℕ) (g : vs ≡ getD (s .sessions) n absent .registers) where
+    told : whites w ≡ toShadeAll (memory h0 h1 (c .frontier0) (c .frontier1)) (sessionAt (having s c h0 h1 l) n .registers)
+    unfolding sessionAt
+    told = k .answer ∙ ap (toShadeAll (memory h0 h1 (c .frontier0) (c .frontier1))) g
 
-    -- the white records shaded, by the words that are written
-    pub session-shaded : {N : Memory} {ws : List ℕ} → (w .count ≡ 0 → ⊥) → N ≡ greyed (s .memory) (take (w .count) (w .words))
-        → ws ≡ sets (s .list .words) (s .list .tail) (take (w .count) (w .words))
-        → scanSession s n
-        ≡ passed (withSessions (withList (withMemory s N) ws (s .list .head) (s .list .tail + w .count)) (unmarked (s .sessions)))
-    session-shaded z m l =
-        let named : (j : ℕ) → j < length (take (w .count) (w .words)) → getD (take (w .count) (w .words)) j 0 ≡ 0 → ⊥ =
-        λ j h e. let h : j < w .count = rw counted at h in let i = session-inside j h in omega (arith, i .named, getD-take (w .count) (w .words) j 0 h) in
-        session-accepted ∙ ap passed (all-shaded s n (take (w .count) (w .words)) named (rw counted (omega arith)) m l ∙ rw counted)
+    pub session-refused : not (w .sound && leb (w .count) (length l - c .tail)) ≡ true → scanSession (having s c h0 h1 l) n ≡ refused 12
+    session-refused = refused-whites (having s c h0 h1 l) n (w .count) (take (w .count) (w .words)) (w .sound) (k .ends) counted told
+
+    module _ (t : not (w .sound && leb (w .count) (length l - c .tail)) ≡ false) where
+      session-accepted : scanSession (having s c h0 h1 l) n
+          ≡ passed (shadeAll (withSession (having s c h0 h1 l) n (withMark (sessionAt (having s c h0 h1 l) n) true)) (take (w .count) (w .words)))
+      session-accepted =
+          session-scanned (having s c h0 h1 l) n (take (w .count) (w .words)) (sym told ∙ k .answer ∙ accepted t .0) (rw counted (accepted t .1))
+
+      -- no white record: the session is marked
+      pub session-marked : w .count ≡ 0 → scanSession (having s c h0 h1 l) n
+          ≡ passed (withSession (having s c h0 h1 l) n (withMark (sessionAt (having s c h0 h1 l) n) true))
+      session-marked z = session-accepted ∙ rw z
+
+      -- the white records shaded, by the words that are written
+      pub session-shaded : {N : Memory} {ws : List ℕ} → (w .count ≡ 0 → ⊥)
+          → N ≡ greyed (memory h0 h1 (c .frontier0) (c .frontier1)) (take (w .count) (w .words)) → ws ≡ sets l (c .tail) (take (w .count) (w .words))
+          → scanSession (having s c h0 h1 l) n
+          ≡ passed (withSessions (withList (withMemory (having s c h0 h1 l) N) ws (c .head) (c .tail + w .count)) (unmarked (s .sessions)))
+      session-shaded z m d =
+          let named : (j : ℕ) → j < length (take (w .count) (w .words)) → getD (take (w .count) (w .words)) j 0 ≡ 0 → ⊥ =
+          λ j h e. let h : j < w .count = rw counted at h in let i = session-inside t j h in omega (arith, i .named, getD-take (w .count) (w .words) j 0 h) in
+          session-accepted
+          ∙ ap passed (all-shaded (having s c h0 h1 l) n (take (w .count) (w .words)) named (rw counted (omega arith)) m d ∙ rw counted)
 
 -- the length of an array of structs
 pub unmapped : (A B : Type 0) (f : A → B) (l : List A) (n : ℕ) → length (map f l) ≡ n → length l ≡ n
@@ -202,7 +204,7 @@ unmapped A B f l n e = sym (length-map l f) ∙ e
 
 -- ---- HeapMark
 
-module _ (s : Store) (k : inRange s ≡ true) where
+module _ (s : Store) where
   pub listed-next : s .list .head < s .list .tail → heapMark s ≡ scanRecord s (getD (s .list .words) (s .list .head) 0)
   unfolding heapMark
   listed-next h = rw (lt-ltb (s .list .head) (s .list .tail) h)

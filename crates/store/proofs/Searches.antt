@@ -1,48 +1,19 @@
--- The sessions looked at one after another: for the one with number s, for the lowest that is looked for, and for marks to clear.
+-- The sessions looked at one after another: for the lowest that is looked for, and for marks to clear.
 use Prim.Native.Nat.{ℕ, zero, suc, _+_, _≤_, _<_}
 use mathlib.Core.Path.{_≡_, _∙_, refl, sym, ap}
-use mathlib.Core.Bool.{Bool, true, false, cond, not, _&&_, _||_, or-false, false≢true}
+use mathlib.Core.Bool.{Bool, true, false, cond, not, _&&_, _||_, false≢true}
 use mathlib.Core.List.{List, [], _∷_}
 use native.Mathlib.Omega.{arith}
 use native.Mathlib.Nat.{le-of-suc-le-suc}
 use lib.Dec.{leb, ltb, eqb, eqb·suc-suc, eqb·zero-suc}
-use lib.ListN.{length, length-map, length-set, set, getD, List·getD-map, List·getD-eq-default}
+use lib.ListN.{length, length-map, length-set, set, getD, List·getD-map}
 use lib.Seq.{getD-set-same, getD-set-other, map-set-same, ext-getD}
-use borrow.Author.Tests.{lt-ltb, le-ltb, ltb-true, ltb-false, lt-leb, le-leb, eqb-true, eqb-false}
+use borrow.Author.Tests.{ltb-true, ltb-false, lt-leb, le-leb, eqb-true, eqb-false}
 use Rattle.rules.specs.Control.{levelsInRange}
 use Rattle.rules.specs.Phases.{absent, withMark, unmarked, allAt, lowestUnmarked}
 use Rattle.rules.specs.declared.Session.{Session}
 use Rattle.store.specs.Searching.{isWanted}
 use Rattle.store.specs.declared.searching.Wanted.the-variants.{Unscanned, NotAt, Above}
-
--- ---- session s among the first i
-
-module _ (l : List Session) (s : ℕ) where
-  pub seen-none : false ≡ (ltb s 0 && getD l s absent .attached)
-  seen-none = rw (le-ltb s 0 (omega arith))
-
-  more : (i : ℕ) (e q : Bool) → eqb i s ≡ e → ltb s i ≡ q
-      → ((ltb s i && getD l s absent .attached) || (eqb i s && getD l i absent .attached)) ≡ (ltb s (i + 1) && getD l s absent .attached)
-  more i true q d t =
-      let h : i ≡ s = eqb-true i s d in
-      rw (d, le-ltb s i (omega arith), lt-ltb s (i + 1) (omega arith), h)
-  more i false true d t =
-      let h : s < i = ltb-true s i t in
-      rw (d, t, lt-ltb s (i + 1) (omega arith)) (or-false (getD l s absent .attached))
-  more i false false d t =
-      let h : i ≤ s = ltb-false s i t in
-      rw (d, t, le-ltb s (i + 1) (omega (arith, eqb-false i s d)))
-
-  pub seen-more : {a : Bool} (i : ℕ) → a ≡ (ltb s i && getD l s absent .attached)
-      → (a || (eqb i s && getD l i absent .attached)) ≡ (ltb s (i + 1) && getD l s absent .attached)
-  seen-more i e = rw e (more i (eqb i s) (ltb s i) refl refl)
-
-  all : (i : ℕ) (q : Bool) → length l ≤ i → ltb s i ≡ q → (ltb s i && getD l s absent .attached) ≡ getD l s absent .attached
-  all i true h t = rw t
-  all i false h t = let k : i ≤ s = ltb-false s i t in rw (t, List·getD-eq-default l absent {n = s} (omega arith))
-
-  pub seen-all : {a : Bool} (i : ℕ) → a ≡ (ltb s i && getD l s absent .attached) → length l ≤ i → a ≡ getD l s absent .attached
-  seen-all i e h = e ∙ all i (ltb s i) h refl
 
 -- ---- the lowest session that is looked for
 
@@ -92,6 +63,11 @@ unmarked-along (x ∷ xs) = ap (λ (n : ℕ). cond (x .attached && not (x .scann
 
 pub lowest-unmarked : (l : List Session) (r : ℕ) → Lowest (isWanted Unscanned) l r → r ≡ lowestUnmarked l
 lowest-unmarked l r k = lowest-is (isWanted Unscanned) l r k ∙ unmarked-along l
+
+-- the same of a store's sessions, from an array of them
+pub lowest-of : {n : ℕ} (xs ys : List Session) → xs ≡ ys → length xs ≡ 16 → Lowest (isWanted Unscanned) xs n
+    → (n ≡ lowestUnmarked ys) × (length ys ≡ 16)
+lowest-of {n} xs ys e k h = (lowest-unmarked xs n h ∙ ap lowestUnmarked e, sym (ap length e) ∙ k)
 
 -- none found, as a test of all
 none-at : (b q : Bool) (n m : ℕ) {c : Bool} → q ≡ not b → eqb n m ≡ c → eqb (cond b 0 (suc n)) (suc m) ≡ (q && c)

@@ -11,9 +11,9 @@ use Rattle.store.specs.Steps.{went}
 use Rattle.store.specs.Cursors.{numbered}
 use Rattle.store.specs.declared.work.Stack.{Stack}
 use Rattle.store.specs.declared.work.Touch.{Touch}
-use Rattle.store.specs.declared.work.Touch.the-variants.{Nothing, Unmark, Global, Session}
+use Rattle.store.specs.declared.work.Touch.the-variants.{Nothing, Marks, Global, Session}
 use Rattle.store.specs.declared.work.Work.{Work}
-use Rattle.store.specs.declared.work.Work.the-variants.{Refused, Goes}
+use Rattle.store.specs.declared.work.Work.the-variants.{Refused, Next}
 
 -- the registers of a session as a list
 abbrev pub registers : Stack → List ℕ
@@ -22,16 +22,11 @@ registers x = x .r0 ∷ x .r1 ∷ x .r2 ∷ x .r3 ∷ x .r4 ∷ x .r5 ∷ x .r6 
 -- what is touched beside the collector's numbers
 abbrev pub touched : Store → Touch → Store
 touched s Nothing = s
-touched s Unmark = withSessions s (unmarked (s .sessions))
+touched s Marks = withSessions s (unmarked (s .sessions))
 touched s (Global k word) = withGlobals s (set (s .globals) k word)
 touched s (Session n stack) = withSession s n (withMark (withRegisters (sessionAt s n) (registers stack)) true)
-
--- the store after a unit of work
-abbrev pub after : Store → Work → Store
-after s (Refused n) = s
-after s (Goes cursor touch) = touched (numbered s cursor) touch
 
 -- what the step leaves and answers: refused, it has changed nothing
 abbrev pub worked : Store → Work → Outcome Store
 worked s (Refused n) = record { store = s; reply = answer (answers.Refused n) }
-worked s (Goes cursor touch) = went (touched (numbered s cursor) touch)
+worked s (Next cursor touch) = went (touched (numbered s cursor) touch)

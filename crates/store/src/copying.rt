@@ -97,7 +97,7 @@ impl Cursor {
     {
         let below = self.below();
         if !below {
-            return self.moves_on();
+            return self.move_on();
         }
         let v = self.walked();
         let Followed::Sound(_, r, p) = follow(h0, h1, self.frontier0, self.frontier1, v) else {

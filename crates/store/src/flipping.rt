@@ -1,17 +1,19 @@
 // Phases 10 and 11, RootFlip and StackFlip: the globals, then the registers of the sessions, forwarded to tospace.
 ghost use mathlib.Core.Path.{_≡_};
-ghost use Prim.Native.Nat.{ℕ};
-ghost use mathlib.Core.Bool.{true};
+ghost use Prim.Native.Nat.{ℕ, _≤_};
 ghost use mathlib.Core.List.{List};
-ghost use Rattle.rules.specs.Control.{inRange};
+ghost use Rattle.rules.specs.Control.{Store};
 ghost use Rattle.rules.specs.Barriers.{to};
 ghost use Rattle.rules.specs.Collector.{rootFlip, forwardAll, stackFlip};
 ghost use Rattle.heap.specs.View.{heap, Within};
-ghost use Rattle.store.specs.View.{view};
-ghost use Rattle.store.specs.Steps.{stepped, over};
+ghost use Rattle.store.specs.Steps.{stepped};
+ghost use Rattle.store.specs.declared.work.Work.the-variants.{Next};
+ghost use Rattle.store.specs.declared.work.Touch.the-variants.{Marks};
+ghost use Rattle.store.specs.Cursors.{having, Ready, movedOn, atHalf};
 ghost use Rattle.store.specs.Work.{worked};
 ghost use Rattle.store.specs.Flips.{forwarded};
 use crate::Control;
+use crate::Cursor;
 use crate::searching::Wanted;
 use crate::work::Stack;
 use crate::work::Touch;
@@ -51,46 +53,57 @@ fn forward_all<'a>(b: Bounds, h0: &'a [u32], h1: &'a [u32], old: [u32; 8]) -> Re
     }
 }
 
-impl Control {
-    // Phase 10: the next global forwarded; after the last one the step moves on.
-    pub(crate) fn root_flip<'a>(self, h0: &'a [u32], h1: &'a [u32]) -> Work
-        requires { ⌜ inRange (over self (now h0) (now h1)) ≡ true ⌝ }
-        ensures { λ r. ⌜ ((l : List ℕ) → worked (view self (now (h0 .entry)) (now (h1 .entry)) l) r
-            ≡ stepped (view self (now (h0 .entry)) (now (h1 .entry)) l)
-            (rootFlip (view self (now (h0 .entry)) (now (h1 .entry)) l))) ⌝ }
+impl Cursor {
+    // The current half, and the next phase.
+    fn flip(mut self, half: u32) -> Work
+        requires { ⌜ self .phase ≤ 12 ⌝ }
+        ensures { λ r. ⌜ r ≡ Next (movedOn (atHalf self half)) Marks ⌝ }
     {
-        let place = self.cursor.place;
+        self.current = half;
+        self.move_on()
+    }
+
+    // Phase 10: the next global forwarded; after the last one the step moves on.
+    pub(crate) fn root_flip<'a>(mut self, globals: [u32; 32], h0: &'a [u32], h1: &'a [u32]) -> Work
+        requires { ⌜ Ready self (now h0) (now h1) ⌝ }
+        ensures { λ r. ⌜ ((s : Store) (l : List ℕ) → globals ≡ s .globals
+            → worked (having s self (now (h0 .entry)) (now (h1 .entry)) l) r
+            ≡ stepped (having s self (now (h0 .entry)) (now (h1 .entry)) l)
+            (rootFlip (having s self (now (h0 .entry)) (now (h1 .entry)) l))) ⌝ }
+    {
+        let place = self.place;
         if Control::GLOBALS <= place {
-            let c = self.cursor;
-            return c.moves_on();
+            return self.move_on();
         }
-        let v = self.globals[place];
-        let b = self.bounds();
-        let Checked::Word(q) = forward(b, h0, h1, v) else {
+        let b = self.bounds(self.tail);
+        let Checked::Word(q) = forward(b, h0, h1, globals[place]) else {
             return Work::Refused(12);
         };
-        let mut c = self.cursor;
-        c.place = place + 1;
-        Work::Goes(c, Touch::Global(place, q))
+        self.place = place + 1;
+        Work::Next(self, Touch::Global(place, q))
     }
 
     // Phase 11: the registers of the lowest attached session without a mark forwarded, and the session marked; with
     // none left, tospace becomes current and the step moves on.
-    pub(crate) fn stack_flip<'a>(self, h0: &'a [u32], h1: &'a [u32]) -> Work
-        requires { ⌜ inRange (over self (now h0) (now h1)) ≡ true ⌝ }
-        ensures { λ r. ⌜ ((l : List ℕ) → worked (view self (now (h0 .entry)) (now (h1 .entry)) l) r
-            ≡ stepped (view self (now (h0 .entry)) (now (h1 .entry)) l)
-            (stackFlip (view self (now (h0 .entry)) (now (h1 .entry)) l))) ⌝ }
+    pub(crate) fn stack_flip<'a>(
+        self,
+        sessions: [rules::Session; 16],
+        h0: &'a [u32],
+        h1: &'a [u32],
+    ) -> Work
+        requires { ⌜ Ready self (now h0) (now h1) ⌝ }
+        ensures { λ r. ⌜ ((s : Store) (l : List ℕ) → sessions ≡ s .sessions
+            → worked (having s self (now (h0 .entry)) (now (h1 .entry)) l) r
+            ≡ stepped (having s self (now (h0 .entry)) (now (h1 .entry)) l)
+            (stackFlip (having s self (now (h0 .entry)) (now (h1 .entry)) l))) ⌝ }
     {
-        let b = self.bounds();
-        let sessions = self.sessions;
+        let b = self.bounds(self.tail);
         let n = Control::lowest(sessions, 0, Wanted::Unscanned);
         if 16 <= n {
             let half = other_half(b.from);
-            let c = self.cursor;
-            return c.flips(half);
+            return self.flip(half);
         }
-        let session = self.sessions[n];
+        let session = sessions[n];
         let registers = session.registers;
         let moved = forward_all(b, h0, h1, registers);
         if !moved.sound {
@@ -98,7 +111,6 @@ impl Control {
         }
         let words = moved.words;
         let stack = Stack::of(words);
-        let c = self.cursor;
-        Work::Goes(c, Touch::Session(n, stack))
+        Work::Next(self, Touch::Session(n, stack))
     }
 }

@@ -12,7 +12,7 @@ mod searching; // searching.rt: the sessions looked through
 mod ranges; // ranges.rt: the control record test, refusal 4
 mod sessions; // sessions.rt: the session tests, refusals 5 and 6; attach, detach, safe point
 mod registers; // registers.rt: move, clear, get
-mod shade; // shade.rt: what a barrier looks at, and shading
+mod shade; // shade.rt: shading
 mod stores; // stores.rt: store, put
 mod allocate; // allocate.rt: allocate
 mod operands; // operands.rt: the register of the record worked on, refusals 8 and 11
@@ -20,8 +20,9 @@ mod fields; // fields.rt: load and read
 mod stretch; // stretch.rt: the stretch and its companion
 mod writing; // writing.rt: write
 mod same; // same.rt: same
-mod work; // work.rt: what a unit of the collector's work hands out, and the control record after it
-mod moving; // moving.rt: moving on to the next phase, and the phases that only wait
+mod bounds; // bounds.rt: fromspace, bounds and frontiers, by the collector's own numbers
+mod work; // work.rt: what a unit of the collector's work hands out
+mod moving; // moving.rt: moving on to the next phase, Rest, and the phases that only wait
 mod scanning; // scanning.rt: the white records among a session's registers, and shading them
 mod marking; // marking.rt: the phases RootMark and HeapMark
 mod walking; // walking.rt: the walk over the records of the current half
@@ -88,9 +89,10 @@ impl Control {
 
     pub const RECLAIM: usize = 12;
 
-    pub const LEVELS: [u32; 13] = [0, 1, 2, 2, 2, 3, 4, 4, 5, 6, 6, 6, 0];
+    // Both tables in bytes: a constant table is written out on the stack at each use, and thirteen bytes are two stores.
+    pub const LEVELS: [u8; 13] = [0, 1, 2, 2, 2, 3, 4, 4, 5, 6, 6, 6, 0];
 
-    pub const FOLLOWERS: [usize; 13] = [1, 2, 3, 4, 5, 6, 7, 8, 9, 10, 11, 12, 0];
+    pub const FOLLOWERS: [u8; 13] = [1, 2, 3, 4, 5, 6, 7, 8, 9, 10, 11, 12, 0];
 
     pub const LEAST_LENGTH: usize = 16;
 
@@ -147,6 +149,6 @@ impl Control {
         requires { ⌜ phase ≤ 12 ⌝ }
         ensures { λ r. ⌜ r ≡ levelOf phase ⌝ }
     {
-        Control::LEVELS[phase]
+        Control::LEVELS[phase] as u32
     }
 }

@@ -2,19 +2,20 @@
 // fields and of the sessions' registers.
 ghost use mathlib.Core.Path.{_≡_};
 ghost use Prim.Native.Nat.{_≤_, _<_};
-ghost use mathlib.Core.Bool.{true};
 ghost use lib.ListN.{length};
-ghost use Rattle.rules.specs.Control.{Store, inRange};
+ghost use Rattle.rules.specs.Control.{Store};
 ghost use Rattle.rules.specs.Collector.{rootMark, scanRecord, heapMark};
-ghost use Rattle.store.specs.View.{view};
 ghost use Rattle.store.specs.Steps.{stepped};
-ghost use Rattle.store.specs.Cursors.{having, Ready};
+ghost use Rattle.store.specs.declared.work.Work.the-variants.{Next};
+ghost use Rattle.store.specs.declared.work.Touch.the-variants.{Nothing, Marks};
+ghost use Rattle.store.specs.Cursors.{having, Ready, atWalk, atList};
 ghost use Rattle.store.specs.Work.{worked};
 ghost use Rattle.store.specs.Marking.{shadeNext};
 use crate::Control;
 use crate::Cursor;
 use crate::searching::Wanted;
 use crate::shade::put_grey;
+use crate::work::Touch;
 use crate::work::Work;
 use heap::Checked;
 use heap::following::follow;
@@ -24,6 +25,34 @@ use heap::words::put_word;
 use rules::Followed;
 
 impl Cursor {
+    // The walk at a place and a field.
+    fn walk_to(mut self, place: usize, field: usize) -> Work
+        ensures { λ r. ⌜ r ≡ Next (atWalk self place field) Nothing ⌝ }
+    {
+        self.place = place;
+        self.field = field;
+        Work::Next(self, Touch::Nothing)
+    }
+
+    // Records were shaded: the list's end, no scanned mark, and the walk at a place and a field.
+    pub(crate) fn shaded(mut self, tail: usize, place: usize, field: usize) -> Work
+        ensures { λ r. ⌜ r ≡ Next (atWalk (atList self (self .head) tail) place field) Marks ⌝ }
+    {
+        self.tail = tail;
+        self.place = place;
+        self.field = field;
+        Work::Next(self, Touch::Marks)
+    }
+
+    // The listed record is done: the list's place, and the walk at field 0.
+    fn past_entry(mut self, head: usize) -> Work
+        ensures { λ r. ⌜ r ≡ Next (atWalk (atList self head (self .tail)) (self .place) 0) Nothing ⌝ }
+    {
+        self.head = head;
+        self.field = 0;
+        Work::Next(self, Touch::Nothing)
+    }
+
     // The record that q names is shaded, and the walk goes on to a place and a field.
     fn shade_next(
         self,
@@ -45,11 +74,11 @@ impl Cursor {
             return Work::Refused(12);
         };
         if w == 0 {
-            return self.walks(place, field);
+            return self.walk_to(place, field);
         }
         let end = self.tail;
         put_grey(h0, h1, list, end, w);
-        self.shades(end + 1, place, field)
+        self.shaded(end + 1, place, field)
     }
 
     // The listed record v: its next reference field is shaded, or, none left, it is coloured black.
@@ -70,46 +99,56 @@ impl Cursor {
         }
         put_word(h0, h1, v, 1, 2);
         let next = self.head + 1;
-        self.blackens(next)
+        self.past_entry(next)
     }
-}
 
-impl Control {
     // Phase 3: the next global's record is shaded; after the last one the step moves on.
-    pub(crate) fn root_mark(self, h0: &mut [u32], h1: &mut [u32], list: &mut [u32]) -> Work
-        requires { ⌜ inRange (view self (now h0) (now h1) (now list)) ≡ true ⌝ }
-        ensures { λ r. ⌜ worked (view self (now (h0 .exit)) (now (h1 .exit)) (now (list .exit))) r
-            ≡ stepped (view self (now (h0 .entry)) (now (h1 .entry)) (now (list .entry)))
-            (rootMark (view self (now (h0 .entry)) (now (h1 .entry)) (now (list .entry)))) ⌝ }
+    pub(crate) fn root_mark(
+        self,
+        globals: [u32; 32],
+        h0: &mut [u32],
+        h1: &mut [u32],
+        list: &mut [u32],
+    ) -> Work
+        requires { ⌜ Ready self (now h0) (now h1) × (self .tail ≤ length (now list)) ⌝ }
+        ensures { λ r. ⌜ ((s : Store) → globals ≡ s .globals
+            → worked (having s self (now (h0 .exit)) (now (h1 .exit)) (now (list .exit))) r
+            ≡ stepped (having s self (now (h0 .entry)) (now (h1 .entry)) (now (list .entry)))
+            (rootMark (having s self (now (h0 .entry)) (now (h1 .entry)) (now (list .entry))))) ⌝ }
     {
-        let c = self.cursor;
-        let place = c.place;
-        let field = c.field;
+        let place = self.place;
+        let field = self.field;
         if Control::GLOBALS <= place {
-            return c.moves_on();
+            return self.move_on();
         }
-        let v = self.globals[place];
-        c.shade_next(h0, h1, list, v, place + 1, field)
+        self.shade_next(h0, h1, list, globals[place], place + 1, field)
     }
 
     // Phase 4: the oldest listed record; the list done, the lowest unscanned session; all scanned, the step moves on.
-    pub(crate) fn heap_mark(self, h0: &mut [u32], h1: &mut [u32], list: &mut [u32]) -> Work
-        requires { ⌜ inRange (view self (now h0) (now h1) (now list)) ≡ true ⌝ }
-        ensures { λ r. ⌜ worked (view self (now (h0 .exit)) (now (h1 .exit)) (now (list .exit))) r
-            ≡ stepped (view self (now (h0 .entry)) (now (h1 .entry)) (now (list .entry)))
-            (heapMark (view self (now (h0 .entry)) (now (h1 .entry)) (now (list .entry)))) ⌝ }
+    pub(crate) fn heap_mark(
+        self,
+        sessions: [rules::Session; 16],
+        h0: &mut [u32],
+        h1: &mut [u32],
+        list: &mut [u32],
+    ) -> Work
+        requires { ⌜ Ready self (now h0) (now h1) × (self .tail ≤ length (now list)) ⌝ }
+        ensures { λ r. ⌜ ((s : Store) → sessions ≡ s .sessions
+            → worked (having s self (now (h0 .exit)) (now (h1 .exit)) (now (list .exit))) r
+            ≡ stepped (having s self (now (h0 .entry)) (now (h1 .entry)) (now (list .entry)))
+            (heapMark (having s self (now (h0 .entry)) (now (h1 .entry)) (now (list .entry))))) ⌝ }
     {
-        let c = self.cursor;
-        let head = c.head;
-        if head < c.tail {
+        let head = self.head;
+        if head < self.tail {
             let v = list[head];
-            return c.scan_record(h0, h1, list, v);
+            return self.scan_record(h0, h1, list, v);
         }
-        let sessions = self.sessions;
         let n = Control::lowest(sessions, 0, Wanted::Unscanned);
         if n < 16 {
-            return self.scan_session(h0, h1, list, n);
+            let session = sessions[n];
+            let registers = session.registers;
+            return self.scan_session(n, registers, h0, h1, list);
         }
-        c.moves_on()
+        self.move_on()
     }
 }

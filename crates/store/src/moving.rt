@@ -1,13 +1,15 @@
-// Moving on to the next phase, and the phases that only wait.
+// Moving on to the next phase, and the phases that do nothing else: Rest, and those that wait.
 ghost use mathlib.Core.Path.{_≡_};
 ghost use Prim.Native.Nat.{ℕ, _≤_};
 ghost use mathlib.Core.List.{List};
 ghost use Rattle.rules.specs.Control.{Store};
 ghost use Rattle.rules.specs.Phases.{nextPhase};
-ghost use Rattle.rules.specs.Collector.{haveLevel, handshake};
+ghost use Rattle.rules.specs.Collector.{haveLevel, rest, handshake};
 ghost use Rattle.store.specs.View.{view};
 ghost use Rattle.store.specs.Steps.{stepped};
-ghost use Rattle.store.specs.Cursors.{having};
+ghost use Rattle.store.specs.declared.work.Work.the-variants.{Next};
+ghost use Rattle.store.specs.declared.work.Touch.the-variants.{Marks};
+ghost use Rattle.store.specs.Cursors.{having, movedOn};
 ghost use Rattle.store.specs.Work.{worked};
 use crate::Control;
 use crate::Cursor;
@@ -32,11 +34,34 @@ impl Control {
         requires { ⌜ phase ≤ 12 ⌝ }
         ensures { λ r. ⌜ r ≡ nextPhase phase ⌝ }
     {
-        Control::FOLLOWERS[phase]
+        Control::FOLLOWERS[phase] as usize
     }
 }
 
 impl Cursor {
+    // The next phase: walk place and field 0, no scanned mark.
+    pub(crate) fn move_on(mut self) -> Work
+        requires { ⌜ self .phase ≤ 12 ⌝ }
+        ensures { λ r. ⌜ r ≡ Next (movedOn self) Marks ⌝ }
+    {
+        let phase = self.phase;
+        self.phase = Control::next_phase(phase);
+        self.place = 0;
+        self.field = 0;
+        Work::Next(self, Touch::Marks)
+    }
+
+    // Phase 0: the list emptied, and on to the next phase.
+    pub(crate) fn rest(mut self) -> Work
+        requires { ⌜ self .phase ≤ 12 ⌝ }
+        ensures { λ r. ⌜ ((s : Store) (h0 h1 l : List ℕ) → worked (having s self h0 h1 l) r
+            ≡ stepped (having s self h0 h1 l) (rest (having s self h0 h1 l))) ⌝ }
+    {
+        self.head = 0;
+        self.tail = 0;
+        self.move_on()
+    }
+
     // Phases 1, 2, 6, 8 and 9: moves on if every attached session has the level (`ready`), else changes nothing.
     pub(crate) fn handshake(self, ready: bool) -> Work
         requires { ⌜ self .phase ≤ 12 ⌝ }
@@ -44,8 +69,8 @@ impl Cursor {
             → worked (having s self h0 h1 l) r ≡ stepped (having s self h0 h1 l) (handshake (having s self h0 h1 l))) ⌝ }
     {
         if ready {
-            return self.moves_on();
+            return self.move_on();
         }
-        Work::Goes(self, Touch::Nothing)
+        Work::Next(self, Touch::Nothing)
     }
 }

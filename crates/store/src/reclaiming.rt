@@ -26,13 +26,13 @@ impl Cursor {
             (reclaim (having s self (now (h0 .entry)) (now (h1 .entry)) l))) ⌝ }
     {
         if !ready {
-            return Work::Goes(self, Touch::Nothing);
+            return Work::Next(self, Touch::Nothing);
         }
         let below = self.below();
         if !below {
             let other = other_half(self.current);
             let emptied = self.with_frontier(other, 0);
-            return emptied.moves_on();
+            return emptied.move_on();
         }
         let v = self.walked();
         let Followed::Sound(_, r, p) = follow(h0, h1, self.frontier0, self.frontier1, v) else {

@@ -1,19 +1,20 @@
 // Scanning the registers of a session: the white records among them, and shading them.
 ghost use mathlib.Core.Path.{_≡_};
 ghost use Prim.Native.Nat.{ℕ, _+_, _≤_, _<_};
-ghost use mathlib.Core.Bool.{true, cond, _||_};
+ghost use mathlib.Core.Bool.{cond, _||_};
 ghost use lib.Dec.{eqb};
 ghost use lib.ListN.{length, getD, take};
 ghost use lib.Seq.{sets};
 ghost use Rattle.rules.specs.Memory.{null, colourAt};
-ghost use Rattle.rules.specs.Control.{inRange};
+ghost use Rattle.rules.specs.Control.{Store};
+ghost use Rattle.rules.specs.Phases.{absent};
 ghost use Rattle.rules.specs.Collector.{toShadeAll, scanSession};
 ghost use Rattle.heap.specs.View.{heap, memory, Within, Inside};
-ghost use Rattle.store.specs.View.{view};
 ghost use Rattle.store.specs.Steps.{stepped};
+ghost use Rattle.store.specs.Cursors.{having, Ready};
 ghost use Rattle.store.specs.Work.{worked};
 ghost use Rattle.store.specs.Marking.{among, whites, greyed};
-use crate::Control;
+use crate::Cursor;
 use crate::shade::put_grey;
 use crate::work::Stack;
 use crate::work::Touch;
@@ -98,41 +99,39 @@ fn shade_all(
     }
 }
 
-impl Control {
+impl Cursor {
     // Session n is marked scanned and then the white records among its registers are shaded. Shading clears the mark
     // again, so it is left where there are none.
     pub(crate) fn scan_session(
         self,
+        n: usize,
+        registers: [u32; 8],
         h0: &mut [u32],
         h1: &mut [u32],
         list: &mut [u32],
-        n: usize,
     ) -> Work
-        requires { ⌜ (n < 16) × (inRange (view self (now h0) (now h1) (now list)) ≡ true) ⌝ }
-        ensures { λ r. ⌜ worked (view self (now (h0 .exit)) (now (h1 .exit)) (now (list .exit))) r
-            ≡ stepped (view self (now (h0 .entry)) (now (h1 .entry)) (now (list .entry)))
-            (scanSession (view self (now (h0 .entry)) (now (h1 .entry)) (now (list .entry))) n) ⌝ }
+        requires { ⌜ Ready self (now h0) (now h1) × (self .tail ≤ length (now list)) ⌝ }
+        ensures { λ r. ⌜ ((s : Store) → registers ≡ getD (s .sessions) n absent .registers
+            → worked (having s self (now (h0 .exit)) (now (h1 .exit)) (now (list .exit))) r
+            ≡ stepped (having s self (now (h0 .entry)) (now (h1 .entry)) (now (list .entry)))
+            (scanSession (having s self (now (h0 .entry)) (now (h1 .entry)) (now (list .entry))) n)) ⌝ }
     {
-        let b = self.bounds();
-        let session = self.sessions[n];
-        let registers = session.registers;
+        let capacity = list.len();
+        let b = self.bounds(capacity);
         let found = white_registers(b, h0, h1, registers);
         let count = found.count;
         let words = found.words;
         let sound = found.sound;
-        let fits = count <= self.capacity - self.cursor.tail;
+        let end = self.tail;
+        let fits = count <= capacity - end;
         if !(sound & fits) {
             return Work::Refused(12);
         }
         if count == 0 {
             let stack = Stack::of(registers);
-            let c = self.cursor;
-            return Work::Goes(c, Touch::Session(n, stack));
+            return Work::Next(self, Touch::Session(n, stack));
         }
-        let end = self.cursor.tail;
         shade_all(h0, h1, list, end, count, words);
-        let next = end + count;
-        let c = self.cursor;
-        c.shades(next, c.place, c.field)
+        self.shaded(end + count, self.place, self.field)
     }
 }

@@ -1,5 +1,6 @@
 // The session tests, and the calls on a session as a whole.
 ghost use mathlib.Core.Path.{_≡_};
+ghost use mathlib.Core.List.{[], _∷_};
 ghost use lib.ListN.{getD};
 ghost use Rattle.rules.specs.Refusals.{refusalOf};
 ghost use Rattle.rules.specs.Phases.{absent};
@@ -10,20 +11,59 @@ use crate::Control;
 use crate::Reply;
 
 impl Control {
-    // Whether session s is attached; not so past the last session. It looks at each session in turn, since reading
+    // Of four flags the one at place k, from 0: a, b or c, and d past them.
+    fn of_four(a: bool, b: bool, c: bool, d: bool, k: u32) -> bool
+        ensures { λ r. ⌜ r ≡ getD (a ∷ b ∷ c ∷ []) k d ⌝ }
+    {
+        if k < 2 {
+            if k < 1 { a } else { b }
+        } else {
+            if k < 3 { c } else { d }
+        }
+    }
+
+    // Whether session s is attached; not so past the last session. Each session is read at a fixed place, since reading
     // one at a place that isn't known beforehand would copy all sixteen.
     fn attached_at(sessions: [rules::Session; 16], s: u32) -> bool
         ensures { λ r. ⌜ r ≡ getD sessions s absent .attached ⌝ }
     {
-        let mut attached = false;
-        let mut i: usize = 0;
-        let k = s as usize;
-        while i < 16 {
-            let session = sessions[i];
-            attached = attached | ((i == k) & session.attached);
-            i += 1;
+        if s < 4 {
+            return Control::of_four(
+                sessions[0].attached,
+                sessions[1].attached,
+                sessions[2].attached,
+                sessions[3].attached,
+                s,
+            );
         }
-        attached
+        if s < 8 {
+            return Control::of_four(
+                sessions[4].attached,
+                sessions[5].attached,
+                sessions[6].attached,
+                sessions[7].attached,
+                s - 4,
+            );
+        }
+        if s < 12 {
+            return Control::of_four(
+                sessions[8].attached,
+                sessions[9].attached,
+                sessions[10].attached,
+                sessions[11].attached,
+                s - 8,
+            );
+        }
+        if s < 16 {
+            return Control::of_four(
+                sessions[12].attached,
+                sessions[13].attached,
+                sessions[14].attached,
+                sessions[15].attached,
+                s - 12,
+            );
+        }
+        false
     }
 
     // The tests 4, 5 and 6: the number of the first that fails, or 0.

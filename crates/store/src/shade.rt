@@ -1,16 +1,14 @@
-// What a barrier looks at, and shading: the record coloured grey, put on the list, and all scanned marks cleared.
+// Shading: the record coloured grey, put on the list, and all scanned marks cleared.
 ghost use mathlib.Core.Path.{_≡_};
 ghost use Prim.Native.Nat.{ℕ, _<_};
-ghost use mathlib.Core.List.{List};
 ghost use lib.ListN.{length, set};
 ghost use Rattle.rules.specs.Memory.{colourAt, grey, put};
-ghost use Rattle.rules.specs.Phases.{fromspace, unmarked};
-ghost use Rattle.rules.specs.Barriers.{heapOf, shade};
-ghost use Rattle.heap.specs.View.{heap, memory, Inside};
+ghost use Rattle.rules.specs.Phases.{unmarked};
+ghost use Rattle.rules.specs.Barriers.{shade};
+ghost use Rattle.heap.specs.View.{memory, Inside};
 ghost use Rattle.store.specs.View.{view};
 use crate::Control;
 use crate::searching::Wanted;
-use heap::Bounds;
 use heap::words::put_word;
 
 // What shading writes: the record v coloured grey, and put on the list at its end.
@@ -25,22 +23,6 @@ pub(crate) fn put_grey(h0: &mut [u32], h1: &mut [u32], list: &mut [u32], end: us
 }
 
 impl Control {
-    // Fromspace: the current half until phase 12, and the other one there.
-    pub(crate) fn fromspace(self) -> u32
-        ensures { λ r. ⌜ ((h0 h1 l : List ℕ) → r ≡ fromspace (view self h0 h1 l)) ⌝ }
-    {
-        let c = self.cursor;
-        c.fromspace()
-    }
-
-    // The bounds that the functions over lent halves ask for.
-    pub(crate) fn bounds(self) -> Bounds
-        ensures { λ r. ⌜ ((h0 h1 l : List ℕ) → self .capacity ≡ length l → heap r h0 h1 ≡ heapOf (view self h0 h1 l)) ⌝ }
-    {
-        let c = self.cursor;
-        c.bounds(self.capacity)
-    }
-
     // The sessions with no scanned mark. Only a session that has one is written.
     pub(crate) fn unmarked(sessions: [rules::Session; 16]) -> [rules::Session; 16]
         ensures { λ r. ⌜ r ≡ unmarked sessions ⌝ }

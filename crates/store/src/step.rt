@@ -2,51 +2,94 @@
 ghost use mathlib.Core.Path.{_≡_};
 ghost use Rattle.rules.specs.Runs.{apply, Step};
 ghost use Rattle.store.specs.View.{view, outcome};
+ghost use Rattle.store.specs.Work.{worked};
 use crate::Control;
 use crate::Reply;
+use crate::work::Touch;
 use crate::work::Work;
 
 impl Control {
-    // Collector step: one unit of its phase, after the control record test.
-    pub fn step(self, h0: &mut [u32], h1: &mut [u32], list: &mut [u32]) -> Reply
-        ensures { λ r. ⌜ outcome r (now (h0 .exit)) (now (h1 .exit)) (now (list .exit))
+    // The unit of work of the phase, after the control record test.
+    fn work(self, h0: &mut [u32], h1: &mut [u32], list: &mut [u32]) -> Work
+        ensures { λ r. ⌜ worked (view self (now (h0 .exit)) (now (h1 .exit)) (now (list .exit))) r
             ≡ apply (view self (now (h0 .entry)) (now (h1 .entry)) (now (list .entry))) Step ⌝ }
     {
         // test 4 is the first of the session tests, whatever the session
         let refusal = self.session_tests(h0, h1, list, 0);
+        if refusal == 4 {
+            return Work::Refused(4);
+        }
         let c = self.cursor;
         let phase = c.phase;
-        let work = if refusal == 4 {
-            Work::Refused(4)
-        } else {
-            match phase {
-                0 => c.starts(),
-                3 => self.root_mark(h0, h1, list),
-                4 => self.heap_mark(h0, h1, list),
-                5 => {
-                    let ready = self.have_level();
-                    c.allocate_shells(ready, h0, h1)
-                }
-                7 => c.copy(h0, h1),
-                10 => self.root_flip(h0, h1),
-                11 => self.stack_flip(h0, h1),
-                12 => {
-                    let ready = self.have_level();
-                    c.reclaim(ready, h0, h1)
-                }
-                _ => {
-                    let ready = self.have_level();
-                    c.handshake(ready)
-                }
+        match phase {
+            Control::REST => c.rest(),
+            Control::ROOT_MARK => {
+                let globals = self.globals;
+                c.root_mark(globals, h0, h1, list)
             }
-        };
-        let next = self.after(work);
+            Control::HEAP_MARK => {
+                let sessions = self.sessions;
+                c.heap_mark(sessions, h0, h1, list)
+            }
+            Control::ALLOCATE => {
+                let ready = self.have_level();
+                c.allocate_shells(ready, h0, h1)
+            }
+            Control::COPY => c.copy(h0, h1),
+            Control::ROOT_FLIP => {
+                let globals = self.globals;
+                c.root_flip(globals, h0, h1)
+            }
+            Control::STACK_FLIP => {
+                let sessions = self.sessions;
+                c.stack_flip(sessions, h0, h1)
+            }
+            Control::RECLAIM => {
+                let ready = self.have_level();
+                c.reclaim(ready, h0, h1)
+            }
+            _ => {
+                let ready = self.have_level();
+                c.handshake(ready)
+            }
+        }
+    }
+
+    // Collector step: one unit of work, and the control record after it. What the work touches is written here, in
+    // place: a function that took the control record for it would have it copied at every step.
+    pub fn step(mut self, h0: &mut [u32], h1: &mut [u32], list: &mut [u32]) -> Reply
+        ensures { λ r. ⌜ outcome r (now (h0 .exit)) (now (h1 .exit)) (now (list .exit))
+            ≡ apply (view self (now (h0 .entry)) (now (h1 .entry)) (now (list .entry))) Step ⌝ }
+    {
+        let work = self.work(h0, h1, list);
         let answer = match work {
             Work::Refused(n) => rules::Answer::Refused(n),
-            _ => rules::Answer::Phase(next.cursor.phase),
+            Work::Next(cursor, touch) => {
+                self.cursor = cursor;
+                match touch {
+                    Touch::Nothing => {}
+                    Touch::Marks => {
+                        let sessions = self.sessions;
+                        let unmarked = Control::unmarked(sessions);
+                        self.sessions = unmarked;
+                    }
+                    Touch::Global(place, word) => {
+                        // past the last global nothing
+                        if place < Control::GLOBALS {
+                            self.globals[place] = word;
+                        }
+                    }
+                    Touch::Session(n, stack) => {
+                        let sessions = self.sessions;
+                        let marked = stack.marked(sessions, n);
+                        self.sessions = marked;
+                    }
+                }
+                rules::Answer::Phase(cursor.phase)
+            }
         };
         Reply {
-            control: next,
+            control: self,
             answer,
         }
     }

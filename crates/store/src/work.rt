@@ -1,13 +1,10 @@
-// What a unit of the collector's work hands out, and the control record after it. A phase reads the control record and
-// writes the lent words; what becomes of the control record it only hands out, so that a step copies it once.
+// What a unit of the collector's work hands out. A phase takes the collector's own numbers, writes the lent words, and
+// hands out a refusal, or the next numbers and the one thing beside them that it touches; the step writes them down.
 ghost use mathlib.Core.Path.{_≡_};
-ghost use Prim.Native.Nat.{ℕ};
 ghost use mathlib.Core.Bool.{true};
-ghost use mathlib.Core.List.{List};
-ghost use Rattle.rules.specs.Phases.{sessionAt, withSession, withRegisters, withMark};
-ghost use Rattle.store.specs.View.{view};
-ghost use Rattle.store.specs.Work.{registers, touched, after};
-use crate::Control;
+ghost use lib.ListN.{getD, set};
+ghost use Rattle.rules.specs.Phases.{absent, withRegisters, withMark};
+ghost use Rattle.store.specs.Work.{registers};
 use crate::Cursor;
 
 // The eight registers of a session, one by one: an enum holds no array.
@@ -54,74 +51,36 @@ impl Stack {
             self.r7,
         ]
     }
+    // The sessions, session n with these registers and a scanned mark; past the last session nothing.
+    pub(crate) fn marked(self, sessions: [rules::Session; 16], n: usize) -> [rules::Session; 16]
+        ensures { λ r. ⌜ r ≡ set sessions n (withMark (withRegisters (getD sessions n absent) (registers self)) true) ⌝ }
+    {
+        let mut next = sessions;
+        if n < 16 {
+            let mut session = next[n];
+            let words = self.registers();
+            session.registers = words;
+            session.scanned = true;
+            next[n] = session;
+        }
+        next
+    }
 }
 
-// What is touched beside the collector's numbers.
+// What is touched beside the collector's own numbers.
 pub enum Touch {
     Nothing,
-    // the scanned marks, cleared
-    Unmark,
-    // a global's word
+    // all scanned marks, cleared
+    Marks,
+    // a global, and its word
     Global(usize, u32),
-    // a session's registers, and its scanned mark
+    // a session, marked as scanned, and its registers
     Session(usize, Stack),
 }
 
 // What a unit of work hands out, its words being written already: the number of the refusal, or the collector's next
-// numbers and what else is touched.
+// numbers and what is touched beside them.
 pub enum Work {
     Refused(u32),
-    Goes(Cursor, Touch),
-}
-
-impl Control {
-    // Session n with these registers and a scanned mark; past the last session nothing.
-    fn with_scanned(mut self, n: usize, stack: Stack) -> Self
-        ensures { λ r. ⌜ ((h0 h1 l : List ℕ) → view r h0 h1 l
-            ≡ withSession (view self h0 h1 l) n (withMark (withRegisters (sessionAt (view self h0 h1 l) n) (registers stack)) true)) ⌝ }
-    {
-        if n < 16 {
-            let mut session = self.sessions[n];
-            let words = stack.registers();
-            session.registers = words;
-            session.scanned = true;
-            self.sessions[n] = session;
-        }
-        self
-    }
-
-    // The control record with what a unit of work touches.
-    fn touched(mut self, touch: Touch) -> Self
-        ensures { λ r. ⌜ ((h0 h1 l : List ℕ) → view r h0 h1 l ≡ touched (view self h0 h1 l) touch) ⌝ }
-    {
-        match touch {
-            Touch::Nothing => {}
-            Touch::Unmark => {
-                let sessions = self.sessions;
-                self.sessions = Control::unmarked(sessions);
-            }
-            Touch::Global(place, word) => {
-                // past the last global nothing
-                if place < Control::GLOBALS {
-                    self.globals[place] = word;
-                }
-            }
-            Touch::Session(n, stack) => self = self.with_scanned(n, stack),
-        }
-        self
-    }
-
-    // The control record after a unit of work.
-    pub(crate) fn after(mut self, work: Work) -> Self
-        ensures { λ r. ⌜ ((h0 h1 l : List ℕ) → view r h0 h1 l ≡ after (view self h0 h1 l) work) ⌝ }
-    {
-        match work {
-            Work::Refused(_) => {}
-            Work::Goes(cursor, touch) => {
-                self.cursor = cursor;
-                self = self.touched(touch);
-            }
-        }
-        self
-    }
+    Next(Cursor, Touch),
 }

@@ -11,11 +11,11 @@ use Rattle.store.proofs.Cursor.copy.Tie as tie
 below-requires : tie.Need-below-requires
 below-requires c κs = search needs
 
-moves-on-requires : tie.Need-moves-on-requires
-moves-on-requires c κs = c .before .before .before .before .pre .phases
+move-on-requires : tie.Need-move-on-requires
+move-on-requires c κs = c .before .before .before .before .pre .phases
 
 returns : tie.Need-returns
-returns c = λ s l. moves s _ _ _ l (c .moves-on .ensures) (copy-ends _ (no (c .before .before .below .ensures s _ _ l) (c .before .if1 .taken)))
+returns c = λ s l. moves s _ _ _ l (c .move-on .ensures) (copy-ends _ (no (c .before .before .below .ensures s _ _ l) (c .before .if1 .taken)))
 
 walked-requires : tie.Need-walked-requires
 walked-requires c κs =
@@ -126,7 +126,7 @@ copy-spec =
     tie.close
     (tie.spec
     below-requires
-    moves-on-requires
+    move-on-requires
     returns
     walked-requires
     follow-requires

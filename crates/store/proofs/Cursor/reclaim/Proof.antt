@@ -20,11 +20,11 @@ other-half-requires c κs = search needs
 with-frontier-requires : tie.Need-with-frontier-requires
 with-frontier-requires c κs = search needs
 
-moves-on-requires : tie.Need-moves-on-requires
-moves-on-requires c κs = rw (c .with-frontier .ensures) (c .before .before .before .before .before .before .before .pre .phases)
+move-on-requires : tie.Need-move-on-requires
+move-on-requires c κs = rw (c .with-frontier .ensures) (c .before .before .before .before .before .before .before .pre .phases)
 
 returns-2 : tie.Need-returns-2
-returns-2 c = λ s l e. empties s _ _ _ l _ (c .before .with-frontier .ensures) (c .moves-on .ensures) (reclaim-ends _ (yes e (c .before .before .before .before .before .if1 .left)) (no (c .before .before .before .before .below .ensures s _ _ l) (c .before .before .before .if2 .taken)) (c .before .before .other-half .ensures))
+returns-2 c = λ s l e. empties s _ _ _ l _ (c .before .with-frontier .ensures) (c .move-on .ensures) (reclaim-ends _ (yes e (c .before .before .before .before .before .if1 .left)) (no (c .before .before .before .before .below .ensures s _ _ l) (c .before .before .before .if2 .taken)) (c .before .before .other-half .ensures))
 
 walked-requires : tie.Need-walked-requires
 walked-requires c κs = (c .before .before .before .before .before .pre .half, c .before .before .before .before .before .pre .places)
@@ -75,4 +75,4 @@ returns-4 : tie.Need-returns-4
 returns-4 c = λ s l e. goes _ (c .past-record .ensures) (reclaim-clears _ (yes e (c .before .before .before .before .before .before .before .before .before .before .before .before .before .before .before .before .before .if1 .left)) (yes (c .before .before .before .before .before .before .before .before .before .before .before .before .before .before .before .before .below .ensures s _ _ l) (c .before .before .before .before .before .before .before .before .before .before .before .before .before .before .before .if2 .left)) (c .before .before .before .before .before .before .before .before .before .before .before .before .before .before .walked .ensures s _ _ l) (found _ _ (c .before .before .before .before .before .before .before .before .before .before .before .follow .ensures) (c .before .before .before .before .before .before .before .before .before .r .given .1)) (c .before .before .before .before .before .put-word .ensures _ _))
 
 pub reclaim-spec : {M : Type 1} → statement M
-reclaim-spec = tie.close (tie.spec returns below-requires other-half-requires with-frontier-requires moves-on-requires returns-2 walked-requires follow-requires enum-known-r enum-told same-length same-length-2 returns-3 put-word-requires cast-past-record cast-past-record-2 add-past-record add-past-record-2 past-record-requires same-length-3 same-length-4 returns-4)
+reclaim-spec = tie.close (tie.spec returns below-requires other-half-requires with-frontier-requires move-on-requires returns-2 walked-requires follow-requires enum-known-r enum-told same-length same-length-2 returns-3 put-word-requires cast-past-record cast-past-record-2 add-past-record add-past-record-2 past-record-requires same-length-3 same-length-4 returns-4)

@@ -58,8 +58,8 @@ put-word-requires c κs = colour-inside (having some (c .before .before .before 
 add-next : tie.Need-add-next
 add-next c = omega (arith, c .before .before .before .before .before .before .before .before .before .before .before .before .before .before .before .before .before .before .pre .0, c .before .before .before .before .before .before .before .before .before .before .before .before .before .before .before .before .before .before .pre .2)
 
-blackens-requires : tie.Need-blackens-requires
-blackens-requires c κs = search needs
+past-entry-requires : tie.Need-past-entry-requires
+past-entry-requires c κs = search needs
 
 same-length-6 : tie.Need-same-length-6
 same-length-6 c = search needs
@@ -68,7 +68,7 @@ same-length-7 : tie.Need-same-length-7
 same-length-7 c = search needs
 
 returns-3 : tie.Need-returns-3
-returns-3 c = λ s. rw (record-done (having s (c .before .before .before .before .before .before .before .before .before .before .before .before .before .before .before .before .before .before .before .args .self) (c .before .before .before .before .before .before .before .before .before .before .before .before .before .before .before .before .before .before .before .args .h0 .now) (c .before .before .before .before .before .before .before .before .before .before .before .before .before .before .before .before .before .before .before .args .h1 .now) (c .before .before .before .before .before .before .before .before .before .before .before .before .before .before .before .before .before .before .before .args .list .now)) (c .before .before .before .before .before .before .before .before .before .before .before .before .before .before .before .before .before .before .before .pre .1 .low) (c .before .before .before .before .before .before .before .before .before .before .before .before .before .before .before .before .before .before .before .pre .1 .high) _ (c .before .before .before .before .before .before .before .before .before .before .before .before .before .follow .ensures) (c .before .before .before .before .before .before .before .before .before .before .before .r .given .1) (c .before .before .before .before .before .before .before .before .before .if1 .left) (c .before .before .before .before .before .before .put-word .ensures (c .before .before .before .before .before .before .before .before .before .before .before .before .before .before .before .before .before .before .before .args .self .frontier0) (c .before .before .before .before .before .before .before .before .before .before .before .before .before .before .before .before .before .before .before .args .self .frontier1)), c .blackens .ensures)
+returns-3 c = λ s. rw (record-done (having s (c .before .before .before .before .before .before .before .before .before .before .before .before .before .before .before .before .before .before .before .args .self) (c .before .before .before .before .before .before .before .before .before .before .before .before .before .before .before .before .before .before .before .args .h0 .now) (c .before .before .before .before .before .before .before .before .before .before .before .before .before .before .before .before .before .before .before .args .h1 .now) (c .before .before .before .before .before .before .before .before .before .before .before .before .before .before .before .before .before .before .before .args .list .now)) (c .before .before .before .before .before .before .before .before .before .before .before .before .before .before .before .before .before .before .before .pre .1 .low) (c .before .before .before .before .before .before .before .before .before .before .before .before .before .before .before .before .before .before .before .pre .1 .high) _ (c .before .before .before .before .before .before .before .before .before .before .before .before .before .follow .ensures) (c .before .before .before .before .before .before .before .before .before .before .before .r .given .1) (c .before .before .before .before .before .before .before .before .before .if1 .left) (c .before .before .before .before .before .before .put-word .ensures (c .before .before .before .before .before .before .before .before .before .before .before .before .before .before .before .before .before .before .before .args .self .frontier0) (c .before .before .before .before .before .before .before .before .before .before .before .before .before .before .before .before .before .before .before .args .self .frontier1)), c .past-entry .ensures)
 
 pub scan-record-spec : {M : Type 1} → statement M
-scan-record-spec = tie.close (tie.spec follow-requires enum-known-r enum-told same-length same-length-2 returns cast-if1 add-get-word get-word-requires add-shade-next shade-next-requires same-length-3 same-length-4 same-length-5 returns-2 put-word-requires add-next blackens-requires same-length-6 same-length-7 returns-3)
+scan-record-spec = tie.close (tie.spec follow-requires enum-known-r enum-told same-length same-length-2 returns cast-if1 add-get-word get-word-requires add-shade-next shade-next-requires same-length-3 same-length-4 same-length-5 returns-2 put-word-requires add-next past-entry-requires same-length-6 same-length-7 returns-3)

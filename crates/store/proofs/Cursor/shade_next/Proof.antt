@@ -30,8 +30,8 @@ same-length-2 c = search needs
 returns : tie.Need-returns
 returns c = λ s. rw (next-damage _ _ (c .before .before .shading .ensures ∙ ap (λ (z : Heap). shading z (c .before .before .before .before .before .before .before .before .before .args .q)) (c .before .before .before .before .before .bounds .ensures s _ _ (c .before .before .before .before .before .before .before .before .before .args .list .now) refl)) (c .enum-told .given .1))
 
-walks-requires : tie.Need-walks-requires
-walks-requires c κs = search needs
+walk-to-requires : tie.Need-walk-to-requires
+walk-to-requires c κs = search needs
 
 same-length-3 : tie.Need-same-length-3
 same-length-3 c = search needs
@@ -40,16 +40,16 @@ same-length-4 : tie.Need-same-length-4
 same-length-4 c = search needs
 
 returns-2 : tie.Need-returns-2
-returns-2 c = λ s. rw (next-walked _ _ (c .before .before .before .before .before .shading .ensures ∙ ap (λ (z : Heap). shading z (c .before .before .before .before .before .before .before .before .before .before .before .before .args .q)) (c .before .before .before .before .before .before .before .before .bounds .ensures s _ _ (c .before .before .before .before .before .before .before .before .before .before .before .before .args .list .now) refl)) (c .before .before .before .w .given .1) (c .before .if1 .taken), c .walks .ensures)
+returns-2 c = λ s. rw (next-walked _ _ (c .before .before .before .before .before .shading .ensures ∙ ap (λ (z : Heap). shading z (c .before .before .before .before .before .before .before .before .before .before .before .before .args .q)) (c .before .before .before .before .before .before .before .before .bounds .ensures s _ _ (c .before .before .before .before .before .before .before .before .before .before .before .before .args .list .now) refl)) (c .before .before .before .w .given .1) (c .before .if1 .taken), c .walk-to .ensures)
 
 put-grey-requires : tie.Need-put-grey-requires
 put-grey-requires c κs = next-allowed (having some (c .before .before .before .before .before .before .before .before .before .before .before .before .before .before .args .self) (c .before .before .before .before .before .before .before .before .before .before .before .before .before .before .args .h0 .now) (c .before .before .before .before .before .before .before .before .before .before .before .before .before .before .args .h1 .now) (c .before .before .before .before .before .before .before .before .before .before .before .before .before .before .args .list .now)) _ (c .before .before .before .before .before .before .before .shading .ensures ∙ ap (λ (z : Heap). shading z (c .before .before .before .before .before .before .before .before .before .before .before .before .before .before .args .q)) (c .before .before .before .before .before .before .before .before .before .before .bounds .ensures some _ _ (c .before .before .before .before .before .before .before .before .before .before .before .before .before .before .args .list .now) refl)) (c .before .before .before .before .before .w .given .1) (c .before .before .before .before .before .before .before .before .before .before .before .before .before .before .pre .0 .low) (c .before .before .before .before .before .before .before .before .before .before .before .before .before .before .pre .0 .high) (c .before .before .before .if1 .left)
 
-add-shades : tie.Need-add-shades
-add-shades c = omega (arith, c .before .before .before .before .before .before .before .before .before .before .before .before .before .before .before .before .before .before .before .before .before .pre .1)
+add-shaded : tie.Need-add-shaded
+add-shaded c = omega (arith, c .before .before .before .before .before .before .before .before .before .before .before .before .before .before .before .before .before .before .before .before .before .pre .1)
 
-shades-requires : tie.Need-shades-requires
-shades-requires c κs = search needs
+shaded-requires : tie.Need-shaded-requires
+shaded-requires c κs = search needs
 
 same-length-5 : tie.Need-same-length-5
 same-length-5 c = search needs
@@ -61,7 +61,7 @@ same-length-7 : tie.Need-same-length-7
 same-length-7 c = search needs
 
 returns-3 : tie.Need-returns-3
-returns-3 c = λ s. rw (next-shaded _ _ (c .before .before .before .before .before .before .before .before .before .before .before .before .before .before .before .shading .ensures ∙ ap (λ (z : Heap). shading z (c .before .before .before .before .before .before .before .before .before .before .before .before .before .before .before .before .before .before .before .before .before .before .args .q)) (c .before .before .before .before .before .before .before .before .before .before .before .before .before .before .before .before .before .before .bounds .ensures s _ _ (c .before .before .before .before .before .before .before .before .before .before .before .before .before .before .before .before .before .before .before .before .before .before .args .list .now) refl)) (c .before .before .before .before .before .before .before .before .before .before .before .before .before .w .given .1) (c .before .before .before .before .before .before .before .before .before .before .before .if1 .left) (c .before .before .before .before .before .before .before .put-grey .ensures .0 (c .before .before .before .before .before .before .before .before .before .before .before .before .before .before .before .before .before .before .before .before .before .before .args .self .frontier0) (c .before .before .before .before .before .before .before .before .before .before .before .before .before .before .before .before .before .before .before .before .before .before .args .self .frontier1)) (c .before .before .before .before .before .before .before .put-grey .ensures .1), c .shades .ensures)
+returns-3 c = λ s. rw (next-shaded _ _ (c .before .before .before .before .before .before .before .before .before .before .before .before .before .before .before .shading .ensures ∙ ap (λ (z : Heap). shading z (c .before .before .before .before .before .before .before .before .before .before .before .before .before .before .before .before .before .before .before .before .before .before .args .q)) (c .before .before .before .before .before .before .before .before .before .before .before .before .before .before .before .before .before .before .bounds .ensures s _ _ (c .before .before .before .before .before .before .before .before .before .before .before .before .before .before .before .before .before .before .before .before .before .before .args .list .now) refl)) (c .before .before .before .before .before .before .before .before .before .before .before .before .before .w .given .1) (c .before .before .before .before .before .before .before .before .before .before .before .if1 .left) (c .before .before .before .before .before .before .before .put-grey .ensures .0 (c .before .before .before .before .before .before .before .before .before .before .before .before .before .before .before .before .before .before .before .before .before .before .args .self .frontier0) (c .before .before .before .before .before .before .before .before .before .before .before .before .before .before .before .before .before .before .before .before .before .before .args .self .frontier1)) (c .before .before .before .before .before .before .before .put-grey .ensures .1), c .shaded .ensures)
 
 pub shade-next-spec : {M : Type 1} → statement M
-shade-next-spec = tie.close (tie.spec bounds-requires shading-requires enum-known-w enum-told same-length same-length-2 returns walks-requires same-length-3 same-length-4 returns-2 put-grey-requires add-shades shades-requires same-length-5 same-length-6 same-length-7 returns-3)
+shade-next-spec = tie.close (tie.spec bounds-requires shading-requires enum-known-w enum-told same-length same-length-2 returns walk-to-requires same-length-3 same-length-4 returns-2 put-grey-requires add-shaded shaded-requires same-length-5 same-length-6 same-length-7 returns-3)

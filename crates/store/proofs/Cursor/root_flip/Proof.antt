@@ -1,0 +1,83 @@
+-- The step moves on after the last global; before it damage, or the next global forwarded.
+use Prim.Native.Nat.{ℕ}
+use mathlib.Core.Path.{ap}
+use mathlib.Core.List.{List}
+use native.Mathlib.Omega.{arith}
+use lib.ListN.{getD}
+use Rattle.heap.specs.View.{checked}
+use Rattle.store.specs.Cursors.{having}
+use Rattle.store.proofs.Cursors.{moves, bounds-within, forward-by}
+use Rattle.store.proofs.Flips.{roots-done, root-lost, root-flips}
+use borrow.Author.Needs.{needs}
+use Rattle.store.proofs.Cursor.root_flip.Statement.{statement}
+use Rattle.store.proofs.Cursor.root_flip.Tie as tie
+
+move-on-requires : tie.Need-move-on-requires
+move-on-requires c κs = c .before .before .before .pre .phases
+
+returns : tie.Need-returns
+returns c =
+    let c1 = c .before in
+    let start = c1 .before .before .before in
+    let a = start .args in
+    λ s l e. moves s (a .self) _ _ l (c .move-on .ensures) (roots-done (having s (a .self) (a .h0 .now) (a .h1 .now) l) (c1 .if1 .taken))
+
+bounds-requires : tie.Need-bounds-requires
+bounds-requires c κs = search needs
+
+mul-forward : tie.Need-mul-forward
+mul-forward c = search needs
+
+array-read-forward : tie.Need-array-read-forward
+array-read-forward c = search needs
+
+forward-requires : tie.Need-forward-requires
+forward-requires c κs =
+    let start = c .before .before .before .before in
+    bounds-within (start .args .self) _ _ (c .bounds .ensures) (start .pre) (omega arith)
+
+enum-known-q : tie.Need-enum-known-q
+enum-known-q c = search needs
+
+enum-told : tie.Need-enum-told
+enum-told c = search needs
+
+returns-2 : tie.Need-returns-2
+returns-2 c =
+    let c1 = c .before .before in
+    let c2 = c1 .before in
+    let c3 = c2 .before in
+    let start = c3 .before .before .before in
+    let a = start .args in
+    λ s l e. root-lost (having s (a .self) (a .h0 .now) (a .h1 .now) l) (c3 .if1 .left) (ap (λ (gs : List ℕ). getD gs (a .self .place) 0) e)
+    (forward-by (a .self) _ _ (c2 .bounds .ensures) s l _ (c1 .forward .ensures) (ap checked (c .enum-told .given .1)))
+
+add-self : tie.Need-add-self
+add-self c = search needs
+
+returns-3 : tie.Need-returns-3
+returns-3 c =
+    let c1 = c .before in
+    let c2 = c1 .before .before in
+    let c3 = c2 .before in
+    let c4 = c3 .before in
+    let start = c4 .before .before .before in
+    let a = start .args in
+    λ s l e. root-flips (having s (a .self) (a .h0 .now) (a .h1 .now) l) (c4 .if1 .left) (ap (λ (gs : List ℕ). getD gs (a .self .place) 0) e)
+    (forward-by (a .self) _ _ (c3 .bounds .ensures) s l _ (c2 .forward .ensures) (ap checked (c1 .q .given .1)))
+
+pub root-flip-spec : {M : Type 1} → statement M
+root-flip-spec =
+    tie.close
+    (tie.spec
+    move-on-requires
+    returns
+    bounds-requires
+    mul-forward
+    array-read-forward
+    forward-requires
+    enum-known-q
+    enum-told
+    returns-2
+    add-self
+    returns-3)

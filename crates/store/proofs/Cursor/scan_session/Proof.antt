@@ -1,0 +1,132 @@
+-- The registers are damage or the list is full: refused; no white record among them: the session is marked; else they are
+-- shaded.
+use mathlib.Core.Path.{_≡_, _∙_, ap, refl}
+use native.Mathlib.Omega.{arith}
+use lib.ListN.{length}
+use Rattle.rules.specs.Phases.{sessionAt}
+use Rattle.rules.specs.Barriers.{Heap}
+use Rattle.rules.specs.Collector.{toShadeAll}
+use Rattle.store.proofs.Cursors.{some, bounds-within}
+use Rattle.store.proofs.Marked.{Scanning, session-refused, session-marked, session-shaded, session-room, session-inside}
+use borrow.Author.Needs.{needs}
+use Rattle.store.proofs.Cursor.scan_session.Statement.{statement}
+use Rattle.store.proofs.Cursor.scan_session.Tie as tie
+
+bounds-requires : tie.Need-bounds-requires
+bounds-requires c κs = search needs
+
+white-registers-requires : tie.Need-white-registers-requires
+white-registers-requires c κs =
+    let c1 = c .before .before in
+    let start = c1 .before .before .before .before in
+    bounds-within (start .args .self) _ _ (c1 .bounds .ensures) (start .pre .0) (start .pre .1)
+
+-- what is known once the registers were looked at
+known : (c : tie.After-words)
+    → let c1 = c .before in
+    let a = c1 .before .before .before .before .before .before .before .args in
+    Scanning (a .self) (a .h0 .now) (a .h1 .now) (a .list .now) (a .registers) (c1 .white-registers .result)
+known c =
+    let c1 = c .before in
+    let c2 = c1 .before .before .before in
+    let start = c2 .before .before .before .before in
+    let o = c1 .white-registers in
+    let ok = o .ok .1 .1 in
+    let long : length (o .result .words) ≡ 8 = search needs in
+    record {
+      ranges = start .pre .0;
+      ends = start .pre .1;
+      few = omega (arith, o .ensures .0);
+      answer = o .ensures .1 ∙ ap (λ (z : Heap). toShadeAll (z .memory) (start .args .registers)) (c2 .bounds .ensures some _ _ (start .args .list .now) refl);
+    }
+
+sub-fits : tie.Need-sub-fits
+sub-fits c = omega (arith, c .before .before .before .before .before .before .before .before .pre .1)
+
+same-length : tie.Need-same-length
+same-length c = search needs
+
+same-length-2 : tie.Need-same-length-2
+same-length-2 c = search needs
+
+returns : tie.Need-returns
+returns c = λ s e. rw (session-refused (known (c .before)) s _ e (c .if1 .taken))
+
+of-requires : tie.Need-of-requires
+of-requires c κs = search needs
+
+same-length-3 : tie.Need-same-length-3
+same-length-3 c = search needs
+
+same-length-4 : tie.Need-same-length-4
+same-length-4 c = search needs
+
+returns-2 : tie.Need-returns-2
+unfolding sessionAt
+returns-2 c =
+    let c1 = c .before in
+    let c2 = c1 .before in
+    let c3 = c2 .before in
+    λ s e. rw (session-marked (known c3) s _ e (c2 .if1 .left) (c1 .if2 .taken), c .of .ensures, e)
+
+shade-all-requires : tie.Need-shade-all-requires
+shade-all-requires c κs =
+    let c1 = c .before .before .before .before in
+    let c2 = c1 .before in
+    let c3 = c2 .before in
+    let k = known c2 in
+    let t = c1 .if1 .left in
+    (c3 .white-registers .ensures .0, session-room k t, session-inside k t)
+
+add-shaded : tie.Need-add-shaded
+add-shaded c =
+    let c1 = c .before .before .before .before .before .before .before .before .before .before .before in
+    let c2 = c1 .before in
+    let start = c2 .before .before .before .before .before .before .before .before in
+    let room = session-room (known c2) (c1 .if1 .left) in
+    omega arith
+
+shaded-requires : tie.Need-shaded-requires
+shaded-requires c κs = search needs
+
+same-length-5 : tie.Need-same-length-5
+same-length-5 c = search needs
+
+same-length-6 : tie.Need-same-length-6
+same-length-6 c = search needs
+
+same-length-7 : tie.Need-same-length-7
+same-length-7 c = search needs
+
+returns-3 : tie.Need-returns-3
+returns-3 c =
+    let c1 = c .before .before .before .before .before .before .before in
+    let c2 = c1 .before .before .before .before in
+    let c3 = c2 .before in
+    let c4 = c3 .before in
+    let start = c4 .before .before .before .before .before .before .before .before in
+    let e = c1 .shade-all .ensures in
+    let self = start .args .self in
+    λ s g. rw (session-shaded (known c4) s _ g (c3 .if1 .left) (c2 .if2 .left) (e .0 (self .frontier0) (self .frontier1)) (e .1), c .shaded .ensures)
+
+pub scan-session-spec : {M : Type 1} → statement M
+scan-session-spec =
+    tie.close
+    (tie.spec
+    bounds-requires
+    white-registers-requires
+    sub-fits
+    same-length
+    same-length-2
+    returns
+    of-requires
+    same-length-3
+    same-length-4
+    returns-2
+    shade-all-requires
+    add-shaded
+    shaded-requires
+    same-length-5
+    same-length-6
+    same-length-7
+    returns-3)

@@ -1,0 +1,52 @@
+#!/usr/bin/env python3
+"""The script program in a small stack, which no proof bounds: with 96 KB of it the program writes, byte for byte, what document 01
+gives for long random scripts with every kind of call and for one that fills the store and collects it while it is full. With no more
+stack than its two halves take it must fail, which shows that the limit is kept."""
+import sys
+
+import program
+from model import ALLOCATE, ATTACH, CLEAR, GET, PUT, STORE
+from scripts import ARGUMENTS, encode, finish, kept, long_scripts, look
+from test_bad_scripts import expected
+
+STACK = 96 * 1024
+HALVES = 2 * 4096 * 4
+# how many records of `kept`, of six words each, a half has room for
+RECORDS = 4096 // 6
+SESSIONS = list(range(16))
+
+
+def filling_script():
+    """Records, each linked to the one before, until there is no room, and collections that keep them all; then nothing names them any
+    more, and collections free them."""
+    entries = [(ATTACH, [s]) for s in SESSIONS]
+    for n in range(RECORDS):
+        entries += kept(0, 0, 0, n) + [(STORE, [0, 0, 0, 1]), (GET, [0, 1, 0])]
+    entries += [(GET, [s, 0, 0]) for s in SESSIONS] + [(ALLOCATE, [s, 7, 2, 1]) for s in SESSIONS]
+    entries += finish(SESSIONS, 60) + look(15, 0)
+    entries += [(PUT, [0, 0, 7])] + [(CLEAR, [s, k]) for s in SESSIONS for k in range(8)]
+    return entries + finish(SESSIONS, 60)
+
+
+def main():
+    longest = entries = no_room = 0
+    kinds = set()
+    for name, script in [*long_scripts(), ("full store", filling_script())]:
+        data = encode(script)
+        done, want = program.run(data, STACK), expected(data)
+        if done.returncode != 0 or done.stderr:
+            sys.exit(f"test_stack: {name}: with {STACK // 1024} KB of stack the program ended with status {done.returncode}")
+        if done.stdout != want:
+            sys.exit(f"test_stack: {name}: wrote {done.stdout[-80:]!r}, document 01 gives {want[-80:]!r}")
+        longest, entries, kinds = max(longest, len(want)), entries + len(script), kinds | {kind for kind, _ in script}
+        no_room = want.count(b" 14 0\n")  # in the end those of the last script, the full store
+    print(f"test_stack: {entries} entries with {STACK // 1024} KB of stack, the longest output {longest} bytes, {no_room} allocations "
+          "without room in the full store")
+    if kinds != set(ARGUMENTS) or no_room < len(SESSIONS):
+        sys.exit("test_stack: the scripts do not show enough")
+    if program.run(b"\x01", HALVES).returncode == 0:
+        sys.exit(f"test_stack: the program runs with {HALVES // 1024} KB of stack, so the limit is not kept")
+
+
+if __name__ == "__main__":
+    main()
