@@ -1,15 +1,15 @@
--- The decimal digits of a number: what they are made of, and how many there are.
-use Prim.Native.Nat.{ℕ, zero, suc, _+_, _*_, _/_, _%_, _^_, _≤_, _<_}
+-- The decimal digits of a number: what they are made of, how many there are, and how they are written.
+use Prim.Native.Nat.{ℕ, zero, suc, _+_, _*_, _-_, _/_, _%_, _^_, _≤_, _<_}
 use mathlib.Core.Path.{_≡_}
 use mathlib.Core.List.{List, [], _∷_, _++_, append-assoc}
 use native.Mathlib.Omega.{arith}
-use native.Mathlib.Nat.{div-lt-self, div-lt-iff-lt-mul, div-add-mod, pow-suc, mod-lt, add-suc, add-zero}
+use native.Mathlib.Nat.{zero-add, div-one, div-lt-self, div-lt-iff-lt-mul, le-div-iff-mul-le, div-div-eq-div-mul, pow-zero, pow-suc, pow-succ', one-le-pow}
 use borrow.Author.Tests.{lt-ltb, le-ltb}
-use lib.ListN.{length, set, length-append}
+use lib.ListN.{length, length-set, length-append}
 use lib.Seq.{sets}
 use Rattle.rules.specs.Script.{digit, digitsWith, decimal}
 use Rattle.rules.proofs.memory.Cases.{lt-or}
-use Rattle.script.proofs.Runs.{sets-append}
+use Rattle.script.proofs.Runs.{sets-before}
 
 -- as many turns as the number says are enough
 enough : (f g n : ℕ) → n < f → n < g → digitsWith f n ≡ digitsWith g n
@@ -34,6 +34,42 @@ decimal-more {n} large =
     let less : n / 10 < n = div-lt-self (omega arith) (omega arith) in
     rw (le-ltb n 10 large, enough n (suc (n / 10)) (n / 10) less (omega arith))
 
+pub decimal-two : {n : ℕ} → 10 ≤ n → n < 100 → decimal n ≡ digit (n / 10) ∷ digit (n % 10) ∷ []
+decimal-two {n} large small =
+    let first : n / 10 < 10 = omega arith in
+    rw (decimal-more large, decimal-one first)
+
+decimal-pair : {n : ℕ} → 100 ≤ n → decimal n ≡ decimal (n / 100) ++ (digit (n % 100 / 10) ∷ digit (n % 100 % 10) ∷ [])
+decimal-pair {n} large =
+    let wide : 10 ≤ n = omega arith in
+    let tenth : 10 ≤ n / 10 = omega arith in
+    let before : n / 10 / 10 ≡ n / 100 = omega arith in
+    let tens : n / 10 % 10 ≡ n % 100 / 10 = omega arith in
+    let ones : n % 10 ≡ n % 100 % 10 = omega arith in
+    rw (decimal-more wide, decimal-more tenth, before, tens, ones, append-assoc)
+
+-- ---- how many there are
+
+pub one-long : {n : ℕ} → n < 10 → length (decimal n) ≡ 1
+one-long small = rw (decimal-one small)
+
+-- k digits more than without the last k
+pub decimal-longer : (k : ℕ) {n : ℕ} → 10 ^ k ≤ n → length (decimal n) ≡ k + length (decimal (n / 10 ^ k))
+decimal-longer zero {n} large = rw (pow-zero, div-one, zero-add)
+decimal-longer (suc k) {n} large =
+    let wide : 10 ^ k * 10 ≤ n = rw pow-suc at large in
+    let some : 1 ≤ 10 ^ k = one-le-pow k 10 (omega arith) in
+    let tenth : 10 ^ k ≤ n / 10 = le-div-iff-mul-le {k = 10} (omega arith) .1 wide in
+    let ten : 10 ≤ n = omega arith in
+    rw (decimal-more ten, length-append, decimal-longer k tenth, div-div-eq-div-mul, pow-succ') (omega arith)
+
+-- k + 1 digits from 10 ^ k on, below ten times that
+pub decimal-long : (k : ℕ) {n : ℕ} → 10 ^ k ≤ n → n < 10 ^ suc k → length (decimal n) ≡ suc k
+decimal-long k {n} large small =
+    let some : 0 < 10 ^ k = one-le-pow k 10 (omega arith) in
+    let first : n / 10 ^ k < 10 = div-lt-iff-lt-mul some .1 (rw pow-succ' at small) in
+    rw (decimal-longer k large, one-long first) (omega arith)
+
 -- a number below 10 ^ k has at most k digits
 pub decimal-short : (k n : ℕ) → n < 10 ^ suc k → length (decimal n) ≤ suc k
 decimal-short zero n below = rw (decimal-one {n = n} below) (omega arith)
@@ -47,71 +83,30 @@ decimal-short (suc k) n below =
     let short : length (decimal (n / 10)) ≤ suc k = decimal-short k (n / 10) less in
     rw (decimal-more large, length-append) (omega arith))
 
--- the last two digits of a number from those of its last hundred
-record Pairs (n : ℕ) : Type 0 where
-  before : n / 10 / 10 ≡ n / 100
-  tens : n / 10 % 10 ≡ n % 100 / 10
-  ones : n % 10 ≡ n % 100 % 10
-
-pairs : (n : ℕ) → Pairs n
-pairs n =
-    let a : 10 * (n / 10) + n % 10 ≡ n = div-add-mod n 10 in
-    let b : 10 * (n / 10 / 10) + n / 10 % 10 ≡ n / 10 = div-add-mod (n / 10) 10 in
-    let c : 100 * (n / 100) + n % 100 ≡ n = div-add-mod n 100 in
-    let d : 10 * (n % 100 / 10) + n % 100 % 10 ≡ n % 100 = div-add-mod (n % 100) 10 in
-    let a' : n % 10 < 10 = mod-lt n (omega arith) in
-    let b' : n / 10 % 10 < 10 = mod-lt (n / 10) (omega arith) in
-    let c' : n % 100 < 100 = mod-lt n (omega arith) in
-    let d' : n % 100 % 10 < 10 = mod-lt (n % 100) (omega arith) in
-    record { before = omega arith; tens = omega arith; ones = omega arith }
-
-pub tenth-small : {n : ℕ} → n < 100 → n / 10 < 10
-tenth-small {n} small =
-    let a : 10 * (n / 10) + n % 10 ≡ n = div-add-mod n 10 in
-    omega arith
-
-tenth-large : {n : ℕ} → 100 ≤ n → 10 ≤ n / 10
-tenth-large {n} large =
-    let a : 10 * (n / 10) + n % 10 ≡ n = div-add-mod n 10 in
-    let a' : n % 10 < 10 = mod-lt n (omega arith) in
-    omega arith
-
-pub decimal-two : {n : ℕ} → 10 ≤ n → n < 100 → decimal n ≡ digit (n / 10) ∷ digit (n % 10) ∷ []
-decimal-two {n} large small = rw (decimal-more large, decimal-one (tenth-small small))
-
-pub decimal-pair : {n : ℕ} → 100 ≤ n → decimal n ≡ decimal (n / 100) ++ (digit (n % 100 / 10) ∷ digit (n % 100 % 10) ∷ [])
-decimal-pair {n} large =
-    let wide : 10 ≤ n = omega arith in
-    rw (decimal-more wide, decimal-more (tenth-large large), pairs n .before, pairs n .tens, pairs n .ones, append-assoc)
-
--- ---- the digits as they are written
-
-pub one-long : {n : ℕ} → n < 10 → length (decimal n) ≡ 1
-one-long small = rw (decimal-one small)
-
-pub two-long : {n : ℕ} → 10 ≤ n → n < 100 → length (decimal n) ≡ 2
-two-long large small = rw (decimal-two large small)
-
-pub two-longer : {n : ℕ} → 100 ≤ n → length (decimal n) ≡ length (decimal (n / 100)) + 2
-two-longer large = rw (decimal-pair large, length-append)
-
--- the last two digits after the others
-pub pair-written : (l : List ℕ) (i : ℕ) {m : List ℕ} {last n : ℕ} → 100 ≤ n → last ≡ i + length (decimal (n / 100)) → m ≡ sets l i (decimal (n / 100)) →
-    set (set m last (digit (n % 100 / 10))) (last + 1) (digit (n % 100 % 10)) ≡ sets l i (decimal n)
-pair-written l i {m} {last} large e d = rw (decimal-pair large, ← sets-append, e, d, add-suc, add-zero)
-
-pub digit-small : (n : ℕ) → n % 10 < 10
-digit-small n = mod-lt n (omega arith)
-
-pub rest-small : (n : ℕ) → n % 100 < 100
-rest-small n = mod-lt n (omega arith)
-
-pub hundredth-less : {n : ℕ} → 100 ≤ n → n / 100 < n
-hundredth-less large = div-lt-self (omega arith) (omega arith)
-
 -- a 64-bit number has at most 20 digits, a 32-bit one at most 10
 pub long64 : (n : ℕ) → n < 2 ^ 64 → length (decimal n) ≤ 20
 long64 n h = decimal-short 19 n (omega arith)
 
 pub long32 : (n : ℕ) → n < 2 ^ 32 → length (decimal n) ≤ 10
 long32 n h = decimal-short 9 n (omega arith)
+
+-- ---- the digits as they are written
+
+-- of the digits of n, which come into l at a place, those of m are still to be written, up to place i
+pub record Rest (l : List ℕ) (at n : ℕ) (out : List ℕ) (i m : ℕ) : Type 0 where
+  pub end : i ≡ at + length (decimal m)
+  pub text : sets out at (decimal m) ≡ sets l at (decimal n)
+  pub long : length out ≡ length l
+  pub inside : i ≤ length l
+
+-- the last two are written
+pub pair-written : {l : List ℕ} {at n : ℕ} {out : List ℕ} {i m : ℕ} → Rest l at n out i m → 100 ≤ m → {out' : List ℕ} →
+    out' ≡ sets out (i - 2) (digit (m % 100 / 10) ∷ digit (m % 100 % 10) ∷ []) → Rest l at n out' (i - 2) (m / 100)
+pair-written {l} {at} {n} {out} {i} {m} r large e =
+    let place : i - 2 ≡ at + length (decimal (m / 100)) = omega (arith, decimal-longer 2 large) in
+    record {
+      end = place;
+      text = rw (e, place) (rw (decimal-pair large, ← sets-before) at (r .text));
+      long = rw (e, length-set, length-set) (r .long);
+      inside = omega arith;
+    }

@@ -1,15 +1,26 @@
 -- Runs of stores, one after another.
-use Prim.Native.Nat.{ℕ, suc, _+_}
-use mathlib.Core.Path.{_≡_}
+use Prim.Native.Nat.{ℕ, suc, _+_, _<_}
+use mathlib.Core.Path.{_≡_, refl}
 use mathlib.Core.List.{List, [], _∷_, _++_}
 use native.Mathlib.Omega.{arith}
 use native.Mathlib.Nat.{add-zero, add-suc, suc-add}
 use lib.ListN.{length, set, length-append}
-use lib.Seq.{sets}
+use lib.Seq.{sets, set-comm}
 
 pub sets-append : (l : List ℕ) (i : ℕ) (xs ys : List ℕ) → sets (sets l i xs) (i + length xs) ys ≡ sets l i (xs ++ ys)
 sets-append l i [] ys = rw add-zero
 sets-append l i (x ∷ xs) ys = rw (add-suc, ← suc-add, sets-append (set l i x) (suc i) xs ys)
+
+-- a store before the others
+set-sets : (l : List ℕ) (j : ℕ) (ys : List ℕ) (i x : ℕ) → i < j → set (sets l j ys) i x ≡ sets (set l i x) j ys
+set-sets l j [] i x before = refl
+set-sets l j (y ∷ ys) i x before = rw (set-sets (set l j y) (suc j) ys i x (omega arith), set-comm l i j x y (λ e. omega arith))
+
+-- the last ones first
+pub sets-before : (l : List ℕ) (i : ℕ) (xs ys : List ℕ) → sets (sets l (i + length xs) ys) i xs ≡ sets l i (xs ++ ys)
+sets-before l i [] ys = rw add-zero
+sets-before l i (x ∷ xs) ys =
+    rw (set-sets l (i + suc (length xs)) ys i x (omega arith), add-suc, ← suc-add, sets-before (set l i x) (suc i) xs ys)
 
 -- xs was written into l from place i on, which left m, and the next place is p
 pub record Written (l : List ℕ) (i : ℕ) (xs m : List ℕ) (p : ℕ) : Type 0 where

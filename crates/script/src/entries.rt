@@ -43,7 +43,7 @@ pub enum Parsed {
 }
 
 // The length byte of each kind, from 1 on.
-const SIZES: [usize; 14] = [2, 2, 2, 5, 5, 5, 4, 8, 4, 3, 4, 4, 4, 1];
+const SIZES: [u8; 14] = [2, 2, 2, 5, 5, 5, 4, 8, 4, 3, 4, 4, 4, 1];
 
 // Byte i of a body, 0 past its end.
 fn byte(body: &[u8], i: usize) -> u32
@@ -76,7 +76,7 @@ pub fn decode(body: &[u8]) -> Decoded
         return Decoded::Bad;
     }
     let k = kind as usize - 1;
-    if SIZES[k] != body.len() {
+    if SIZES[k] as usize != body.len() {
         return Decoded::Bad;
     }
     Decoded::Call(command_of(kind, body))

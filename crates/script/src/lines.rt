@@ -1,13 +1,53 @@
 // The text of a line: entry number, refusal number or 0, value.
 ghost use mathlib.Core.Path.{_≡_};
-ghost use Prim.Native.Nat.{_+_, _≤_};
+ghost use mathlib.Core.List.{[], _∷_};
+ghost use Prim.Native.Nat.{_+_, _/_, _%_, _≤_, _<_};
 ghost use lib.ListN.{length};
 ghost use lib.Seq.{sets};
 ghost use Rattle.rules.specs.Refusals.{numberOf, valueOf};
-ghost use Rattle.rules.specs.Script.{decimal, textOf};
+ghost use Rattle.rules.specs.Script.{digit, decimal, textOf};
 ghost use Rattle.script.specs.Lines.{line, longest, versionRefused, badVersion};
 
-// Puts a number's decimal digits at a place of the output, two at a time, and answers the place after them.
+// How many decimal digits a number has, counted one by one.
+fn count_digits(n: u64) -> usize
+    ensures { λ r. ⌜ r ≡ length (decimal n) ⌝ }
+{
+    if n < 10 {
+        return 1;
+    }
+    count_digits(n / 10) + 1
+}
+
+// How many decimal digits a number has: up to ten by comparisons; of more, those before the last ten are counted.
+fn digits_of(n: u64) -> usize
+    ensures { λ r. ⌜ r ≡ length (decimal n) ⌝ }
+{
+    match n {
+        0..=9 => 1,
+        10..=99 => 2,
+        100..=999 => 3,
+        1000..=9999 => 4,
+        10000..=99999 => 5,
+        100000..=999999 => 6,
+        1000000..=9999999 => 7,
+        10000000..=99999999 => 8,
+        100000000..=999999999 => 9,
+        1000000000..=9999999999 => 10,
+        _ => 10 + count_digits(n / 10000000000),
+    }
+}
+
+// Puts the two digits of a number below 100 at a place of the output.
+fn write_pair(out: &mut [u8], at: usize, n: u64)
+    requires { ⌜ (at + 2 ≤ length (now out)) × (n < 100) ⌝ }
+    ensures { λ _. ⌜ now (out .exit) ≡ sets (now (out .entry)) at (digit (n / 10) ∷ digit (n % 10) ∷ []) ⌝ }
+{
+    out[at] = 48 + (n / 10) as u8;
+    out[at + 1] = 48 + (n % 10) as u8;
+}
+
+// Puts a number's decimal digits at a place of the output, the last ones first and two at a time, and answers the place
+// after them.
 fn write_decimal(out: &mut [u8], at: usize, n: u64) -> usize
     requires { ⌜ at + length (decimal n) ≤ length (now out) ⌝ }
     ensures end { λ r. ⌜ r ≡ at + length (decimal n) ⌝ }
@@ -17,16 +57,20 @@ fn write_decimal(out: &mut [u8], at: usize, n: u64) -> usize
         out[at] = 48 + n as u8;
         return at + 1;
     }
-    if n < 100 {
-        out[at] = 48 + (n / 10) as u8;
-        out[at + 1] = 48 + (n % 10) as u8;
-        return at + 2;
+    let end = at + digits_of(n);
+    let mut i = end;
+    let mut m = n;
+    while m >= 100 {
+        i -= 2;
+        write_pair(out, i, m % 100);
+        m = m / 100;
     }
-    let last = write_decimal(out, at, n / 100);
-    let rest = n % 100;
-    out[last] = 48 + (rest / 10) as u8;
-    out[last + 1] = 48 + (rest % 10) as u8;
-    last + 2
+    if m < 10 {
+        out[at] = 48 + m as u8;
+    } else {
+        write_pair(out, at, m);
+    }
+    end
 }
 
 // The refusal number of an answer, or 0.

@@ -4,7 +4,7 @@ use mathlib.Core.Path.{sym}
 use native.Mathlib.Omega.{arith}
 use borrow.Author.Tests.{le-leb, lt-leb, eq-eqb, ne-eqb}
 use Rattle.rules.specs.Script.{callOf}
-use Rattle.script.proofs.Sizes.{size-of}
+use Rattle.script.proofs.Sizes.{size-of, size-small}
 use borrow.Author.Needs.{needs}
 use Rattle.script.proofs.entries.decode.Statement.{statement}
 use Rattle.script.proofs.entries.decode.Tie as tie
@@ -28,11 +28,11 @@ cast-k c = search needs
 sub-k : tie.Need-sub-k
 sub-k c = search needs
 
-mul-if3 : tie.Need-mul-if3
-mul-if3 c = search needs
-
 array-read-if3 : tie.Need-array-read-if3
 array-read-if3 c = search needs
+
+cast-if3 : tie.Need-cast-if3
+cast-if3 c = omega (arith, size-small (c .before .before .byte .result))
 
 returns-3 : tie.Need-returns-3
 unfolding callOf
@@ -65,8 +65,8 @@ decode-spec =
     returns-2
     cast-k
     sub-k
-    mul-if3
     array-read-if3
+    cast-if3
     returns-3
     command-of-requires
     returns-4)
