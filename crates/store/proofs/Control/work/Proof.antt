@@ -182,7 +182,8 @@ returns-5 c =
     let start = c4 .before .before .before .before .before .before .before .before in
     let a = start .args in
     let s = view (a .self) (a .h0 .now) (a .h1 .now) (a .list .now) in
-    step-done s (tested c4) 5 (c3 .match .keys4) (c1 .allocate-shells .ensures s (a .list .now) (c2 .have-level .ensures (a .h0 .now) (a .h1 .now) (a .list .now)))
+    step-done s (tested c4) 5 (c3 .match .keys4)
+    (c1 .allocate-shells .ensures s (a .list .now) (c2 .have-level .ensures (a .h0 .now) (a .h1 .now) (a .list .now)))
 
 same-length-16 : tie.Need-same-length-16
 same-length-16 c = search needs
@@ -277,7 +278,8 @@ returns-10 c =
     let a = start .args in
     let s = view (a .self) (a .h0 .now) (a .h1 .now) (a .list .now) in
     let r = c2 .match .rest in
-    let n = waits (a .self .cursor .phase) (r .0 .0 .0 .0 .0 .0 .0 .1) (r .0 .0 .0 .0 .0 .0 .1) (r .0 .0 .0 .0 .0 .1) (r .0 .0 .0 .0 .1) (r .0 .0 .0 .1) (r .0 .0 .1) (r .0 .1) (r .1) in
+    let n = waits (a .self .cursor .phase) (r .0 .0 .0 .0 .0 .0 .0 .1) (r .0 .0 .0 .0 .0 .0 .1) (r .0 .0 .0 .0 .0 .1) (r .0 .0 .0 .0 .1)
+    (r .0 .0 .0 .1) (r .0 .0 .1) (r .0 .1) (r .1) in
     step-waits s (tested c3) n
     (c .handshake .ensures s (a .h0 .now) (a .h1 .now) (a .list .now) (c1 .have-level3 .ensures (a .h0 .now) (a .h1 .now) (a .list .now)))
 

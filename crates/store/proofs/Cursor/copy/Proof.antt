@@ -15,7 +15,10 @@ move-on-requires : tie.Need-move-on-requires
 move-on-requires c κs = c .before .before .before .before .pre .phases
 
 returns : tie.Need-returns
-returns c = λ s l. moves s _ _ _ l (c .move-on .ensures) (copy-ends _ (no (c .before .before .below .ensures s _ _ l) (c .before .if1 .taken)))
+returns c =
+    let c1 = c .before in
+    let c2 = c1 .before in
+    λ s l. moves s _ _ _ l (c .move-on .ensures) (copy-ends _ (no (c2 .below .ensures s _ _ l) (c1 .if1 .taken)))
 
 walked-requires : tie.Need-walked-requires
 walked-requires c κs =
@@ -23,7 +26,9 @@ walked-requires c κs =
     (k .half, k .places)
 
 follow-requires : tie.Need-follow-requires
-follow-requires c κs = (c .before .before .before .before .before .before .before .pre .low, c .before .before .before .before .before .before .before .pre .high)
+follow-requires c κs =
+    let start = c .before .before .before .before .before .before .before in
+    (start .pre .low, start .pre .high)
 
 enum-known-r : tie.Need-enum-known-r
 enum-known-r c = search needs

@@ -7,7 +7,9 @@ use Rattle.store.proofs.Cursor.copy_field.Statement.{statement}
 use Rattle.store.proofs.Cursor.copy_field.Tie as tie
 
 follow-requires : tie.Need-follow-requires
-follow-requires c κs = (c .before .before .before .before .pre .ranges .low, c .before .before .before .before .pre .ranges .high)
+follow-requires c κs =
+    let start = c .before .before .before .before in
+    (start .pre .ranges .low, start .pre .ranges .high)
 
 enum-told : tie.Need-enum-told
 enum-told c = search needs
@@ -49,7 +51,8 @@ returns-2 c =
     let c3 = c2 .before in
     let c4 = c3 .before .before in
     let c5 = c4 .before .before .before .before .before in
-    λ s l. field-ref _ _ (c5 .pre .replica) (found _ _ (c4 .follow .ensures) (c3 .enum-told .given .1) .sound) (c5 .pre .count) (c2 .if1 .taken) (c1 .copy-ref .ensures s l)
+    λ s l. field-ref _ _ (c5 .pre .replica) (found _ _ (c4 .follow .ensures) (c3 .enum-told .given .1) .sound) (c5 .pre .count) (c2 .if1 .taken)
+    (c1 .copy-ref .ensures s l)
 
 copy-plain-requires : tie.Need-copy-plain-requires
 copy-plain-requires c κs =
@@ -73,7 +76,8 @@ returns-3 c =
     let c3 = c2 .before in
     let c4 = c3 .before .before in
     let c5 = c4 .before .before .before .before .before in
-    λ s l. field-plain _ _ (c5 .pre .replica) (found _ _ (c4 .follow .ensures) (c3 .enum-told .given .1) .sound) (c5 .pre .count) (c2 .if1 .left) (c1 .copy-plain .ensures s l)
+    λ s l. field-plain _ _ (c5 .pre .replica) (found _ _ (c4 .follow .ensures) (c3 .enum-told .given .1) .sound) (c5 .pre .count) (c2 .if1 .left)
+    (c1 .copy-plain .ensures s l)
 
 pub copy-field-spec : {M : Type 1} → statement M
 copy-field-spec =

@@ -11,8 +11,9 @@ use Rattle.store.proofs.Cursor.copy_plain.Tie as tie
 
 plains-of-requires : tie.Need-plains-of-requires
 plains-of-requires c κs =
-    let b = c .before .before .before .before .pre .0 .ranges in
-    header-inside _ _ _ _ _ (c .before .before .before .before .pre .0 .there) (b .low) (b .high) 0 (omega arith)
+    let start = c .before .before .before .before in
+    let b = start .pre .0 .ranges in
+    header-inside _ _ _ _ _ (start .pre .0 .there) (b .low) (b .high) 0 (omega arith)
 
 cast-if1 : tie.Need-cast-if1
 cast-if1 c = search needs
@@ -28,7 +29,8 @@ returns c =
     let c1 = c .before in
     let c2 = c1 .before .before .before .before .before in
     let a = c2 .args in
-    λ s l. plain-short (having s (a .self) (a .h0 .now) (a .h1 .now) l) (a .v) (a .t) (a .i) (c1 .plains-of .ensures (a .self .frontier0) (a .self .frontier1)) (c .if1 .taken)
+    λ s l. plain-short (having s (a .self) (a .h0 .now) (a .h1 .now) l) (a .v) (a .t) (a .i)
+    (c1 .plains-of .ensures (a .self .frontier0) (a .self .frontier1)) (c .if1 .taken)
 
 refs-of-requires : tie.Need-refs-of-requires
 refs-of-requires c κs =
@@ -56,7 +58,8 @@ get-word-requires c κs =
     let c1 = c .before .before .before .before .before in
     let c2 = c1 .before .before .before .before .before .before .before .before .before in
     let b = c2 .pre .0 .ranges in
-    rw (c1 .refs-of .ensures (c2 .args .self .frontier0) (c2 .args .self .frontier1)) (plain-inside _ _ _ _ _ (c2 .pre .0 .here) (b .low) (b .high) _ (c2 .pre .1))
+    rw (c1 .refs-of .ensures (c2 .args .self .frontier0) (c2 .args .self .frontier1))
+    (plain-inside _ _ _ _ _ (c2 .pre .0 .here) (b .low) (b .high) _ (c2 .pre .1))
 
 cast-put-word : tie.Need-cast-put-word
 cast-put-word c = search needs
@@ -75,11 +78,14 @@ put-word-requires c κs =
     let c4 = c3 .before .before .before .before .before in
     let a = c4 .args in
     let b = c4 .pre .0 .ranges in
-    rw (c1 .refs-of2 .ensures (a .self .frontier0) (a .self .frontier1)) (plain-inside _ _ _ _ _ (c4 .pre .0 .there) (b .low) (b .high) _ (rw (← c3 .plains-of .ensures (a .self .frontier0) (a .self .frontier1)) (c2 .if1 .left)))
+    rw (c1 .refs-of2 .ensures (a .self .frontier0) (a .self .frontier1))
+    (plain-inside _ _ _ _ _ (c4 .pre .0 .there) (b .low) (b .high) _
+    (rw (← c3 .plains-of .ensures (a .self .frontier0) (a .self .frontier1)) (c2 .if1 .left)))
 
 past-field-requires : tie.Need-past-field-requires
 past-field-requires c κs =
-    let c1 = c .before .before .before .before .before .before .before .before .before .before .before .before .before .before .before .before .before .before .before .before .before .before in
+    let c1 = c .before .before .before .before .before .before .before .before .before .before .before .before .before .before .before .before .before
+    .before .before .before .before .before in
     let k = c1 .pre .0 .ranges in
     k .fields
 
@@ -100,7 +106,10 @@ returns-2 c =
     let c7 = c6 .before .before .before .before .before in
     let a = c7 .args in
     λ s l. goes _ (c .past-field .ensures)
-    (plain-copied (having s (a .self) (a .h0 .now) (a .h1 .now) l) (a .v) (a .t) (a .i) (c6 .plains-of .ensures (a .self .frontier0) (a .self .frontier1)) (c5 .if1 .left) (c4 .refs-of .ensures (a .self .frontier0) (a .self .frontier1)) (c3 .refs-of2 .ensures (a .self .frontier0) (a .self .frontier1)) (c2 .get-word .ensures (a .self .frontier0) (a .self .frontier1))
+    (plain-copied (having s (a .self) (a .h0 .now) (a .h1 .now) l) (a .v) (a .t) (a .i)
+    (c6 .plains-of .ensures (a .self .frontier0) (a .self .frontier1)) (c5 .if1 .left)
+    (c4 .refs-of .ensures (a .self .frontier0) (a .self .frontier1)) (c3 .refs-of2 .ensures (a .self .frontier0) (a .self .frontier1))
+    (c2 .get-word .ensures (a .self .frontier0) (a .self .frontier1))
     (c1 .put-word .ensures (a .self .frontier0) (a .self .frontier1)))
 
 pub copy-plain-spec : {M : Type 1} → statement M

@@ -13,8 +13,9 @@ use Rattle.store.proofs.Cursor.copy_ref.Tie as tie
 
 refs-of-requires : tie.Need-refs-of-requires
 refs-of-requires c κs =
-    let b = c .before .before .before .before .pre .0 .ranges in
-    header-inside _ _ _ _ _ (c .before .before .before .before .pre .0 .there) (b .low) (b .high) 0 (omega arith)
+    let start = c .before .before .before .before in
+    let b = start .pre .0 .ranges in
+    header-inside _ _ _ _ _ (start .pre .0 .there) (b .low) (b .high) 0 (omega arith)
 
 cast-if1 : tie.Need-cast-if1
 cast-if1 c = search needs
@@ -30,7 +31,8 @@ returns c =
     let c1 = c .before in
     let c2 = c1 .before .before .before .before .before in
     let a = c2 .args in
-    λ s l. ref-short (having s (a .self) (a .h0 .now) (a .h1 .now) l) (a .v) (a .t) (a .self .field) (c1 .refs-of .ensures (a .self .frontier0) (a .self .frontier1)) (c .if1 .taken)
+    λ s l. ref-short (having s (a .self) (a .h0 .now) (a .h1 .now) l) (a .v) (a .t) (a .self .field)
+    (c1 .refs-of .ensures (a .self .frontier0) (a .self .frontier1)) (c .if1 .taken)
 
 add-get-word : tie.Need-add-get-word
 add-get-word c =
@@ -73,12 +75,14 @@ returns-2 c =
     let c5 = c4 .before in
     let c6 = c5 .before .before .before .before .before in
     let a = c6 .args in
-    λ s l. ref-lost (having s (a .self) (a .h0 .now) (a .h1 .now) l) (a .v) (a .t) (a .self .field) (c5 .refs-of .ensures (a .self .frontier0) (a .self .frontier1)) (c4 .if1 .left) (c3 .get-word .ensures (a .self .frontier0) (a .self .frontier1))
+    λ s l. ref-lost (having s (a .self) (a .h0 .now) (a .h1 .now) l) (a .v) (a .t) (a .self .field)
+    (c5 .refs-of .ensures (a .self .frontier0) (a .self .frontier1)) (c4 .if1 .left) (c3 .get-word .ensures (a .self .frontier0) (a .self .frontier1))
     (forward-by (a .self) (a .h0 .now) (a .h1 .now) (c2 .bounds .ensures) s l _ (c1 .forward .ensures) (ap checked (c .enum-told .given .1)))
 
 add-put-word : tie.Need-add-put-word
 add-put-word c =
-    let c1 = c .before .before .before .before .before .before .before .before .before .before .before .before .before .before .before .before .before .before in
+    let c1 = c .before .before .before .before .before .before .before .before .before .before .before .before .before .before .before .before .before
+    .before in
     let k = c1 .pre .0 .ranges in
     omega arith
 
@@ -88,11 +92,13 @@ put-word-requires c κs =
     let c2 = c1 .before in
     let c3 = c2 .before .before .before .before .before in
     let b = c3 .pre .0 .ranges in
-    ref-inside _ _ _ _ _ (c3 .pre .0 .there) (b .low) (b .high) _ (rw (← c2 .refs-of .ensures (c3 .args .self .frontier0) (c3 .args .self .frontier1)) (c1 .if1 .left))
+    ref-inside _ _ _ _ _ (c3 .pre .0 .there) (b .low) (b .high) _
+    (rw (← c2 .refs-of .ensures (c3 .args .self .frontier0) (c3 .args .self .frontier1)) (c1 .if1 .left))
 
 past-field-requires : tie.Need-past-field-requires
 past-field-requires c κs =
-    let c1 = c .before .before .before .before .before .before .before .before .before .before .before .before .before .before .before .before .before .before .before .before .before .before .before in
+    let c1 = c .before .before .before .before .before .before .before .before .before .before .before .before .before .before .before .before .before
+    .before .before .before .before .before .before in
     let k = c1 .pre .0 .ranges in
     k .fields
 
@@ -114,7 +120,8 @@ returns-3 c =
     let c8 = c7 .before .before .before .before .before in
     let a = c8 .args in
     λ s l. goes _ (c .past-field .ensures)
-    (ref-copied (having s (a .self) (a .h0 .now) (a .h1 .now) l) (a .v) (a .t) (a .self .field) (c7 .refs-of .ensures (a .self .frontier0) (a .self .frontier1)) (c6 .if1 .left) (c5 .get-word .ensures (a .self .frontier0) (a .self .frontier1))
+    (ref-copied (having s (a .self) (a .h0 .now) (a .h1 .now) l) (a .v) (a .t) (a .self .field)
+    (c7 .refs-of .ensures (a .self .frontier0) (a .self .frontier1)) (c6 .if1 .left) (c5 .get-word .ensures (a .self .frontier0) (a .self .frontier1))
     (forward-by (a .self) (a .h0 .now) (a .h1 .now) (c4 .bounds .ensures) s l _ (c3 .forward .ensures) (ap checked (c2 .w .given .1)))
     (c1 .put-word .ensures (a .self .frontier0) (a .self .frontier1)))
 

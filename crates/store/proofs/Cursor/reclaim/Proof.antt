@@ -24,13 +24,24 @@ move-on-requires : tie.Need-move-on-requires
 move-on-requires c κs = rw (c .with-frontier .ensures) (c .before .before .before .before .before .before .before .pre .phases)
 
 returns-2 : tie.Need-returns-2
-returns-2 c = λ s l e. empties s _ _ _ l _ (c .before .with-frontier .ensures) (c .move-on .ensures) (reclaim-ends _ (yes e (c .before .before .before .before .before .if1 .left)) (no (c .before .before .before .before .below .ensures s _ _ l) (c .before .before .before .if2 .taken)) (c .before .before .other-half .ensures))
+returns-2 c =
+    let c1 = c .before in
+    let c2 = c1 .before in
+    let c3 = c2 .before in
+    let c4 = c3 .before in
+    let c5 = c4 .before in
+    λ s l e. empties s _ _ _ l _ (c1 .with-frontier .ensures) (c .move-on .ensures)
+    (reclaim-ends _ (yes e (c5 .if1 .left)) (no (c4 .below .ensures s _ _ l) (c3 .if2 .taken)) (c2 .other-half .ensures))
 
 walked-requires : tie.Need-walked-requires
-walked-requires c κs = (c .before .before .before .before .before .pre .half, c .before .before .before .before .before .pre .places)
+walked-requires c κs =
+    let start = c .before .before .before .before .before in
+    (start .pre .half, start .pre .places)
 
 follow-requires : tie.Need-follow-requires
-follow-requires c κs = (c .before .before .before .before .before .before .before .before .pre .low, c .before .before .before .before .before .before .before .before .pre .high)
+follow-requires c κs =
+    let start = c .before .before .before .before .before .before .before .before in
+    (start .pre .low, start .pre .high)
 
 enum-known-r : tie.Need-enum-known-r
 enum-known-r c = search needs
@@ -45,10 +56,21 @@ same-length-2 : tie.Need-same-length-2
 same-length-2 c = search needs
 
 returns-3 : tie.Need-returns-3
-returns-3 c = λ s l e. reclaim-lost _ (yes e (c .before .before .before .before .before .before .before .before .if1 .left)) (yes (c .before .before .before .before .before .before .before .below .ensures s _ _ l) (c .before .before .before .before .before .before .if2 .left)) (c .before .before .before .before .before .walked .ensures s _ _ l) (lost _ _ (c .before .before .follow .ensures) (c .enum-told .given .1))
+returns-3 c =
+    let c1 = c .before .before in
+    let c2 = c1 .before .before .before in
+    let c3 = c2 .before in
+    let c4 = c3 .before in
+    let c5 = c4 .before in
+    λ s l e. reclaim-lost _ (yes e (c5 .if1 .left)) (yes (c4 .below .ensures s _ _ l) (c3 .if2 .left)) (c2 .walked .ensures s _ _ l)
+    (lost _ _ (c1 .follow .ensures) (c .enum-told .given .1))
 
 put-word-requires : tie.Need-put-word-requires
-put-word-requires c κs = header-of (c .before .before .before .before .before .before .before .before .before .before .before .before .before .before .pre) (found _ _ (c .before .before .before .before .before .follow .ensures) (c .before .before .before .r .given .1)) 2 (omega arith)
+put-word-requires c κs =
+    let c1 = c .before .before .before in
+    let c2 = c1 .before .before in
+    let start = c2 .before .before .before .before .before .before .before .before .before in
+    header-of (start .pre) (found _ _ (c2 .follow .ensures) (c1 .r .given .1)) 2 (omega arith)
 
 cast-past-record : tie.Need-cast-past-record
 cast-past-record c = search needs
@@ -63,7 +85,12 @@ add-past-record-2 : tie.Need-add-past-record-2
 add-past-record-2 c = search needs
 
 past-record-requires : tie.Need-past-record-requires
-past-record-requires c κs = let f = found _ _ (c .before .before .before .before .before .before .before .before .before .before .follow .ensures) (c .before .before .before .before .before .before .before .before .r .given .1) in (c .before .before .before .before .before .before .before .before .before .before .before .before .before .before .before .before .before .before .before .pre .places, omega arith)
+past-record-requires c κs =
+    let c1 = c .before .before .before .before .before .before .before .before in
+    let c2 = c1 .before .before in
+    let start = c2 .before .before .before .before .before .before .before .before .before in
+    let f = found _ _ (c2 .follow .ensures) (c1 .r .given .1) in
+    (start .pre .places, omega arith)
 
 same-length-3 : tie.Need-same-length-3
 same-length-3 c = search needs
@@ -72,7 +99,41 @@ same-length-4 : tie.Need-same-length-4
 same-length-4 c = search needs
 
 returns-4 : tie.Need-returns-4
-returns-4 c = λ s l e. goes _ (c .past-record .ensures) (reclaim-clears _ (yes e (c .before .before .before .before .before .before .before .before .before .before .before .before .before .before .before .before .before .if1 .left)) (yes (c .before .before .before .before .before .before .before .before .before .before .before .before .before .before .before .before .below .ensures s _ _ l) (c .before .before .before .before .before .before .before .before .before .before .before .before .before .before .before .if2 .left)) (c .before .before .before .before .before .before .before .before .before .before .before .before .before .before .walked .ensures s _ _ l) (found _ _ (c .before .before .before .before .before .before .before .before .before .before .before .follow .ensures) (c .before .before .before .before .before .before .before .before .before .r .given .1)) (c .before .before .before .before .before .put-word .ensures _ _))
+returns-4 c =
+    let c1 = c .before .before .before .before .before in
+    let c2 = c1 .before .before .before .before in
+    let c3 = c2 .before .before in
+    let c4 = c3 .before .before .before in
+    let c5 = c4 .before in
+    let c6 = c5 .before in
+    let c7 = c6 .before in
+    λ s l e. goes _ (c .past-record .ensures)
+    (reclaim-clears _ (yes e (c7 .if1 .left)) (yes (c6 .below .ensures s _ _ l) (c5 .if2 .left)) (c4 .walked .ensures s _ _ l)
+    (found _ _ (c3 .follow .ensures) (c2 .r .given .1)) (c1 .put-word .ensures _ _))
 
 pub reclaim-spec : {M : Type 1} → statement M
-reclaim-spec = tie.close (tie.spec returns below-requires other-half-requires with-frontier-requires move-on-requires returns-2 walked-requires follow-requires enum-known-r enum-told same-length same-length-2 returns-3 put-word-requires cast-past-record cast-past-record-2 add-past-record add-past-record-2 past-record-requires same-length-3 same-length-4 returns-4)
+reclaim-spec =
+    tie.close
+    (tie.spec
+    returns
+    below-requires
+    other-half-requires
+    with-frontier-requires
+    move-on-requires
+    returns-2
+    walked-requires
+    follow-requires
+    enum-known-r
+    enum-told
+    same-length
+    same-length-2
+    returns-3
+    put-word-requires
+    cast-past-record
+    cast-past-record-2
+    add-past-record
+    add-past-record-2
+    past-record-requires
+    same-length-3
+    same-length-4
+    returns-4)

@@ -13,7 +13,10 @@ bounds-requires : tie.Need-bounds-requires
 bounds-requires c κs = search needs
 
 shading-requires : tie.Need-shading-requires
-shading-requires c κs = bounds-within (c .before .before .before .before .before .before .args .self) _ _ (c .before .before .bounds .ensures) (c .before .before .before .before .before .before .pre .0) (c .before .before .before .before .before .before .pre .1)
+shading-requires c κs =
+    let c1 = c .before .before in
+    let start = c1 .before .before .before .before in
+    bounds-within (start .args .self) _ _ (c1 .bounds .ensures) (start .pre .0) (start .pre .1)
 
 enum-known-w : tie.Need-enum-known-w
 enum-known-w c = search needs
@@ -28,7 +31,13 @@ same-length-2 : tie.Need-same-length-2
 same-length-2 c = search needs
 
 returns : tie.Need-returns
-returns c = λ s. rw (next-damage _ _ (c .before .before .shading .ensures ∙ ap (λ (z : Heap). shading z (c .before .before .before .before .before .before .before .before .before .args .q)) (c .before .before .before .before .before .bounds .ensures s _ _ (c .before .before .before .before .before .before .before .before .before .args .list .now) refl)) (c .enum-told .given .1))
+returns c =
+    let c1 = c .before .before in
+    let c2 = c1 .before .before .before in
+    let start = c2 .before .before .before .before in
+    λ s. rw
+    (next-damage _ _ (c1 .shading .ensures ∙ ap (λ (z : Heap). shading z (start .args .q)) (c2 .bounds .ensures s _ _ (start .args .list .now) refl))
+    (c .enum-told .given .1))
 
 walk-to-requires : tie.Need-walk-to-requires
 walk-to-requires c κs = search needs
@@ -40,13 +49,34 @@ same-length-4 : tie.Need-same-length-4
 same-length-4 c = search needs
 
 returns-2 : tie.Need-returns-2
-returns-2 c = λ s. rw (next-walked _ _ (c .before .before .before .before .before .shading .ensures ∙ ap (λ (z : Heap). shading z (c .before .before .before .before .before .before .before .before .before .before .before .before .args .q)) (c .before .before .before .before .before .before .before .before .bounds .ensures s _ _ (c .before .before .before .before .before .before .before .before .before .before .before .before .args .list .now) refl)) (c .before .before .before .w .given .1) (c .before .if1 .taken), c .walk-to .ensures)
+returns-2 c =
+    let c1 = c .before in
+    let c2 = c1 .before .before in
+    let c3 = c2 .before .before in
+    let c4 = c3 .before .before .before in
+    let start = c4 .before .before .before .before in
+    λ s. rw (
+      next-walked _ _ (c3 .shading .ensures ∙ ap (λ (z : Heap). shading z (start .args .q)) (c4 .bounds .ensures s _ _ (start .args .list .now) refl))
+          (c2 .w .given .1) (c1 .if1 .taken),
+      c .walk-to .ensures,
+    )
 
 put-grey-requires : tie.Need-put-grey-requires
-put-grey-requires c κs = next-allowed (having some (c .before .before .before .before .before .before .before .before .before .before .before .before .before .before .args .self) (c .before .before .before .before .before .before .before .before .before .before .before .before .before .before .args .h0 .now) (c .before .before .before .before .before .before .before .before .before .before .before .before .before .before .args .h1 .now) (c .before .before .before .before .before .before .before .before .before .before .before .before .before .before .args .list .now)) _ (c .before .before .before .before .before .before .before .shading .ensures ∙ ap (λ (z : Heap). shading z (c .before .before .before .before .before .before .before .before .before .before .before .before .before .before .args .q)) (c .before .before .before .before .before .before .before .before .before .before .bounds .ensures some _ _ (c .before .before .before .before .before .before .before .before .before .before .before .before .before .before .args .list .now) refl)) (c .before .before .before .before .before .w .given .1) (c .before .before .before .before .before .before .before .before .before .before .before .before .before .before .pre .0 .low) (c .before .before .before .before .before .before .before .before .before .before .before .before .before .before .pre .0 .high) (c .before .before .before .if1 .left)
+put-grey-requires c κs =
+    let c1 = c .before .before .before in
+    let c2 = c1 .before .before in
+    let c3 = c2 .before .before in
+    let c4 = c3 .before .before .before in
+    let start = c4 .before .before .before .before in
+    next-allowed (having some (start .args .self) (start .args .h0 .now) (start .args .h1 .now) (start .args .list .now)) _
+    (c3 .shading .ensures ∙ ap (λ (z : Heap). shading z (start .args .q)) (c4 .bounds .ensures some _ _ (start .args .list .now) refl))
+    (c2 .w .given .1) (start .pre .0 .low) (start .pre .0 .high) (c1 .if1 .left)
 
 add-shaded : tie.Need-add-shaded
-add-shaded c = omega (arith, c .before .before .before .before .before .before .before .before .before .before .before .before .before .before .before .before .before .before .before .before .before .pre .1)
+add-shaded c =
+    let start = c .before .before .before .before .before .before .before .before .before .before .before .before .before .before .before .before
+    .before .before .before .before .before in
+    omega (arith, start .pre .1)
 
 shaded-requires : tie.Need-shaded-requires
 shaded-requires c κs = search needs
@@ -61,7 +91,39 @@ same-length-7 : tie.Need-same-length-7
 same-length-7 c = search needs
 
 returns-3 : tie.Need-returns-3
-returns-3 c = λ s. rw (next-shaded _ _ (c .before .before .before .before .before .before .before .before .before .before .before .before .before .before .before .shading .ensures ∙ ap (λ (z : Heap). shading z (c .before .before .before .before .before .before .before .before .before .before .before .before .before .before .before .before .before .before .before .before .before .before .args .q)) (c .before .before .before .before .before .before .before .before .before .before .before .before .before .before .before .before .before .before .bounds .ensures s _ _ (c .before .before .before .before .before .before .before .before .before .before .before .before .before .before .before .before .before .before .before .before .before .before .args .list .now) refl)) (c .before .before .before .before .before .before .before .before .before .before .before .before .before .w .given .1) (c .before .before .before .before .before .before .before .before .before .before .before .if1 .left) (c .before .before .before .before .before .before .before .put-grey .ensures .0 (c .before .before .before .before .before .before .before .before .before .before .before .before .before .before .before .before .before .before .before .before .before .before .args .self .frontier0) (c .before .before .before .before .before .before .before .before .before .before .before .before .before .before .before .before .before .before .before .before .before .before .args .self .frontier1)) (c .before .before .before .before .before .before .before .put-grey .ensures .1), c .shaded .ensures)
+returns-3 c =
+    let c1 = c .before .before .before .before .before .before .before in
+    let c2 = c1 .before .before .before .before in
+    let c3 = c2 .before .before in
+    let c4 = c3 .before .before in
+    let c5 = c4 .before .before .before in
+    let start = c5 .before .before .before .before in
+    λ s. rw (
+      next-shaded _ _ (c4 .shading .ensures ∙ ap (λ (z : Heap). shading z (start .args .q)) (c5 .bounds .ensures s _ _ (start .args .list .now) refl))
+          (c3 .w .given .1) (c2 .if1 .left) (c1 .put-grey .ensures .0 (start .args .self .frontier0) (start .args .self .frontier1))
+          (c1 .put-grey .ensures .1),
+      c .shaded .ensures,
+    )
 
 pub shade-next-spec : {M : Type 1} → statement M
-shade-next-spec = tie.close (tie.spec bounds-requires shading-requires enum-known-w enum-told same-length same-length-2 returns walk-to-requires same-length-3 same-length-4 returns-2 put-grey-requires add-shaded shaded-requires same-length-5 same-length-6 same-length-7 returns-3)
+shade-next-spec =
+    tie.close
+    (tie.spec
+    bounds-requires
+    shading-requires
+    enum-known-w
+    enum-told
+    same-length
+    same-length-2
+    returns
+    walk-to-requires
+    same-length-3
+    same-length-4
+    returns-2
+    put-grey-requires
+    add-shaded
+    shaded-requires
+    same-length-5
+    same-length-6
+    same-length-7
+    returns-3)

@@ -42,7 +42,8 @@ returns c =
     λ s l e.
     let m = lowest-of (a .t2) (s .sessions) e (count start) (lowest (a .t2) (count start) (c3 .lowest .ensures)) in
     flipped s (a .self) _ _ l _ (c .flip .ensures)
-    (stacks-done (having s (a .self) (a .h0 .now) (a .h1 .now) l) (m .0) (m .1) (c2 .if1 .taken) (tospace-by (a .self) _ _ (c4 .bounds .ensures) s l (c1 .other-half .ensures)))
+    (stacks-done (having s (a .self) (a .h0 .now) (a .h1 .now) l) (m .0) (m .1) (c2 .if1 .taken)
+    (tospace-by (a .self) _ _ (c4 .bounds .ensures) s l (c1 .other-half .ensures)))
 
 mul-session : tie.Need-mul-session
 mul-session c = search needs
@@ -68,7 +69,8 @@ returns-2 c =
     λ s l e.
     let m = lowest-of (a .t2) (s .sessions) e (count start) (lowest (a .t2) (count start) (c3 .lowest .ensures)) in
     stack-lost (having s (a .self) (a .h0 .now) (a .h1 .now) l) (m .0) (m .1) (c2 .if1 .left) (ap (λ (xs : List Session). getD xs n absent .registers) e)
-    (all-by (a .self) (a .h0 .now) (a .h1 .now) (c4 .bounds .ensures) s l (getD (a .t2) n absent .registers) (c1 .forward-all .ensures) (moved-false (c1 .forward-all .result) (c .if2 .taken)))
+    (all-by (a .self) (a .h0 .now) (a .h1 .now) (c4 .bounds .ensures) s l (getD (a .t2) n absent .registers) (c1 .forward-all .ensures)
+    (moved-false (c1 .forward-all .result) (c .if2 .taken)))
 
 of-requires : tie.Need-of-requires
 of-requires c κs = search needs
@@ -86,7 +88,9 @@ returns-3 c =
     λ s l e.
     let m = lowest-of (a .t2) (s .sessions) e (count start) (lowest (a .t2) (count start) (c4 .lowest .ensures)) in
     stack-flips (having s (a .self) (a .h0 .now) (a .h1 .now) l) (m .0) (m .1) (c3 .if1 .left) (ap (λ (xs : List Session). getD xs n absent .registers) e)
-    (all-by (a .self) (a .h0 .now) (a .h1 .now) (c5 .bounds .ensures) s l (getD (a .t2) n absent .registers) (c2 .forward-all .ensures) (moved-true (c2 .forward-all .result) (c1 .if2 .left))) (c .of .ensures)
+    (all-by (a .self) (a .h0 .now) (a .h1 .now) (c5 .bounds .ensures) s l (getD (a .t2) n absent .registers) (c2 .forward-all .ensures)
+    (moved-true (c2 .forward-all .result) (c1 .if2 .left)))
+    (c .of .ensures)
 
 pub stack-flip-spec : {M : Type 1} → statement M
 stack-flip-spec =
