@@ -11,14 +11,20 @@ use crate::Control;
 use crate::Reply;
 
 impl Control {
-    // Of four flags the one at place k, from 0: a, b or c, and d past them.
-    fn of_four(a: bool, b: bool, c: bool, d: bool, k: u32) -> bool
-        ensures { λ r. ⌜ r ≡ getD (a ∷ b ∷ c ∷ []) k d ⌝ }
+    // Of four sessions whether the one at place k, from 0, is attached: a, b or c, and d past them.
+    fn of_four(
+        a: rules::Session,
+        b: rules::Session,
+        c: rules::Session,
+        d: rules::Session,
+        k: u32,
+    ) -> bool
+        ensures { λ r. ⌜ r ≡ getD (a ∷ b ∷ c ∷ []) k d .attached ⌝ }
     {
         if k < 2 {
-            if k < 1 { a } else { b }
+            if k < 1 { a.attached } else { b.attached }
         } else {
-            if k < 3 { c } else { d }
+            if k < 3 { c.attached } else { d.attached }
         }
     }
 
@@ -28,38 +34,20 @@ impl Control {
         ensures { λ r. ⌜ r ≡ getD sessions s absent .attached ⌝ }
     {
         if s < 4 {
-            return Control::of_four(
-                sessions[0].attached,
-                sessions[1].attached,
-                sessions[2].attached,
-                sessions[3].attached,
-                s,
-            );
+            return Control::of_four(sessions[0], sessions[1], sessions[2], sessions[3], s);
         }
         if s < 8 {
-            return Control::of_four(
-                sessions[4].attached,
-                sessions[5].attached,
-                sessions[6].attached,
-                sessions[7].attached,
-                s - 4,
-            );
+            return Control::of_four(sessions[4], sessions[5], sessions[6], sessions[7], s - 4);
         }
         if s < 12 {
-            return Control::of_four(
-                sessions[8].attached,
-                sessions[9].attached,
-                sessions[10].attached,
-                sessions[11].attached,
-                s - 8,
-            );
+            return Control::of_four(sessions[8], sessions[9], sessions[10], sessions[11], s - 8);
         }
         if s < 16 {
             return Control::of_four(
-                sessions[12].attached,
-                sessions[13].attached,
-                sessions[14].attached,
-                sessions[15].attached,
+                sessions[12],
+                sessions[13],
+                sessions[14],
+                sessions[15],
                 s - 12,
             );
         }

@@ -45,10 +45,13 @@ module _ (c : tie.Else1) where
   abbrev lent : tie.Start
   lent = c .before .before .before .before .before .before .before .before
 
-  tested : inRange (view (lent .args .self) (lent .args .h0 .now) (lent .args .h1 .now) (lent .args .list .now)) ≡ true
+  abbrev entered : Store
+  entered = view (lent .args .self) (lent .args .h0 .now) (lent .args .h1 .now) (lent .args .list .now)
+
+  tested : inRange entered ≡ true
   tested = within _ 0 (c .before .session-tests .ensures) (c .if1 .left)
 
-  known : InRange (view (lent .args .self) (lent .args .h0 .now) (lent .args .h1 .now) (lent .args .list .now))
+  known : InRange entered
   known = in-range _ tested
 
 same-length : tie.Need-same-length
@@ -121,10 +124,8 @@ returns-2 : tie.Need-returns-2
 returns-2 c =
     let c1 = c .before in
     let c2 = c1 .before .before in
-    let start = c2 .before .before .before .before .before .before .before .before in
-    let a = start .args in
-    let s = view (a .self) (a .h0 .now) (a .h1 .now) (a .list .now) in
-    step-done s (tested c2) 0 (c1 .match .keys1) (c .rest .ensures s (a .h0 .now) (a .h1 .now) (a .list .now))
+    let s = entered c2 in
+    step-done s (tested c2) 0 (c1 .match .keys1) (c .rest .ensures s (s .memory .half0) (s .memory .half1) (s .list .words))
 
 same-length-7 : tie.Need-same-length-7
 same-length-7 c = search needs
@@ -140,9 +141,7 @@ returns-3 c =
     let c1 = c .before .before .before .before .before .before in
     let c2 = c1 .before .before .before .before .before in
     let c3 = c2 .before .before in
-    let start = c3 .before .before .before .before .before .before .before .before in
-    let a = start .args in
-    let s = view (a .self) (a .h0 .now) (a .h1 .now) (a .list .now) in
+    let s = entered c3 in
     step-done s (tested c3) 3 (c2 .match .keys2) (c1 .root-mark .ensures s refl)
 
 same-length-10 : tie.Need-same-length-10
@@ -159,9 +158,7 @@ returns-4 c =
     let c1 = c .before .before .before .before .before .before in
     let c2 = c1 .before .before .before .before .before in
     let c3 = c2 .before .before in
-    let start = c3 .before .before .before .before .before .before .before .before in
-    let a = start .args in
-    let s = view (a .self) (a .h0 .now) (a .h1 .now) (a .list .now) in
+    let s = entered c3 in
     step-done s (tested c3) 4 (c2 .match .keys3) (c1 .heap-mark .ensures s refl)
 
 same-length-13 : tie.Need-same-length-13
@@ -179,11 +176,9 @@ returns-5 c =
     let c2 = c1 .before .before .before in
     let c3 = c2 .before in
     let c4 = c3 .before .before in
-    let start = c4 .before .before .before .before .before .before .before .before in
-    let a = start .args in
-    let s = view (a .self) (a .h0 .now) (a .h1 .now) (a .list .now) in
+    let s = entered c4 in
     step-done s (tested c4) 5 (c3 .match .keys4)
-    (c1 .allocate-shells .ensures s (a .list .now) (c2 .have-level .ensures (a .h0 .now) (a .h1 .now) (a .list .now)))
+    (c1 .allocate-shells .ensures s (s .list .words) (c2 .have-level .ensures (s .memory .half0) (s .memory .half1) (s .list .words)))
 
 same-length-16 : tie.Need-same-length-16
 same-length-16 c = search needs
@@ -199,10 +194,8 @@ returns-6 c =
     let c1 = c .before .before .before .before in
     let c2 = c1 .before .before .before in
     let c3 = c2 .before .before in
-    let start = c3 .before .before .before .before .before .before .before .before in
-    let a = start .args in
-    let s = view (a .self) (a .h0 .now) (a .h1 .now) (a .list .now) in
-    step-done s (tested c3) 7 (c2 .match .keys5) (c1 .copy .ensures s (a .list .now))
+    let s = entered c3 in
+    step-done s (tested c3) 7 (c2 .match .keys5) (c1 .copy .ensures s (s .list .words))
 
 same-length-19 : tie.Need-same-length-19
 same-length-19 c = search needs
@@ -217,10 +210,8 @@ returns-7 : tie.Need-returns-7
 returns-7 c =
     let c1 = c .before .before .before .before in
     let c2 = c1 .before .before in
-    let start = c2 .before .before .before .before .before .before .before .before in
-    let a = start .args in
-    let s = view (a .self) (a .h0 .now) (a .h1 .now) (a .list .now) in
-    step-done s (tested c2) 10 (c1 .match .keys6) (c .root-flip .ensures s (a .list .now) refl)
+    let s = entered c2 in
+    step-done s (tested c2) 10 (c1 .match .keys6) (c .root-flip .ensures s (s .list .words) refl)
 
 same-length-22 : tie.Need-same-length-22
 same-length-22 c = search needs
@@ -235,10 +226,8 @@ returns-8 : tie.Need-returns-8
 returns-8 c =
     let c1 = c .before .before .before .before in
     let c2 = c1 .before .before in
-    let start = c2 .before .before .before .before .before .before .before .before in
-    let a = start .args in
-    let s = view (a .self) (a .h0 .now) (a .h1 .now) (a .list .now) in
-    step-done s (tested c2) 11 (c1 .match .keys7) (c .stack-flip .ensures s (a .list .now) refl)
+    let s = entered c2 in
+    step-done s (tested c2) 11 (c1 .match .keys7) (c .stack-flip .ensures s (s .list .words) refl)
 
 same-length-25 : tie.Need-same-length-25
 same-length-25 c = search needs
@@ -255,10 +244,8 @@ returns-9 c =
     let c2 = c1 .before .before .before in
     let c3 = c2 .before in
     let c4 = c3 .before .before in
-    let start = c4 .before .before .before .before .before .before .before .before in
-    let a = start .args in
-    let s = view (a .self) (a .h0 .now) (a .h1 .now) (a .list .now) in
-    step-done s (tested c4) 12 (c3 .match .keys8) (c1 .reclaim .ensures s (a .list .now) (c2 .have-level2 .ensures (a .h0 .now) (a .h1 .now) (a .list .now)))
+    let s = entered c4 in
+    step-done s (tested c4) 12 (c3 .match .keys8) (c1 .reclaim .ensures s (s .list .words) (c2 .have-level2 .ensures (s .memory .half0) (s .memory .half1) (s .list .words)))
 
 same-length-28 : tie.Need-same-length-28
 same-length-28 c = search needs
@@ -274,14 +261,12 @@ returns-10 c =
     let c1 = c .before in
     let c2 = c1 .before in
     let c3 = c2 .before .before in
-    let start = c3 .before .before .before .before .before .before .before .before in
-    let a = start .args in
-    let s = view (a .self) (a .h0 .now) (a .h1 .now) (a .list .now) in
+    let s = entered c3 in
     let r = c2 .match .rest in
-    let n = waits (a .self .cursor .phase) (r .0 .0 .0 .0 .0 .0 .0 .1) (r .0 .0 .0 .0 .0 .0 .1) (r .0 .0 .0 .0 .0 .1) (r .0 .0 .0 .0 .1)
+    let n = waits (s .phase) (r .0 .0 .0 .0 .0 .0 .0 .1) (r .0 .0 .0 .0 .0 .0 .1) (r .0 .0 .0 .0 .0 .1) (r .0 .0 .0 .0 .1)
     (r .0 .0 .0 .1) (r .0 .0 .1) (r .0 .1) (r .1) in
     step-waits s (tested c3) n
-    (c .handshake .ensures s (a .h0 .now) (a .h1 .now) (a .list .now) (c1 .have-level3 .ensures (a .h0 .now) (a .h1 .now) (a .list .now)))
+    (c .handshake .ensures s (s .memory .half0) (s .memory .half1) (s .list .words) (c1 .have-level3 .ensures (s .memory .half0) (s .memory .half1) (s .list .words)))
 
 pub work-spec : {M : Type 1} → statement M
 work-spec =
