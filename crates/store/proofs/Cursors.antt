@@ -1,6 +1,6 @@
 -- The collector's numbers: what test 4 gives of them, their bounds, and what a unit of work leaves that hands them on.
 use Prim.Native.Nat.{ℕ, _+_, _≤_, _<_}
-use mathlib.Core.Path.{_≡_, _∙_, sym, ap, refl}
+use mathlib.Core.Path.{_≡_, _∙_, sym, ap}
 use mathlib.Core.List.{List, []}
 use native.Mathlib.Omega.{arith}
 use lib.ListN.{length, replicate, length-replicate}

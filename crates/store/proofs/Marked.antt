@@ -12,7 +12,7 @@ use Rattle.rules.specs.Refusals.{Tested, refused, passed}
 use Rattle.rules.specs.Memory.{Memory, word, put, refs, sound, follow, followed, colourAt, grey, black}
 use Rattle.rules.specs.Control.{Store, withMemory, withWalk, withList, withSessions}
 use Rattle.rules.specs.Phases.{moveOn, lowestUnmarked, absent, sessionAt, withSession, withMark, unmarked}
-use Rattle.rules.specs.Barriers.{Heap, heapOf, listRoom, shading, shade}
+use Rattle.rules.specs.Barriers.{heapOf, listRoom, shading, shade}
 use Rattle.rules.specs.Collector.{rootMark, scanRecord, scanSession, heapMark, toShadeAll, shadeAll}
 use Rattle.rules.specs.declared.Followed.{Followed}
 use Rattle.rules.specs.declared.Followed.the-variants.{Sound, Damage}

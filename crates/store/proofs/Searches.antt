@@ -61,7 +61,7 @@ unmarked-along : (l : List Session) → lowestOf (isWanted Unscanned) l ≡ lowe
 unmarked-along [] = refl
 unmarked-along (x ∷ xs) = ap (λ (n : ℕ). cond (x .attached && not (x .scanned)) 0 (suc n)) (unmarked-along xs)
 
-pub lowest-unmarked : (l : List Session) (r : ℕ) → Lowest (isWanted Unscanned) l r → r ≡ lowestUnmarked l
+lowest-unmarked : (l : List Session) (r : ℕ) → Lowest (isWanted Unscanned) l r → r ≡ lowestUnmarked l
 lowest-unmarked l r k = lowest-is (isWanted Unscanned) l r k ∙ unmarked-along l
 
 -- the same of a store's sessions, from an array of them

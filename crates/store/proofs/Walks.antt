@@ -1,10 +1,10 @@
--- The units of work that walk over the records of the current half: what their store's ranges give, and the arms of reclaim.
-use Prim.Native.Nat.{ℕ, _+_, _≤_, _<_}
+-- The walk over the records of the current half: the words of a record found, and the arms of reclaim.
+use Prim.Native.Nat.{ℕ, _+_}
 use mathlib.Core.Path.{_≡_}
 use mathlib.Core.Bool.{true, false}
 use native.Mathlib.Omega.{arith}
 use Rattle.rules.specs.Refusals.{answer}
-use Rattle.rules.specs.Memory.{Memory, frontier, withFrontier, put, size, sound, followed}
+use Rattle.rules.specs.Memory.{Memory, withFrontier, put, size, sound, followed}
 use Rattle.rules.specs.Control.{Store, withMemory, withWalk}
 use Rattle.rules.specs.Phases.{otherHalf, moveOn}
 use Rattle.rules.specs.Collector.{walked, below, haveLevel, pastRecord, reclaim}

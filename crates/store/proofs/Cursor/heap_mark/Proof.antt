@@ -1,5 +1,4 @@
 -- The oldest listed record; the list done, the lowest session without a mark; none left, the next phase.
-use Prim.Native.Nat.{ℕ}
 use mathlib.Core.Path.{_≡_, ap}
 use mathlib.Core.List.{List}
 use native.Mathlib.Omega.{arith}

@@ -1,5 +1,4 @@
 -- Tospace current after the last session; before it damage, or the registers of the next session forwarded.
-use Prim.Native.Nat.{ℕ}
 use mathlib.Core.Path.{_≡_, ap}
 use mathlib.Core.List.{List}
 use native.Mathlib.Omega.{arith}
