@@ -43,6 +43,7 @@ impl Cursor {
             return Work::Refused(12);
         }
         let q = get_word(h0, h1, v, 3 + i);
+        // nothing is listed here, so any list will do
         let b = self.bounds(self.tail);
         let Checked::Word(w) = forward(b, h0, h1, q) else {
             return Work::Refused(12);

@@ -54,7 +54,7 @@ fn forward_all<'a>(b: Bounds, h0: &'a [u32], h1: &'a [u32], old: [u32; 8]) -> Re
 }
 
 impl Cursor {
-    // The current half, and the next phase.
+    // A half becomes current, and the step moves on.
     fn flip(mut self, half: u32) -> Work
         requires { ⌜ self .phase ≤ 12 ⌝ }
         ensures { λ r. ⌜ r ≡ Next (movedOn (atHalf self half)) Marks ⌝ }
@@ -75,6 +75,7 @@ impl Cursor {
         if Control::GLOBALS <= place {
             return self.move_on();
         }
+        // nothing is listed here, so any list will do
         let b = self.bounds(self.tail);
         let Checked::Word(q) = forward(b, h0, h1, globals[place]) else {
             return Work::Refused(12);
@@ -97,6 +98,7 @@ impl Cursor {
             ≡ stepped (having s self (now (h0 .entry)) (now (h1 .entry)) l)
             (stackFlip (having s self (now (h0 .entry)) (now (h1 .entry)) l))) ⌝ }
     {
+        // nothing is listed here, so any list will do
         let b = self.bounds(self.tail);
         let n = Control::lowest(sessions, 0, Wanted::Unscanned);
         if 16 <= n {

@@ -25,7 +25,7 @@ use heap::words::put_word;
 use rules::Followed;
 
 impl Cursor {
-    // The walk at a place and a field.
+    // The walk goes on to a place and a field, and nothing else changes.
     fn walk_to(mut self, place: usize, field: usize) -> Work
         ensures { λ r. ⌜ r ≡ Next (atWalk self place field) Nothing ⌝ }
     {
