@@ -1,23 +1,24 @@
 -- Allocation: its tests, room, and the record written in one half or in both.
 use Prim.Native.Nat.{ℕ, _+_, _≤_, _<_}
-use mathlib.Core.Path.{_≡_, _∙_, sym, refl}
-use mathlib.Core.Bool.{Bool, true, false, _&&_}
+use mathlib.Core.Path.{_≡_, _∙_, sym}
+use mathlib.Core.Bool.{true, false, _&&_}
 use mathlib.Core.List.{List}
 use native.Mathlib.Omega.{arith}
 use lib.Dec.{leb}
 use lib.ListN.{length}
 use borrow.Author.Tests.{le-leb, lt-leb, leb-true, eq-eqb, ne-eqb}
-use Rattle.rules.specs.Refusals.{Tested, refused, passed, check, refusalOf, _>>=_, _>>_, done}
+use Rattle.rules.specs.Refusals.{passed, refusalOf, done}
 use Rattle.rules.specs.Memory.{half, frontier}
 use Rattle.rules.specs.Control.{Store, withMemory}
 use Rattle.rules.specs.Phases.{sessionAt}
 use Rattle.rules.specs.Barriers.{roomIn, allocationRoom, allocated, allocatedReference}
 use Rattle.rules.specs.Calls.{sessionOf, isRegister, isShape, withRegister, allocate}
-use Rattle.rules.proofs.Ranges.{both, InRange, in-session, session-passed, refused-with}
+use Rattle.rules.proofs.Ranges.{both, InRange, in-session, session-passed}
 use Rattle.heap.specs.View.{memory}
 use Rattle.store.specs.View.{view}
 use Rattle.store.specs.Allocation.{Fits, Small, Allocatable}
 use Rattle.store.specs.declared.Control.{Control}
+use Rattle.store.proofs.Guards.{first-passed, check-passed}
 
 -- ---- what the control record test gives
 
@@ -56,18 +57,6 @@ module _ (s : Store) (n k r p : ℕ) (a : sessionOf s n ≡ passed (sessionAt s 
   unfolding allocate
   tests-no-room b = rw (a, le-leb k 7 i, j, b)
 
--- a row that answers 0 has passed
-first-passed : {A B : Type 0} (t : Tested A) (f : A → Tested B) → refusalOf (t >>= f) ≡ 0 → refusalOf t ≡ 0
-first-passed (refused m) f e = e
-first-passed (passed a) f e = refl
-
-three-passed : {A : Type 0} (x : A) (a b c : Bool) → refusalOf (check a 8 >> (check b 10 >> (check c 14 >> passed x))) ≡ 0
-    → (a ≡ true) × (b ≡ true) × (c ≡ true)
-three-passed x true true true e = (refl, refl, refl)
-three-passed x true true false e = absurd (omega arith)
-three-passed x true false c e = absurd (omega arith)
-three-passed x false b c e = absurd (omega arith)
-
 -- the store with the record allocated at level l
 abbrev after : Store → ℕ → ℕ → ℕ → ℕ → ℕ → Store
 after s n k l r p = withRegister (withMemory s (allocated s l r p)) n k (allocatedReference s l)
@@ -89,18 +78,16 @@ allocating c h0 h1 g n k r p e z =
     let s = view c h0 h1 g in
     let x = sessionAt s n in
     let f = session-passed s n (first-passed (sessionOf s n) _ (sym e ∙ z)) in
-    let o = after s n k (x .level) r p in
-    let t = three-passed (record { store = o; reply = _ }) (isRegister k) (isShape r p) (allocationRoom s (x .level) r p) (rw f at (sym e ∙ z)) in
+    let t = check-passed (isRegister k) 7 _ (rw f at (sym e ∙ z)) in
+    let u = check-passed (isShape r p) 9 _ (t .1) in
+    let v = check-passed (allocationRoom s (x .level) r p) 13 _ (u .1) in
     let i = in-session s n f in
     record {
       number = i .number;
       register = leb-true k 7 (t .0);
-      ready = record { small = small c h0 h1 g (i .known) r p (t .1); room = λ m. any-list c h0 h1 g m (x .level) r p (t .2) };
-      outcome = rw (f, t .0, t .1, t .2);
+      ready = record { small = small c h0 h1 g (i .known) r p (u .0); room = λ m. any-list c h0 h1 g m (x .level) r p (v .0) };
+      outcome = rw (f, t .0, u .0, v .0);
     }
-
-pub not-allocated : {q : ℕ} (s : Store) (n k r p : ℕ) → q ≡ refusalOf (allocate s n k r p) → (q ≡ 0 → ⊥) → allocate s n k r p ≡ refused q
-not-allocated s n k r p e z = rw e (refused-with (allocate s n k r p) (λ y. z (e ∙ y)))
 
 pub allocate-done : {t u : Store} {v : ℕ} (c : Control) (h0 h1 g : List ℕ) (n k r p : ℕ) → Allocating c h0 h1 g n k r p
     → v ≡ allocatedReference (view c h0 h1 g) (sessionAt (view c h0 h1 g) n .level)

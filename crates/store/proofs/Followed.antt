@@ -7,11 +7,11 @@ use native.Mathlib.Omega.{arith}
 use lib.Dec.{ltb, eqb}
 use lib.ListN.{length, take, drop}
 use borrow.Author.Tests.{lt-ltb, le-ltb}
-use Rattle.rules.specs.Refusals.{Tested, refused, passed, check, _>>=_, _>>_, done, answered, wordsOr}
+use Rattle.rules.specs.Refusals.{Tested, refused, passed, check, _>>=_, _>>_, answered, wordsOr}
 use Rattle.rules.specs.Memory.{Memory, half, halfOf, wordOf, header, refs, plains, refField, plainField, word, size, sound, followed}
 use Rattle.rules.specs.Control.{Store}
 use Rattle.rules.specs.Phases.{sessionAt}
-use Rattle.rules.specs.Calls.{sessionOf, isRegister, recordIn, withRegister, load, read, stretch}
+use Rattle.rules.specs.Calls.{sessionOf, isRegister, recordIn, read, stretch}
 use Rattle.rules.specs.declared.Session.{Session}
 use Rattle.rules.specs.declared.Answer.the-variants.{Word}
 use Rattle.rules.proofs.Ranges.{InRange, fronts}
@@ -19,6 +19,7 @@ use Rattle.heap.proofs.Soundness.{Found}
 use Rattle.heap.proofs.Halves.{frontier-within}
 use Rattle.heap.proofs.Fields.{ref-inside, plain-inside}
 use Rattle.heap.specs.View.{memory, Inside}
+use Rattle.store.specs.Loads.{loadPlan}
 use Rattle.store.proofs.Worked.{Holding}
 
 -- ---- a rule whose flag of register numbers is b
@@ -34,23 +35,23 @@ module _ {B : Type 0} {v : ℕ} (s : Store) (n k o : ℕ) (b : Bool) (f : Sessio
   unfolding followed
   rule-found d = rw (h .found, ← i, h .registers, h .record-in, d)
 
--- ---- load
+-- ---- the plan of a load
 
 module _ {v : ℕ} (s : Store) (n k to i : ℕ) (h : Holding s n k to v) where
-  pub load-lost : sound (s .memory) v ≡ false → load s n to k i ≡ refused 12
-  unfolding load
+  pub load-lost : sound (s .memory) v ≡ false → loadPlan s n to k i ≡ refused 12
+  unfolding loadPlan
   load-lost = rule-lost s n k to (isRegister to && isRegister k) _ (and-comm (isRegister k) (isRegister to)) h
 
   load-found : sound (s .memory) v ≡ true
-      → load s n to k i ≡ (check (ltb i (refs (s .memory) v)) 13 >> done (withRegister s n to (word (s .memory) v (refField i))))
-  unfolding load
+      → loadPlan s n to k i ≡ (check (ltb i (refs (s .memory) v)) 13 >> passed (word (s .memory) v (refField i)))
+  unfolding loadPlan
   load-found = rule-found s n k to (isRegister to && isRegister k) _ (and-comm (isRegister k) (isRegister to)) h
 
   module _ {at r p : ℕ} (d : Found (s .memory) v at r p) where
-    pub load-beyond : r ≤ i → load s n to k i ≡ refused 13
+    pub load-beyond : r ≤ i → loadPlan s n to k i ≡ refused 13
     load-beyond l = rw (load-found (d .sound), ← d .refs, le-ltb i r l)
 
-    pub loaded : {w : ℕ} → w ≡ word (s .memory) v (refField i) → i < r → load s n to k i ≡ done (withRegister s n to w)
+    pub loaded : {w : ℕ} → w ≡ word (s .memory) v (refField i) → i < r → loadPlan s n to k i ≡ passed w
     loaded e l = rw (load-found (d .sound), ← d .refs, lt-ltb i r l, e)
 
     pub load-inside : i < r → Inside (s .memory .half0) (s .memory .half1) v (3 + i)

@@ -1,22 +1,39 @@
--- A call by the number g that its session tests answered.
-use Prim.Native.Nat.{ℕ, _≤_}
+-- A call by the number g that its tests answered.
+use Prim.Native.Nat.{ℕ, suc, _≤_}
 use mathlib.Core.Path.{_≡_, _∙_, sym, refl}
 use mathlib.Core.Bool.{Bool, true, false, not, _&&_}
 use native.Mathlib.Omega.{arith}
 use lib.Dec.{leb}
-use lib.ListN.{replicate}
+use lib.ListN.{getD, replicate}
 use borrow.Author.Tests.{leb-true, not-true, not-false}
-use Rattle.rules.specs.Refusals.{Tested, refused, passed, check, refusalOf, _>>_, done}
+use Rattle.rules.specs.Refusals.{Tested, refused, passed, check, refusalOf, _>>=_, _>>_, done}
 use Rattle.rules.specs.Memory.{null}
 use Rattle.rules.specs.Control.{Store, inRange, registerCount}
-use Rattle.rules.specs.Phases.{sessionAt, withSession, levelOf}
-use Rattle.rules.specs.Calls.{sessionOf, attach}
+use Rattle.rules.specs.Phases.{sessionAt, withSession, register, levelOf}
+use Rattle.rules.specs.Calls.{sessionOf, isRegister, isGlobal, withRegister, attach, move, clear, get}
 use Rattle.rules.proofs.Ranges.{both, InRange, in-range, InSession, in-session, session-passed, refused-with}
 
+-- ---- any row of tests
+
+-- a number other than 0 is the refusal
+pub refused-by : {A : Type 0} {g : ℕ} (t : Tested A) → g ≡ refusalOf t → (g ≡ 0 → ⊥) → t ≡ refused g
+refused-by t e m = rw e (refused-with t (λ z. m (e ∙ z)))
+
+-- 0: each test of the row passed
+pub first-passed : {A B : Type 0} (t : Tested A) (f : A → Tested B) → refusalOf (t >>= f) ≡ 0 → refusalOf t ≡ 0
+first-passed (refused m) f e = e
+first-passed (passed a) f e = refl
+
+pub check-passed : {A : Type 0} (b : Bool) (m : ℕ) (rest : Tested A) → refusalOf (check b (suc m) >> rest) ≡ 0
+    → (b ≡ true) × (refusalOf rest ≡ 0)
+check-passed true m rest e = (refl, e)
+check-passed false m rest e = absurd (omega arith)
+
+-- ---- the session tests
+
 module _ {g : ℕ} (s : Store) (n : ℕ) (e : g ≡ refusalOf (sessionOf s n)) where
-  -- a number other than 0 is the refusal
   pub turned-away : (g ≡ 0 → ⊥) → sessionOf s n ≡ refused g
-  turned-away m = rw e (refused-with (sessionOf s n) (λ z. m (e ∙ z)))
+  turned-away = refused-by (sessionOf s n) e
 
   -- 0: the session is there, and its facts
   pub let-in : g ≡ 0 → sessionOf s n ≡ passed (sessionAt s n)
@@ -38,6 +55,61 @@ module _ (a b : ℕ) where
   registers-known e =
       let k = both (leb a 7) (leb b 7) (registers-in e) in
       (leb-true _ _ (k .0), leb-true _ _ (k .1))
+
+-- ---- move, clear and get, by all their tests
+
+-- what holds where the tests of a move answered 0; a clear of register `to` has the same with the register given twice
+pub record Movable (s : Store) (n to from : ℕ) : Type 0 where
+  pub number : n ≤ 15
+  pub first : to ≤ 7
+  pub second : from ≤ 7
+  pub moved : move s n to from ≡ done (withRegister s n to (register (sessionAt s n) from))
+  pub cleared : clear s n to ≡ done (withRegister s n to null)
+
+pub movable : {g : ℕ} (s : Store) (n to from : ℕ) → g ≡ refusalOf (move s n to from) → g ≡ 0 → Movable s n to from
+unfolding move clear
+movable s n to from e z =
+    let f = session-passed s n (first-passed (sessionOf s n) _ (sym e ∙ z)) in
+    let t = check-passed (isRegister to && isRegister from) 7 _ (rw f at (sym e ∙ z)) in
+    let b = both (leb to 7) (leb from 7) (t .0) in
+    record {
+      number = in-session s n f .number;
+      first = leb-true to 7 (b .0);
+      second = leb-true from 7 (b .1);
+      moved = rw (f, t .0);
+      cleared = rw (f, b .0);
+    }
+
+-- a register tested twice is a register tested once
+twice : {A B : Type 0} (t : Tested A) (b : Bool) (f g : A → B)
+    → refusalOf (t >>= λ x. check (b && b) 8 >> passed (f x)) ≡ refusalOf (t >>= λ x. check b 8 >> passed (g x))
+twice (refused m) b f g = refl
+twice (passed x) true f g = refl
+twice (passed x) false f g = refl
+
+pub not-cleared : {g : ℕ} (s : Store) (n k : ℕ) → g ≡ refusalOf (move s n k k) → (g ≡ 0 → ⊥) → clear s n k ≡ refused g
+unfolding move clear
+not-cleared s n k e = refused-by (clear s n k) (e ∙ twice (sessionOf s n) (isRegister k) _ _)
+
+-- what holds where the tests of a get answered 0
+pub record Gettable (s : Store) (n to o : ℕ) : Type 0 where
+  pub number : n ≤ 15
+  pub register : to ≤ 7
+  pub global : o ≤ 31
+  pub got : get s n to o ≡ done (withRegister s n to (getD (s .globals) o null))
+
+pub gettable : {g : ℕ} (s : Store) (n to o : ℕ) → g ≡ refusalOf (get s n to o) → g ≡ 0 → Gettable s n to o
+unfolding get
+gettable s n to o e z =
+    let f = session-passed s n (first-passed (sessionOf s n) _ (sym e ∙ z)) in
+    let t = check-passed (isRegister to) 7 _ (rw f at (sym e ∙ z)) in
+    let u = check-passed (isGlobal o) 8 _ (t .1) in
+    record {
+      number = in-session s n f .number;
+      register = leb-true to 7 (t .0);
+      global = leb-true o 31 (u .0);
+      got = rw (f, t .0, u .0);
+    }
 
 -- ---- attach, whose third test is the other way round
 

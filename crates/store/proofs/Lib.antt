@@ -10,7 +10,7 @@ pub mod Rows
 pub mod Made
 -- a call on the record in a register, by what `held` answered
 pub mod Worked
--- a call by the number that its session tests answer
+-- a call by the number that its tests answer
 pub mod Guards
 -- the sessions looked at one after another
 pub mod Searches
@@ -18,6 +18,8 @@ pub mod Searches
 pub mod Shaded
 -- a call on the record in a register, by what following it found
 pub mod Followed
+-- load by its plan
+pub mod Loads
 -- a write of a plain field, by where it goes
 pub mod Targets
 -- same, by what comparing the references answered

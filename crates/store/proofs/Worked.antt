@@ -9,11 +9,12 @@ use Rattle.rules.specs.Refusals.{Tested, refused, passed, check, _>>=_, _>>_}
 use Rattle.rules.specs.Memory.{null, followed}
 use Rattle.rules.specs.Control.{Store}
 use Rattle.rules.specs.Phases.{register, sessionAt}
-use Rattle.rules.specs.Calls.{sessionOf, isRegister, recordIn, load, store, read, write, stretch}
+use Rattle.rules.specs.Calls.{sessionOf, isRegister, recordIn, store, read, write, stretch}
 use Rattle.rules.specs.declared.Session.{Session}
 use Rattle.rules.proofs.Ranges.{both, InSession, in-session, after-check}
 use Rattle.heap.proofs.Passed.{bind-passed, same-passed}
 use Rattle.store.specs.Operands.{tested, holding}
+use Rattle.store.specs.Loads.{loadPlan}
 use Rattle.store.specs.declared.operands.Held.{Held}
 use Rattle.store.specs.declared.operands.Held.the-variants as held
 use Rattle.store.specs.declared.operands.Operands.{Operands}
@@ -101,8 +102,8 @@ holding-refused {g = g} s n k o b f i e = by-session (sessionOf s n) (rw i at e)
     by-session (passed x) e = stopped s x k (given x k o) f b e
 
 module _ {g : ℕ} (s : Store) (n k : ℕ) where
-  pub load-refused : (to i : ℕ) → holding s n k to ≡ refused g → load s n to k i ≡ refused g
-  unfolding load
+  pub load-refused : (to i : ℕ) → holding s n k to ≡ refused g → loadPlan s n to k i ≡ refused g
+  unfolding loadPlan
   load-refused to i = holding-refused s n k to (isRegister to && isRegister k) _ (and-comm (isRegister k) (isRegister to))
 
   pub store-refused : (i from : ℕ) → holding s n k from ≡ refused g → store s n k i from ≡ refused g

@@ -4,6 +4,8 @@ pub mod View
 pub mod Searching
 -- The register of the record worked on.
 pub mod Operands
+-- What a load puts into its register.
+pub mod Loads
 -- Where a write of a plain field goes.
 pub mod Plain
 -- What a store and a put write.

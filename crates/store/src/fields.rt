@@ -2,6 +2,7 @@
 ghost use mathlib.Core.Path.{_≡_};
 ghost use Rattle.rules.specs.Runs.{apply, Load, Read};
 ghost use Rattle.store.specs.View.{view, outcome};
+ghost use Rattle.store.specs.Loads.{loading, loadPlan};
 use crate::Control;
 use crate::Reply;
 use crate::operands::Held;
@@ -9,10 +10,46 @@ use heap::following::follow;
 use heap::words::get_word;
 use rules::Followed;
 
+// The number of the first test that fails, or what the field holds.
+pub enum Loading {
+    Refusal(u32),
+    Word(u32),
+}
+
 impl Control {
-    // Load: register `to` gets what a reference field holds.
-    pub fn load<'a>(
+    // The tests of a load, and what its register gets.
+    fn load_plan<'a>(
         self,
+        h0: &'a [u32],
+        h1: &'a [u32],
+        list: &[u32],
+        s: u32,
+        to: u32,
+        register: u32,
+        field: u32,
+    ) -> Loading
+        ensures { λ r. ⌜ loading r ≡ loadPlan (view self (now (h0 .entry)) (now (h1 .entry)) (now (list .entry))) s to register field ⌝ }
+    {
+        let operands = match self.held(h0, h1, list, s, register, to) {
+            Held::Refusal(n) => return Loading::Refusal(n),
+            Held::Operands(operands) => operands,
+        };
+        let v = operands.own;
+        let f0 = self.cursor.frontier0;
+        let f1 = self.cursor.frontier1;
+        let Followed::Sound(_, r, _) = follow(h0, h1, f0, f1, v) else {
+            return Loading::Refusal(12);
+        };
+        if r <= field {
+            return Loading::Refusal(13);
+        }
+        let word = get_word(h0, h1, v, 3 + (field as usize));
+        Loading::Word(word)
+    }
+
+    // Load: register `to` gets what a reference field holds. It is set in place, so that the control record isn't copied.
+    pub fn load<'a>(
+        mut self,
         h0: &'a [u32],
         h1: &'a [u32],
         list: &[u32],
@@ -24,38 +61,21 @@ impl Control {
         ensures { λ r. ⌜ outcome r (now (h0 .entry)) (now (h1 .entry)) (now (list .entry))
             ≡ apply (view self (now (h0 .entry)) (now (h1 .entry)) (now (list .entry))) (Load s to register field) ⌝ }
     {
-        let operands = match self.held(h0, h1, list, s, register, to) {
-            Held::Refusal(n) => {
-                return Reply {
-                    control: self,
-                    answer: rules::Answer::Refused(n),
-                };
+        let plan = self.load_plan(h0, h1, list, s, to, register, field);
+        let answer = match plan {
+            Loading::Refusal(n) => rules::Answer::Refused(n),
+            Loading::Word(w) => {
+                let i = s as usize;
+                let j = to as usize;
+                let mut session = self.sessions[i];
+                session.registers[j] = w;
+                self.sessions[i] = session;
+                rules::Answer::Done
             }
-            Held::Operands(operands) => operands,
         };
-        let v = operands.own;
-        let Followed::Sound(_, r, _) = follow(
-            h0,
-            h1,
-            self.cursor.frontier0,
-            self.cursor.frontier1,
-            v,
-        ) else {
-            return Reply {
-                control: self,
-                answer: rules::Answer::Refused(12),
-            };
-        };
-        if r <= field {
-            return Reply {
-                control: self,
-                answer: rules::Answer::Refused(13),
-            };
-        }
-        let word = get_word(h0, h1, v, 3 + (field as usize));
         Reply {
-            control: self.with_register(s, to, word),
-            answer: rules::Answer::Done,
+            control: self,
+            answer,
         }
     }
 

@@ -1,8 +1,10 @@
-// The calls on registers that touch no record.
+// The calls on registers that touch no record. Each makes all its tests first and sets its register in place: a function
+// that took the control record for it would have it copied.
 ghost use mathlib.Core.Path.{_≡_};
 ghost use Prim.Native.Nat.{ℕ, _≤_};
 ghost use mathlib.Core.List.{List};
-ghost use Rattle.rules.specs.Calls.{withRegister};
+ghost use Rattle.rules.specs.Refusals.{refusalOf};
+ghost use Rattle.rules.specs.Calls.{withRegister, move, get};
 ghost use Rattle.rules.specs.Runs.{apply, Move, Clear, Get};
 ghost use Rattle.store.specs.View.{view, outcome};
 use crate::Control;
@@ -22,9 +24,22 @@ impl Control {
         self
     }
 
+    // The tests 4, 5, 6 and 8 (of both registers): the number of the first that fails, or 0. A call with one register
+    // argument gives it twice.
+    fn move_tests(self, h0: &[u32], h1: &[u32], list: &[u32], s: u32, to: u32, from: u32) -> u32
+        ensures { λ n. ⌜ n ≡ refusalOf (move (view self (now (h0 .entry)) (now (h1 .entry)) (now (list .entry))) s to from) ⌝ }
+    {
+        let refusal = self.session_tests(h0, h1, list, s);
+        if refusal != 0 {
+            return refusal;
+        }
+        let registers = (to <= Control::LAST_REGISTER) & (from <= Control::LAST_REGISTER);
+        if registers { 0 } else { 8 }
+    }
+
     // Move: register `to` gets what register `from` holds.
     pub fn move_register(
-        self,
+        mut self,
         h0: &[u32],
         h1: &[u32],
         list: &[u32],
@@ -35,84 +50,88 @@ impl Control {
         ensures { λ r. ⌜ outcome r (now (h0 .entry)) (now (h1 .entry)) (now (list .entry))
             ≡ apply (view self (now (h0 .entry)) (now (h1 .entry)) (now (list .entry))) (Move s to from) ⌝ }
     {
-        let refusal = self.session_tests(h0, h1, list, s);
-        if refusal != 0 {
-            return Reply {
-                control: self,
-                answer: rules::Answer::Refused(refusal),
-            };
-        }
-        let registers = (to <= Control::LAST_REGISTER) & (from <= Control::LAST_REGISTER);
-        if !registers {
-            return Reply {
-                control: self,
-                answer: rules::Answer::Refused(8),
-            };
-        }
-        let i = s as usize;
-        let j = from as usize;
-        let session = self.sessions[i];
-        let next = self.with_register(s, to, session.registers[j]);
+        let refusal = self.move_tests(h0, h1, list, s, to, from);
+        let answer = if refusal == 0 {
+            let i = s as usize;
+            let j = to as usize;
+            let k = from as usize;
+            let mut session = self.sessions[i];
+            session.registers[j] = session.registers[k];
+            self.sessions[i] = session;
+            rules::Answer::Done
+        } else {
+            rules::Answer::Refused(refusal)
+        };
         Reply {
-            control: next,
-            answer: rules::Answer::Done,
+            control: self,
+            answer,
         }
     }
 
     // Clear: the register becomes null.
-    pub fn clear(self, h0: &[u32], h1: &[u32], list: &[u32], s: u32, register: u32) -> Reply
+    pub fn clear(mut self, h0: &[u32], h1: &[u32], list: &[u32], s: u32, register: u32) -> Reply
         ensures { λ r. ⌜ outcome r (now (h0 .entry)) (now (h1 .entry)) (now (list .entry))
             ≡ apply (view self (now (h0 .entry)) (now (h1 .entry)) (now (list .entry))) (Clear s register) ⌝ }
     {
-        let refusal = self.session_tests(h0, h1, list, s);
-        if refusal != 0 {
-            return Reply {
-                control: self,
-                answer: rules::Answer::Refused(refusal),
-            };
-        }
-        if Control::LAST_REGISTER < register {
-            return Reply {
-                control: self,
-                answer: rules::Answer::Refused(8),
-            };
-        }
-        let next = self.with_register(s, register, 0);
+        let refusal = self.move_tests(h0, h1, list, s, register, register);
+        let answer = if refusal == 0 {
+            let i = s as usize;
+            let j = register as usize;
+            let mut session = self.sessions[i];
+            session.registers[j] = 0;
+            self.sessions[i] = session;
+            rules::Answer::Done
+        } else {
+            rules::Answer::Refused(refusal)
+        };
         Reply {
-            control: next,
-            answer: rules::Answer::Done,
+            control: self,
+            answer,
         }
     }
 
-    // Get: register `to` gets what the global holds.
-    pub fn get(self, h0: &[u32], h1: &[u32], list: &[u32], s: u32, to: u32, global: u32) -> Reply
-        ensures { λ r. ⌜ outcome r (now (h0 .entry)) (now (h1 .entry)) (now (list .entry))
-            ≡ apply (view self (now (h0 .entry)) (now (h1 .entry)) (now (list .entry))) (Get s to global) ⌝ }
+    // The tests 4, 5, 6, 8 and 9: the number of the first that fails, or 0.
+    fn get_tests(self, h0: &[u32], h1: &[u32], list: &[u32], s: u32, to: u32, global: u32) -> u32
+        ensures { λ n. ⌜ n ≡ refusalOf (get (view self (now (h0 .entry)) (now (h1 .entry)) (now (list .entry))) s to global) ⌝ }
     {
         let refusal = self.session_tests(h0, h1, list, s);
         if refusal != 0 {
-            return Reply {
-                control: self,
-                answer: rules::Answer::Refused(refusal),
-            };
+            return refusal;
         }
         if Control::LAST_REGISTER < to {
-            return Reply {
-                control: self,
-                answer: rules::Answer::Refused(8),
-            };
+            return 8;
         }
-        if Control::LAST_GLOBAL < global {
-            return Reply {
-                control: self,
-                answer: rules::Answer::Refused(9),
-            };
-        }
-        let g = global as usize;
-        let next = self.with_register(s, to, self.globals[g]);
+        if global <= Control::LAST_GLOBAL { 0 } else { 9 }
+    }
+
+    // Get: register `to` gets what the global holds.
+    pub fn get(
+        mut self,
+        h0: &[u32],
+        h1: &[u32],
+        list: &[u32],
+        s: u32,
+        to: u32,
+        global: u32,
+    ) -> Reply
+        ensures { λ r. ⌜ outcome r (now (h0 .entry)) (now (h1 .entry)) (now (list .entry))
+            ≡ apply (view self (now (h0 .entry)) (now (h1 .entry)) (now (list .entry))) (Get s to global) ⌝ }
+    {
+        let refusal = self.get_tests(h0, h1, list, s, to, global);
+        let answer = if refusal == 0 {
+            let i = s as usize;
+            let j = to as usize;
+            let g = global as usize;
+            let mut session = self.sessions[i];
+            session.registers[j] = self.globals[g];
+            self.sessions[i] = session;
+            rules::Answer::Done
+        } else {
+            rules::Answer::Refused(refusal)
+        };
         Reply {
-            control: next,
-            answer: rules::Answer::Done,
+            control: self,
+            answer,
         }
     }
 }

@@ -1,7 +1,9 @@
 -- The tests' refusal, or the record written and the register set.
 use native.Mathlib.Omega.{arith}
 use Rattle.rules.specs.Phases.{sessionAt}
-use Rattle.store.proofs.Allocating.{allocating, not-allocated, allocate-done}
+use Rattle.rules.specs.Calls.{allocate}
+use Rattle.store.proofs.Guards.{refused-by}
+use Rattle.store.proofs.Allocating.{allocating, allocate-done}
 use borrow.Author.Needs.{needs}
 use Rattle.store.proofs.Control.allocate.Statement.{statement}
 use Rattle.store.proofs.Control.allocate.Tie as tie
@@ -16,7 +18,7 @@ same-length-2 : tie.Need-same-length-2
 same-length-2 c = search needs
 
 returns : tie.Need-returns
-returns c = rw (not-allocated _ _ _ _ _ (c .before .allocation-tests .ensures) (c .if1 .taken))
+returns c = rw (refused-by (allocate _ _ _ _ _) (c .before .allocation-tests .ensures) (c .if1 .taken))
 
 mul-session : tie.Need-mul-session
 mul-session c = search needs

@@ -1,107 +1,64 @@
--- Load: the tests in order, then the register set to the field's word.
-use Rattle.rules.proofs.Ranges.{fronts}
-use Rattle.heap.proofs.Soundness.{found, lost}
-use Rattle.store.proofs.Worked.{away, holds, load-refused}
-use Rattle.store.proofs.Followed.{load-lost, load-beyond, loaded, load-inside}
+-- Load: the plan's refusal, or its word in the register.
+use native.Mathlib.Omega.{arith}
+use Rattle.rules.specs.Calls.{withRegister}
+use Rattle.rules.specs.Phases.{withSession, sessionAt}
+use Rattle.store.proofs.Loads.{load-away, load-known, load-done}
 use borrow.Author.Needs.{needs}
 use Rattle.store.proofs.Control.load.Statement.{statement}
 use Rattle.store.proofs.Control.load.Tie as tie
 
-held-requires : tie.Need-held-requires
-held-requires c κs = search needs
+load-plan-requires : tie.Need-load-plan-requires
+load-plan-requires c κs = search needs
 
-enum-known-n : tie.Need-enum-known-n
-enum-known-n c = search needs
+enum-known-plan : tie.Need-enum-known-plan
+enum-known-plan c = search needs
+
+enum-known-plan-2 : tie.Need-enum-known-plan-2
+enum-known-plan-2 c = search needs
+
+mul-session : tie.Need-mul-session
+mul-session c = search needs
+
+element-copy-out-session : tie.Need-element-copy-out-session
+element-copy-out-session c =
+    let k = load-known _ _ _ _ _ (c .before .before .before .load-plan .ensures) (c .before .plan2 .given .1) in
+    omega (arith, k .0)
+
+mul-session-2 : tie.Need-mul-session-2
+mul-session-2 c = search needs
+
+element-write-session : tie.Need-element-write-session
+element-write-session c =
+    let k = load-known _ _ _ _ _ (c .before .before .before .before .load-plan .ensures) (c .before .before .plan2 .given .1) in
+    omega (arith, k .1)
+
+mul-t19 : tie.Need-mul-t19
+mul-t19 c = search needs
+
+element-set-from-self : tie.Need-element-set-from-self
+element-set-from-self c =
+    let k = load-known _ _ _ _ _ (c .before .before .before .before .load-plan .ensures) (c .before .before .plan2 .given .1) in
+    omega (arith, k .0)
 
 returns : tie.Need-returns
-returns c =
-    let c1 = c .before in
-    let c2 = c1 .before .before in
-    let c3 = c2 .before .before .before .before in
-    rw (load-refused _ _ _ _ (c3 .args .field) (away _ _ _ _ (c2 .held .ensures) (c1 .n .given .1)))
-
-enum-known-operands : tie.Need-enum-known-operands
-enum-known-operands c = search needs
-
-follow-requires : tie.Need-follow-requires
-follow-requires c κs =
-    let h = holds _ _ _ _ (c .before .before .before .held .ensures) (c .before .operands .given .1) in
-    fronts (h .within .known)
-
-enum-known-r : tie.Need-enum-known-r
-enum-known-r c = search needs
-
-enum-told : tie.Need-enum-told
-enum-told c = search needs
+returns c = rw (load-away _ _ _ _ _ (c .before .before .before .load-plan .ensures) (c .before .plan .given .1))
 
 returns-2 : tie.Need-returns-2
-returns-2 c =
-    let c1 = c .before .before in
-    let c2 = c1 .before .before in
-    let c3 = c2 .before .before in
-    let c4 = c3 .before .before .before .before in
-    let h = holds _ _ _ _ (c3 .held .ensures) (c2 .operands .given .1) in
-    rw (load-lost _ _ _ _ (c4 .args .field) h (lost _ _ (c1 .follow .ensures) (c .enum-told .given .1)))
-
-returns-3 : tie.Need-returns-3
-returns-3 c =
-    let c1 = c .before .before in
-    let c2 = c1 .before .before in
-    let c3 = c2 .before .before in
-    let c4 = c3 .before .before in
-    let c5 = c4 .before .before .before .before in
-    let h = holds _ _ _ _ (c4 .held .ensures) (c3 .operands .given .1) in
-    let d = found _ _ (c2 .follow .ensures) (c1 .r .given .1) in
-    rw (load-beyond _ _ _ _ (c5 .args .field) h d (c .if1 .taken))
-
-add-get-word : tie.Need-add-get-word
-add-get-word c = search needs
-
-get-word-requires : tie.Need-get-word-requires
-get-word-requires c κs =
-    let c1 = c .before .before in
-    let c2 = c1 .before .before in
-    let c3 = c2 .before .before in
-    let c4 = c3 .before .before in
-    let c5 = c4 .before .before .before .before in
-    let h = holds _ _ _ _ (c4 .held .ensures) (c3 .operands .given .1) in
-    let d = found _ _ (c2 .follow .ensures) (c1 .r .given .1) in
-    load-inside _ _ _ _ (c5 .args .field) h d (c .if1 .left)
-
-with-register-requires : tie.Need-with-register-requires
-with-register-requires c κs =
-    let c1 = c .before .before .before .before .before .before .before in
-    let c2 = c1 .before .before in
-    let h = holds _ _ _ _ (c2 .held .ensures) (c1 .operands .given .1) in
-    (h .within .number, h .second)
-
-returns-4 : tie.Need-returns-4
-returns-4 c =
-    let c1 = c .before in
-    let c2 = c1 .before in
-    let c3 = c2 .before .before in
-    let c4 = c3 .before .before in
-    let c5 = c4 .before .before in
-    let c6 = c5 .before .before in
-    let c7 = c6 .before .before .before .before in
-    let h = holds _ _ _ _ (c6 .held .ensures) (c5 .operands .given .1) in
-    let d = found _ _ (c4 .follow .ensures) (c3 .r .given .1) in
-    rw (loaded _ _ _ _ (c7 .args .field) h d (c1 .get-word .ensures _ _) (c2 .if1 .left), c .with-register .ensures _ _ _)
+unfolding withRegister withSession sessionAt
+returns-2 c = rw (load-done _ _ _ _ _ (c .before .before .before .before .load-plan .ensures) (c .before .before .plan2 .given .1))
 
 pub load-spec : {M : Type 1} → statement M
 load-spec =
     tie.close
     (tie.spec
-    held-requires
-    enum-known-n
+    load-plan-requires
+    enum-known-plan
+    enum-known-plan-2
+    mul-session
+    element-copy-out-session
+    mul-session-2
+    element-write-session
+    mul-t19
+    element-set-from-self
     returns
-    enum-known-operands
-    follow-requires
-    enum-known-r
-    enum-told
-    returns-2
-    returns-3
-    add-get-word
-    get-word-requires
-    with-register-requires
-    returns-4)
+    returns-2)

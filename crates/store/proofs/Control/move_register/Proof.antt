@@ -1,72 +1,66 @@
--- Move: the tests in order, then the register set to the other's word.
+-- Move: refused with the number of the tests, or the register set to the other's word.
 use native.Mathlib.Omega.{arith}
-use Rattle.rules.specs.Phases.{register, sessionAt}
-use Rattle.rules.specs.Calls.{move}
-use Rattle.store.proofs.Guards.{turned-away, let-in, known, registers-out, registers-in, registers-known}
+use Rattle.rules.specs.Calls.{withRegister, move}
+use Rattle.rules.specs.Phases.{withSession, sessionAt, register}
+use Rattle.store.proofs.Guards.{refused-by, movable}
 use borrow.Author.Needs.{needs}
 use Rattle.store.proofs.Control.move_register.Statement.{statement}
 use Rattle.store.proofs.Control.move_register.Tie as tie
 
-session-tests-requires : tie.Need-session-tests-requires
-session-tests-requires c κs = search needs
-
-returns : tie.Need-returns
-unfolding move
-returns c = rw (turned-away _ _ (c .before .session-tests .ensures) (c .if1 .taken))
-
-returns-2 : tie.Need-returns-2
-unfolding move
-returns-2 c =
-    let a = c .before .before .before .before .before .before .args in
-    rw (let-in _ _ (c .before .before .session-tests .ensures) (c .before .if1 .left), registers-out (a .to) (a .from) (c .if2 .taken))
+move-tests-requires : tie.Need-move-tests-requires
+move-tests-requires c κs = search needs
 
 mul-session : tie.Need-mul-session
 mul-session c = search needs
 
 element-copy-out-session : tie.Need-element-copy-out-session
 element-copy-out-session c =
-    let k = known _ _ (c .before .before .session-tests .ensures) (c .before .if1 .left) in
-    omega arith
+    let k = movable _ _ _ _ (c .before .move-tests .ensures) (c .if1 .taken) in
+    omega (arith, k .number)
 
-mul-with-register : tie.Need-mul-with-register
-mul-with-register c = search needs
+mul-session-2 : tie.Need-mul-session-2
+mul-session-2 c = search needs
 
-element-copy-out-with-register : tie.Need-element-copy-out-with-register
-element-copy-out-with-register c =
-    let a = c .before .before .before .before .before .before .before .args in
-    let k = registers-known (a .to) (a .from) (c .before .if2 .left) in
-    omega arith
+element-copy-out-session-2 : tie.Need-element-copy-out-session-2
+element-copy-out-session-2 c =
+    let k = movable _ _ _ _ (c .before .before .move-tests .ensures) (c .before .if1 .taken) in
+    omega (arith, k .second)
 
-with-register-requires : tie.Need-with-register-requires
-with-register-requires c κs =
-    let c1 = c .before .before in
-    let c2 = c1 .before in
-    let c3 = c2 .before in
-    let c4 = c3 .before .before .before .before in
-    let a = c4 .args in
-    let k = known _ _ (c3 .session-tests .ensures) (c2 .if1 .left) in
-    (k .number, registers-known (a .to) (a .from) (c1 .if2 .left) .0)
+mul-session-3 : tie.Need-mul-session-3
+mul-session-3 c = search needs
 
-returns-3 : tie.Need-returns-3
-unfolding move register sessionAt
-returns-3 c =
-    let a = c .before .before .before .before .before .before .before .before .before .args in
-    rw (
-      let-in _ _ (c .before .before .before .before .before .session-tests .ensures) (c .before .before .before .before .if1 .left),
-      registers-in (a .to) (a .from) (c .before .before .before .if2 .left),
-      c .with-register .ensures _ _ _,
-    )
+element-write-session : tie.Need-element-write-session
+element-write-session c =
+    let k = movable _ _ _ _ (c .before .before .before .move-tests .ensures) (c .before .before .if1 .taken) in
+    omega (arith, k .first)
+
+mul-t25 : tie.Need-mul-t25
+mul-t25 c = search needs
+
+element-set-from-self : tie.Need-element-set-from-self
+element-set-from-self c =
+    let k = movable _ _ _ _ (c .before .before .before .move-tests .ensures) (c .before .before .if1 .taken) in
+    omega (arith, k .number)
+
+returns : tie.Need-returns
+unfolding withRegister withSession sessionAt register
+returns c = rw (movable _ _ _ _ (c .before .before .before .move-tests .ensures) (c .before .before .if1 .taken) .moved)
+
+returns-2 : tie.Need-returns-2
+returns-2 c = rw (refused-by (move _ _ _ _) (c .before .move-tests .ensures) (c .if1 .left))
 
 pub move-register-spec : {M : Type 1} → statement M
 move-register-spec =
     tie.close
     (tie.spec
-    session-tests-requires
-    returns
-    returns-2
+    move-tests-requires
     mul-session
     element-copy-out-session
-    mul-with-register
-    element-copy-out-with-register
-    with-register-requires
-    returns-3)
+    mul-session-2
+    element-copy-out-session-2
+    mul-session-3
+    element-write-session
+    mul-t25
+    element-set-from-self
+    returns
+    returns-2)
