@@ -144,11 +144,18 @@ impl Control {
         }
     }
 
+    // A number of a table.
+    pub(crate) fn number(byte: u8) -> u32
+        ensures { λ r. ⌜ r ≡ byte ⌝ }
+    {
+        byte as u32
+    }
+
     // The level of a phase.
     pub(crate) fn level_of(phase: usize) -> u32
         requires { ⌜ phase ≤ 12 ⌝ }
         ensures { λ r. ⌜ r ≡ levelOf phase ⌝ }
     {
-        Control::LEVELS[phase] as u32
+        Control::number(Control::LEVELS[phase])
     }
 }

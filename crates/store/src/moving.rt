@@ -34,7 +34,7 @@ impl Control {
         requires { ⌜ phase ≤ 12 ⌝ }
         ensures { λ r. ⌜ r ≡ nextPhase phase ⌝ }
     {
-        Control::FOLLOWERS[phase] as usize
+        Control::number(Control::FOLLOWERS[phase]) as usize
     }
 }
 
