@@ -13,7 +13,7 @@ below-requires : tie.Need-below-requires
 below-requires c κs = search needs
 
 handshake-requires : tie.Need-handshake-requires
-handshake-requires c κs = (c .before .before .before .before .pre) .phases
+handshake-requires c κs = c .before .before .before .before .pre .phases
 
 returns : tie.Need-returns
 returns c =
@@ -65,11 +65,9 @@ needs-shell-requires : tie.Need-needs-shell-requires
 needs-shell-requires c κs =
     let c1 = c .before .before .before in
     let c2 = c1 .before .before in
-    let start = c2 .before .before .before .before .before .before .before .before in (
-      header-of (start .pre) (found _ _ (c2 .follow .ensures) (c1 .r .given .1)) 1 (omega arith),
-      header-of (start .pre)
-          (found _ _ (c2 .follow .ensures) (c1 .r .given .1)) 2 (omega arith),
-    )
+    let start = c2 .before .before .before .before .before .before .before .before in
+    let f = found _ _ (c2 .follow .ensures) (c1 .r .given .1) in
+    (header-of (start .pre) f 1 (omega arith), header-of (start .pre) f 2 (omega arith))
 
 add-past-record : tie.Need-add-past-record
 add-past-record c = search needs
@@ -79,7 +77,7 @@ past-record-requires c κs =
     let c1 = c .before .before .before .before .before in
     let c2 = c1 .before .before in
     let start = c2 .before .before .before .before .before .before .before .before in
-    let f = (found _ _ (c2 .follow .ensures) (c1 .r .given .1)) in
+    let f = found _ _ (c2 .follow .ensures) (c1 .r .given .1) in
     (start .pre .places, omega arith)
 
 same-length-3 : tie.Need-same-length-3
@@ -115,7 +113,7 @@ add-if3-2 c =
     let c1 = c .before .before .before .before .before .before .before in
     let c2 = c1 .before .before in
     let start = c2 .before .before .before .before .before .before .before .before in
-    let f = (found _ _ (c2 .follow .ensures) (c1 .r .given .1)) in
+    let f = found _ _ (c2 .follow .ensures) (c1 .r .given .1) in
     let l = front-small _ (start .pre) (c .frontier .ensures _ _) in
     omega arith
 
@@ -167,7 +165,7 @@ past-record-requires-2 c κs =
     let c1 = c .before .before .before .before .before .before .before .before .before .before .before .before .before .before .before .before in
     let c2 = c1 .before .before in
     let start = c2 .before .before .before .before .before .before .before .before in
-    let f = (found _ _ (c2 .follow .ensures) (c1 .r .given .1)) in
+    let f = found _ _ (c2 .follow .ensures) (c1 .r .given .1) in
     (rw (c .with-frontier .ensures) (start .pre .places), omega arith)
 
 same-length-7 : tie.Need-same-length-7

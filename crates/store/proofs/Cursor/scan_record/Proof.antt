@@ -1,11 +1,16 @@
 -- Damage is refused; else the next reference field is shaded, or the record coloured black.
 use native.Mathlib.Omega.{arith}
+use Rattle.rules.specs.Control.{Store}
 use Rattle.store.specs.Cursors.{having}
 use Rattle.store.proofs.Cursors.{some}
 use Rattle.store.proofs.Marked.{record-damage, colour-inside, field-inside, field-next, record-done}
 use borrow.Author.Needs.{needs}
 use Rattle.store.proofs.Cursor.scan_record.Statement.{statement}
 use Rattle.store.proofs.Cursor.scan_record.Tie as tie
+
+-- a store with these numbers over the words lent
+abbrev entered : tie.Start → Store → Store
+entered t s = having s (t .args .self) (t .args .h0 .now) (t .args .h1 .now) (t .args .list .now)
 
 follow-requires : tie.Need-follow-requires
 follow-requires c κs =
@@ -29,7 +34,7 @@ returns c =
     let c1 = c .before .before in
     let start = c1 .before .before .before .before .before .before in
     λ s. rw
-    (record-damage (having s (start .args .self) (start .args .h0 .now) (start .args .h1 .now) (start .args .list .now)) (start .pre .1 .low)
+    (record-damage (entered start s) (start .pre .1 .low)
     (start .pre .1 .high) _ (c1 .follow .ensures) (c .enum-told .given .1))
 
 cast-if1 : tie.Need-cast-if1
@@ -44,7 +49,7 @@ get-word-requires c κs =
     let c2 = c1 .before .before in
     let c3 = c2 .before .before in
     let start = c3 .before .before .before .before .before .before in
-    field-inside (having some (start .args .self) (start .args .h0 .now) (start .args .h1 .now) (start .args .list .now)) (start .pre .1 .low)
+    field-inside (entered start some) (start .pre .1 .low)
     (start .pre .1 .high) _ (c3 .follow .ensures) (c2 .r .given .1) (c1 .if1 .taken)
 
 add-shade-next : tie.Need-add-shade-next
@@ -73,7 +78,7 @@ returns-2 c =
     let c5 = c4 .before .before in
     let start = c5 .before .before .before .before .before .before in
     λ s. rw
-    (field-next (having s (start .args .self) (start .args .h0 .now) (start .args .h1 .now) (start .args .list .now)) (start .pre .1 .low)
+    (field-next (entered start s) (start .pre .1 .low)
     (start .pre .1 .high) _ (c5 .follow .ensures) (c4 .r .given .1) (c3 .if1 .taken) (c2 .get-word .ensures _ _))
     (c1 .shade-next .ensures s)
 
@@ -82,7 +87,7 @@ put-word-requires c κs =
     let c1 = c .before .before .before .before in
     let c2 = c1 .before .before in
     let start = c2 .before .before .before .before .before .before in
-    colour-inside (having some (start .args .self) (start .args .h0 .now) (start .args .h1 .now) (start .args .list .now)) (start .pre .1 .low)
+    colour-inside (entered start some) (start .pre .1 .low)
     (start .pre .1 .high) _ (c2 .follow .ensures) (c1 .r .given .1)
 
 add-next : tie.Need-add-next
@@ -108,7 +113,7 @@ returns-3 c =
     let c4 = c3 .before .before in
     let start = c4 .before .before .before .before .before .before in
     λ s. rw (
-      record-done (having s (start .args .self) (start .args .h0 .now) (start .args .h1 .now) (start .args .list .now)) (start .pre .1 .low)
+      record-done (entered start s) (start .pre .1 .low)
           (start .pre .1 .high) _ (c4 .follow .ensures) (c3 .r .given .1) (c2 .if1 .left)
           (c1 .put-word .ensures (start .args .self .frontier0) (start .args .self .frontier1)),
       c .past-entry .ensures,

@@ -1,7 +1,9 @@
 -- Damage is refused; with nothing to shade the walk goes on; else the record is shaded as well.
-use mathlib.Core.Path.{_∙_, ap, refl}
+use mathlib.Core.Path.{_≡_, _∙_, ap, refl}
 use native.Mathlib.Omega.{arith}
-use Rattle.rules.specs.Barriers.{Heap, shading}
+use Rattle.rules.specs.Control.{Store}
+use Rattle.rules.specs.Barriers.{Heap, heapOf, shading}
+use Rattle.heap.specs.View.{checked}
 use Rattle.store.specs.Cursors.{having}
 use Rattle.store.proofs.Cursors.{some, bounds-within}
 use Rattle.store.proofs.Marked.{next-damage, next-walked, next-shaded, next-allowed}
@@ -18,6 +20,15 @@ shading-requires c κs =
     let start = c1 .before .before .before .before in
     bounds-within (start .args .self) _ _ (c1 .bounds .ensures) (start .pre .0) (start .pre .1)
 
+-- the answer is the rules' answer for every store with these numbers
+answered : (c : tie.After-shading) (s : Store)
+    → let a = c .before .before .before .before .before .before .before .args in
+    checked (c .shading .result) ≡ shading (heapOf (having s (a .self) (a .h0 .now) (a .h1 .now) (a .list .now))) (a .q)
+answered c s =
+    let c1 = c .before .before .before in
+    let a = c1 .before .before .before .before .args in
+    c .shading .ensures ∙ ap (λ (z : Heap). shading z (a .q)) (c1 .bounds .ensures s _ _ (a .list .now) refl)
+
 enum-known-w : tie.Need-enum-known-w
 enum-known-w c = search needs
 
@@ -31,13 +42,7 @@ same-length-2 : tie.Need-same-length-2
 same-length-2 c = search needs
 
 returns : tie.Need-returns
-returns c =
-    let c1 = c .before .before in
-    let c2 = c1 .before .before .before in
-    let start = c2 .before .before .before .before in
-    λ s. rw
-    (next-damage _ _ (c1 .shading .ensures ∙ ap (λ (z : Heap). shading z (start .args .q)) (c2 .bounds .ensures s _ _ (start .args .list .now) refl))
-    (c .enum-told .given .1))
+returns c = λ s. rw (next-damage _ _ (answered (c .before .before) s) (c .enum-told .given .1))
 
 walk-to-requires : tie.Need-walk-to-requires
 walk-to-requires c κs = search needs
@@ -53,23 +58,15 @@ returns-2 c =
     let c1 = c .before in
     let c2 = c1 .before .before in
     let c3 = c2 .before .before in
-    let c4 = c3 .before .before .before in
-    let start = c4 .before .before .before .before in
-    λ s. rw (
-      next-walked _ _ (c3 .shading .ensures ∙ ap (λ (z : Heap). shading z (start .args .q)) (c4 .bounds .ensures s _ _ (start .args .list .now) refl))
-          (c2 .w .given .1) (c1 .if1 .taken),
-      c .walk-to .ensures,
-    )
+    λ s. rw (next-walked _ _ (answered c3 s) (c2 .w .given .1) (c1 .if1 .taken), c .walk-to .ensures)
 
 put-grey-requires : tie.Need-put-grey-requires
 put-grey-requires c κs =
     let c1 = c .before .before .before in
     let c2 = c1 .before .before in
     let c3 = c2 .before .before in
-    let c4 = c3 .before .before .before in
-    let start = c4 .before .before .before .before in
-    next-allowed (having some (start .args .self) (start .args .h0 .now) (start .args .h1 .now) (start .args .list .now)) _
-    (c3 .shading .ensures ∙ ap (λ (z : Heap). shading z (start .args .q)) (c4 .bounds .ensures some _ _ (start .args .list .now) refl))
+    let start = c3 .before .before .before .before .before .before .before in
+    next-allowed (having some (start .args .self) (start .args .h0 .now) (start .args .h1 .now) (start .args .list .now)) _ (answered c3 some)
     (c2 .w .given .1) (start .pre .0 .low) (start .pre .0 .high) (c1 .if1 .left)
 
 add-shaded : tie.Need-add-shaded
@@ -96,12 +93,10 @@ returns-3 c =
     let c2 = c1 .before .before .before .before in
     let c3 = c2 .before .before in
     let c4 = c3 .before .before in
-    let c5 = c4 .before .before .before in
-    let start = c5 .before .before .before .before in
+    let self = c4 .before .before .before .before .before .before .before .args .self in
+    let e = c1 .put-grey .ensures in
     λ s. rw (
-      next-shaded _ _ (c4 .shading .ensures ∙ ap (λ (z : Heap). shading z (start .args .q)) (c5 .bounds .ensures s _ _ (start .args .list .now) refl))
-          (c3 .w .given .1) (c2 .if1 .left) (c1 .put-grey .ensures .0 (start .args .self .frontier0) (start .args .self .frontier1))
-          (c1 .put-grey .ensures .1),
+      next-shaded _ _ (answered c4 s) (c3 .w .given .1) (c2 .if1 .left) (e .0 (self .frontier0) (self .frontier1)) (e .1),
       c .shaded .ensures,
     )
 
