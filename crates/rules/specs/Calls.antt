@@ -7,7 +7,7 @@ use lib.ListN.{getD, set, take, drop, replicate}
 use Rattle.rules.specs.Refusals.{Tested, passed, check, _>>=_, _>>_, Outcome, done, answered}
 use Rattle.rules.specs.Memory.{half, null, halfOf, wordOf, header, word, refs, plains, refField, plainField, followed}
 use Rattle.rules.specs.Control.{Store, withMemory, withGlobals, inRange, registerCount}
-use Rattle.rules.specs.Phases.{levelOf, sessionAt, withSession, register, withRegisters}
+use Rattle.rules.specs.Phases.{levelOf, sessionAt, withSession, register, withRegisters, withLevel, attachedAt, detached}
 use Rattle.rules.specs.Barriers.{heapOf, shade, replicaFor, storeWrites, putWrites, putBoth, sameAt, allocationRoom, allocated, allocatedReference}
 use Rattle.rules.specs.declared.Session.{Session}
 use Rattle.rules.specs.declared.Answer.the-variants.{Word, Same}
@@ -53,19 +53,19 @@ attach s n = do
   check (inRange s) 4
   check (leb n 15) 5
   check (not (sessionAt s n .attached)) 7
-  done (withSession s n (record { registers = replicate registerCount null; level = levelOf (s .phase); attached = true; scanned = false }))
+  done (withSession s n (attachedAt (levelOf (s .phase))))
 
 -- "registers null, level 0"
 unfoldable pub detach : Store → ℕ → Tested (Outcome Store)
 detach s n = do
   x ← sessionOf s n
-  done (withSession s n (record { registers = replicate registerCount null; level = 0; attached = false; scanned = x .scanned }))
+  done (withSession s n (detached x))
 
 -- "takes the phase's level"
 unfoldable pub safePoint : Store → ℕ → Tested (Outcome Store)
 safePoint s n = do
   x ← sessionOf s n
-  done (withSession s n (record { registers = x .registers; level = levelOf (s .phase); attached = x .attached; scanned = x .scanned }))
+  done (withSession s n (withLevel x (levelOf (s .phase))))
 
 -- "register gets a record of zero fields"
 unfoldable pub allocate : Store → ℕ → ℕ → ℕ → ℕ → Tested (Outcome Store)

@@ -3,9 +3,9 @@ use Prim.Native.Nat.{ℕ, suc, _-_}
 use mathlib.Core.Bool.{Bool, true, false, cond, not, _&&_, _||_}
 use mathlib.Core.List.{List, [], _∷_, map}
 use lib.Dec.{eqb}
-use lib.ListN.{getD, set}
+use lib.ListN.{getD, set, replicate}
 use Rattle.rules.specs.Memory.{null}
-use Rattle.rules.specs.Control.{Store, withSessions}
+use Rattle.rules.specs.Control.{Store, withSessions, registerCount}
 use Rattle.rules.specs.declared.Session.{Session}
 
 -- "The level of each phase is a fixed table"
@@ -54,6 +54,18 @@ withRegisters x vs = record { registers = vs; level = x .level; attached = x .at
 
 abbrev pub withMark : Session → Bool → Session
 withMark x b = record { registers = x .registers; level = x .level; attached = x .attached; scanned = b }
+
+-- a session at another level
+abbrev pub withLevel : Session → ℕ → Session
+withLevel x l = record { registers = x .registers; level = l; attached = x .attached; scanned = x .scanned }
+
+-- "level becomes the phase's level, registers null, unscanned"
+abbrev pub attachedAt : ℕ → Session
+attachedAt l = record { registers = replicate registerCount null; level = l; attached = true; scanned = false }
+
+-- "registers null, level 0"; the scanned mark stays
+abbrev pub detached : Session → Session
+detached x = record { registers = replicate registerCount null; level = 0; attached = false; scanned = x .scanned }
 
 -- no session has a scanned mark
 unfoldable pub unmarked : List Session → List Session

@@ -13,6 +13,7 @@ use Rattle.rules.specs.Control.{Store, withMemory}
 use Rattle.rules.specs.Phases.{otherHalf}
 use Rattle.rules.specs.Collector.{walked, below, pastRecord, needsShell, shellOf, withShell, allocateShells}
 use Rattle.rules.specs.Free.{Free}
+use Rattle.rules.proofs.invariant.Turns.{atAllocate}
 use Rattle.rules.proofs.Ranges.{both}
 use Rattle.rules.proofs.memory.Cases.{lt-or, bool-or}
 use Rattle.rules.proofs.memory.Encoding.{other-below-2, other-differs}
@@ -49,7 +50,7 @@ needs-not : (M : Memory) (v : ℕ) → needsShell M v ≡ false → colour M v �
 unfolding needsShell
 needs-not M v e d o = true≢false (rw (ne-eqb (colour M v) white d, eq-eqb (replica M v) null o) at e)
 
-module _ {K : ℕ → Type 0} {m : ℕ → ℕ} {s : Store} {f : Free} (h : Sim K m s f) (at-5 : s .phase ≡ 5) where
+module _ {K : ℕ → Type 0} {m : ℕ → ℕ} {s : Store} {f : Free} (h : Sim K m s f) (at-5 : s .phase ≡ atAllocate) where
   abbrev M : Memory
   M = s .memory
 

@@ -13,6 +13,7 @@ use Rattle.rules.specs.Phases.{otherHalf, fromspace, tospace}
 use Rattle.rules.specs.Barriers.{roomIn, allocationRoom, placed, allocated, allocatedReference}
 use Rattle.rules.specs.Free.{Free}
 use Rattle.rules.specs.declared.Session.{Session}
+use Rattle.rules.proofs.invariant.Turns.{atAllocate, atPreFlip2, atPreMark2, atReclaim}
 use Rattle.rules.proofs.Ranges.{both}
 use Rattle.rules.proofs.memory.Cases.{lt-or, eq-or, either}
 use Rattle.rules.proofs.memory.Encoding.{other-below-2, other-differs}
@@ -30,7 +31,7 @@ use Rattle.rules.proofs.allocation.Double.{Sides, double-sim, from-fits
 
 -- ---- the colours of one record by level
 
-white-tint : (ph : ℕ) → (ph ≤ 2) ⊎ (ph ≡ 12) → Tint ph white
+white-tint : (ph : ℕ) → (ph ≤ atPreMark2) ⊎ (ph ≡ atReclaim) → Tint ph white
 white-tint ph w = record {
   small = omega arith;
   at-rest = λ e. refl;
@@ -41,7 +42,7 @@ white-tint ph w = record {
   phases = either w (λ x. inl (omega arith)) (λ x. inr x);
 }
 
-black-tint : (ph : ℕ) → 2 ≤ ph → ph ≤ 5 → Tint ph black
+black-tint : (ph : ℕ) → atPreMark2 ≤ ph → ph ≤ atAllocate → Tint ph black
 black-tint ph a b = record {
   small = omega arith;
   at-rest = λ e. absurd (omega arith);
@@ -87,7 +88,7 @@ module _ {K : ℕ → Type 0} {m : ℕ → ℕ} {s : Store} {f : Free} (h : Sim 
   room-both i (suc zero) two = room-known M 1 r p (both (roomIn M 0 r p) (roomIn M 1 r p) (rw (lt-leb l 2 i) at room) .1)
   room-both i (suc (suc g)) two = absurd (omega arith)
 
-  sides : 5 ≤ s .phase → Sides (s .current) (s .phase) (fromspace s)
+  sides : atAllocate ≤ s .phase → Sides (s .current) (s .phase) (fromspace s)
   unfolding tospace
   sides late = record {
     two = from-two h;
@@ -96,7 +97,7 @@ module _ {K : ℕ → Type 0} {m : ℕ → ℕ} {s : Store} {f : Free} (h : Sim 
     flipped = λ e. to-current h e;
   }
 
-  module _ (i : 3 ≤ l) (late : 5 ≤ s .phase) where
+  module _ (i : 3 ≤ l) (late : atAllocate ≤ s .phase) where
     abbrev from : ℕ
     from = fromspace s
 
@@ -114,10 +115,10 @@ module _ {K : ℕ → Type 0} {m : ℕ → ℕ} {s : Store} {f : Free} (h : Sim 
         let e = first .front-other (otherHalf from) (other-below-2 from) (other-differs from (sides late .two)) in
         placed-kept (placeable (first .filled) (other-below-2 from) (omega arith) (rw (e, first .lengths (otherHalf from)) (room-both i (otherHalf from) (other-below-2 from)))) (nextReference M from)
 
-    both-from : s .phase ≤ 9 → Allocation K m s f r p M₂ (nextReference M from)
+    both-from : s .phase ≤ atPreFlip2 → Allocation K m s f r p M₂ (nextReference M from)
     both-from hi = record { sim = double-sim h r p pb (sides late) first second; fits = from-fits h r p pb (sides late) first second hi }
 
-    both-to : 9 ≤ s .phase → Allocation K m s f r p M₂ (nextReference M (otherHalf from))
+    both-to : atPreFlip2 ≤ s .phase → Allocation K m s f r p M₂ (nextReference M (otherHalf from))
     both-to lo = record { sim = double-sim h r p pb (sides late) first second; fits = to-fits h r p pb (sides late) first second lo }
 
   -- ---- all levels
@@ -144,7 +145,7 @@ module _ {K : ℕ → Type 0} {m : ℕ → ℕ} {s : Store} {f : Free} (h : Sim 
   at-6 : l ≡ 6 → Goal
   unfolding allocated allocatedReference tospace
   at-6 e =
-      let q : 9 ≤ s .phase = level-from 6 (omega arith) (h .range .phases) allow (omega arith) in
+      let q : atPreFlip2 ≤ s .phase = level-from 6 (omega arith) (h .range .phases) allow (omega arith) in
       rw (lt-leb l 1 (omega arith), lt-leb l 2 (omega arith), lt-leb l 5 (omega arith)) (both-to (omega arith) (omega arith) q)
 
   pub allocation : Allocation K m s f r p (allocated s l r p) (allocatedReference s l)

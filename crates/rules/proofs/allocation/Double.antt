@@ -11,6 +11,7 @@ use Rattle.rules.specs.Control.{Store, withMemory}
 use Rattle.rules.specs.Phases.{otherHalf}
 use Rattle.rules.specs.Free.{Free, Record}
 use Rattle.rules.specs.declared.Session.{Session}
+use Rattle.rules.proofs.invariant.Turns.{atAllocate, atPreFlip2, atReclaim, atStackFlip}
 use Rattle.rules.proofs.memory.Cases.{either}
 use Rattle.rules.proofs.memory.Encoding.{other-below-2, other-differs, refs-shape, plains-shape}
 use Rattle.rules.proofs.memory.Records.{Start}
@@ -32,9 +33,9 @@ use Rattle.rules.proofs.allocation.FreeRecords.{withRecords, blankRecor
 -- where fromspace is: the current half but in Reclaim
 pub record Sides (cur ph from : ℕ) : Type 0 where
   pub two : from < 2
-  pub late : 5 ≤ ph
-  pub flips : ph ≤ 11 → from ≡ cur
-  pub flipped : ph ≡ 12 → otherHalf from ≡ cur
+  pub late : atAllocate ≤ ph
+  pub flips : ph ≤ atStackFlip → from ≡ cur
+  pub flipped : ph ≡ atReclaim → otherHalf from ≡ cur
 
 -- the two records, one after the other: M₁ has the first, M₂ both
 module _ {K : ℕ → Type 0} {m : ℕ → ℕ} {s : Store} {f : Free} (h : Sim K m s f) {M₁ M₂ : Memory} {from : ℕ} (r p : ℕ) (pb : p ≤ 255)
@@ -187,7 +188,7 @@ module _ {K : ℕ → Type 0} {m : ℕ → ℕ} {s : Store} {f : Free} (h : Sim 
       (λ v t side. copied-same M M₂ v (either (grown .same-replica t) (λ e. e) (λ n. either n (λ n. absurd n) (λ n. absurd n))) (grown-size grown t)) in
       omega arith
 
-  spent-after : s .phase ≤ 11 → frontier M₂ (otherHalf cur) ≡ total M₂ cur (copied M₂)
+  spent-after : s .phase ≤ atStackFlip → frontier M₂ (otherHalf cur) ≡ total M₂ cur (copied M₂)
   spent-after l =
       let k = h .pairs .spent l in
       let k′ : frontier M to ≡ total M from (copied M) = rw (sides .flips l) k in
@@ -211,13 +212,13 @@ module _ {K : ℕ → Type 0} {m : ℕ → ℕ} {s : Store} {f : Free} (h : Sim 
   }
 
   -- the fromspace copy is in the current half but in Reclaim, the tospace copy in Reclaim alone
-  a-other : {C : Type 0} → s .phase ≡ 12 → halfOf a ≡ cur → C
+  a-other : {C : Type 0} → s .phase ≡ atReclaim → halfOf a ≡ cur → C
   a-other l e = absurd (from-differs (sym half-a ∙ e ∙ sym (sides .flipped l)))
 
-  b-current : {C : Type 0} → s .phase ≤ 11 → halfOf b ≡ cur → C
+  b-current : {C : Type 0} → s .phase ≤ atStackFlip → halfOf b ≡ cur → C
   b-current l e = absurd (halves-differ (sym half-b ∙ e ∙ sym (sides .flips l)))
 
-  a-current : {C : Type 0} → s .phase ≤ 11 → halfOf a ≡ otherHalf cur → C
+  a-current : {C : Type 0} → s .phase ≤ atStackFlip → halfOf a ≡ otherHalf cur → C
   a-current l e = absurd (other-differs cur (cur-two h) (sym e ∙ half-a ∙ sides .flips l))
 
   tinting : Tinted M M₂ New cur (s .phase)
@@ -236,7 +237,7 @@ module _ {K : ℕ → Type 0} {m : ℕ → ℕ} {s : Store} {f : Free} (h : Sim 
   double-sim = grown-sim h grown (longer-by rs r p) placing joining tinting
 
   -- up to level 5 the fromspace reference may be put in a register, at level 6 the tospace one
-  pub from-fits : s .phase ≤ 9 → (y : Session) → WordFits K m′ (withMemory s M₂) y a (suc (length rs))
+  pub from-fits : s .phase ≤ atPreFlip2 → (y : Session) → WordFits K m′ (withMemory s M₂) y a (suc (length rs))
   from-fits l y = record {
     ok = ok-start start-a;
     is = sym (placing .new new-a);
@@ -247,7 +248,7 @@ module _ {K : ℕ → Type 0} {m : ℕ → ℕ} {s : Store} {f : Free} (h : Sim 
     kept = λ z. h .kept .to-come (suc (length rs)) (le-refl _);
   }
 
-  pub to-fits : 9 ≤ s .phase → (y : Session) → WordFits K m′ (withMemory s M₂) y b (suc (length rs))
+  pub to-fits : atPreFlip2 ≤ s .phase → (y : Session) → WordFits K m′ (withMemory s M₂) y b (suc (length rs))
   to-fits l y = record {
     ok = ok-start start-b;
     is = sym (placing .new new-b);

@@ -8,6 +8,7 @@ use lib.ListN.{getD}
 use Rattle.rules.specs.Memory.{Memory, null, frontier, halfOf, replica, refs}
 use Rattle.rules.specs.Free.{Record, FreeSession}
 use Rattle.rules.specs.declared.Session.{Session}
+use Rattle.rules.proofs.invariant.Turns.{atAllocate, atHeapMark}
 use Rattle.rules.proofs.memory.Cases.{either, lt-or}
 use Rattle.rules.proofs.memory.Records.{Start}
 use Rattle.rules.proofs.memory.Walk.{Walk, walk-start}
@@ -24,7 +25,7 @@ module _ {M M′ : Memory} {New Re : ℕ → Type 0} (g : Grown M M′ New Re) {
   still-shelled : {v : ℕ} → Start M v → replica M v ≢ null → replica M′ v ≢ null
   still-shelled t d = either (g .same-replica t) (λ e z. d (sym e ∙ z)) (λ r. j .after r)
 
-  pub grown-colours : {place : ℕ} → (ph ≡ 5 → Walk M cur place) → Colours M cur ph place → Colours M′ cur ph place
+  pub grown-colours : {place : ℕ} → (ph ≡ atAllocate → Walk M cur place) → Colours M cur ph place → Colours M′ cur ph place
   grown-colours w k = record {
     at-rest = λ a v t. old-or-new g t (λ o. rw (grown-colour g (o .start)) (k .at-rest a v o)) (λ n side. c .at-rest a n side);
     at-reclaim = λ a v t. old-or-new g t (λ o. rw (grown-colour g (o .start)) (k .at-reclaim a v o)) (λ n side. c .at-reclaim a n side);
@@ -79,7 +80,7 @@ module _ {M M′ : Memory} {New Re : ℕ → Type 0} (g : Grown M M′ New Re) w
     registers = λ a b n i. clean-kept (r .reg-ok n i) (k .registers a b n i);
   }
     where
-      first : ph ≡ 4 → head < tail → In M cur (getD ws head null)
+      first : ph ≡ atHeapMark → head < tail → In M cur (getD ws head null)
       first a b = l .listed (omega arith) (omega arith) head b
 
   pub grown-walking : {m′ : ℕ → ℕ} {cur ph place wf head tail : ℕ} → cur < 2 → Joined M M′ New Re m′ cur ph

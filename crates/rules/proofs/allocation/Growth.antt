@@ -7,6 +7,7 @@ use lib.ListN.{getD, length}
 use Rattle.rules.specs.Memory.{Memory, null, frontier, halfOf, white, grey, black, colour, replica, refs, plains}
 use Rattle.rules.specs.Phases.{otherHalf}
 use Rattle.rules.specs.Free.{Record}
+use Rattle.rules.proofs.invariant.Turns.{atCopy, atHeapMark, atPreCopy, atPreMark1, atReclaim, atRest, atStackFlip}
 use Rattle.rules.proofs.memory.Records.{Start}
 use Rattle.rules.proofs.memory.Total.{total}
 use Rattle.rules.proofs.invariant.Words.{marks, copied, recOf}
@@ -38,22 +39,22 @@ pub record Joined (M M′ : Memory) (New Re : ℕ → Type 0) (m′ : ℕ → �
   pub before : {u : ℕ} → Re u → replica M u ≡ null
   pub after : {u : ℕ} → Re u → replica M′ u ≢ null
   pub marked : {u : ℕ} → Re u → colour M u ≢ white
-  pub early : {u : ℕ} → Re u → ph ≤ 6
+  pub early : {u : ℕ} → Re u → ph ≤ atPreCopy
   pub old-pair : {u : ℕ} → Re u → Pair M′ m′ u (replica M′ u)
   pub new-pair : {u : ℕ} → New u → replica M′ u ≢ null → Pair M′ m′ u (replica M′ u)
-  pub home : ph ≤ 11 → {u : ℕ} → New u → halfOf u ≡ otherHalf cur → replica M′ u ≢ null
-  pub closed : 7 ≤ ph → {u : ℕ} → New u → replica M′ u ≢ null → New (replica M′ u)
-  pub empty : ph ≤ 4 → frontier M′ (otherHalf cur) ≡ 0
-  pub spent : ph ≤ 11 → frontier M′ (otherHalf cur) ≡ total M′ cur (copied M′)
+  pub home : ph ≤ atStackFlip → {u : ℕ} → New u → halfOf u ≡ otherHalf cur → replica M′ u ≢ null
+  pub closed : atCopy ≤ ph → {u : ℕ} → New u → replica M′ u ≢ null → New (replica M′ u)
+  pub empty : ph ≤ atHeapMark → frontier M′ (otherHalf cur) ≡ 0
+  pub spent : ph ≤ atStackFlip → frontier M′ (otherHalf cur) ≡ total M′ cur (copied M′)
 
 -- colours of new records
 pub record Tinted (M M′ : Memory) (New : ℕ → Type 0) (cur ph : ℕ) : Type 0 where
-  pub at-rest : ph ≡ 0 → {u : ℕ} → New u → halfOf u ≡ cur → colour M′ u ≡ white
-  pub at-reclaim : ph ≡ 12 → {u : ℕ} → New u → halfOf u ≡ cur → colour M′ u ≡ white
-  pub none-black : ph ≡ 1 → {u : ℕ} → New u → halfOf u ≡ cur → colour M′ u ≢ black
+  pub at-rest : ph ≡ atRest → {u : ℕ} → New u → halfOf u ≡ cur → colour M′ u ≡ white
+  pub at-reclaim : ph ≡ atReclaim → {u : ℕ} → New u → halfOf u ≡ cur → colour M′ u ≡ white
+  pub none-black : ph ≡ atPreMark1 → {u : ℕ} → New u → halfOf u ≡ cur → colour M′ u ≢ black
   pub none-grey : {u : ℕ} → New u → halfOf u ≡ cur → colour M′ u ≢ grey
-  pub white-away : ph ≤ 11 → {u : ℕ} → New u → halfOf u ≡ otherHalf cur → colour M′ u ≡ white
-  pub paired : ph ≤ 11 → {u : ℕ} → New u → halfOf u ≡ cur → replica M′ u ≢ null → colour M′ u ≢ white
-  pub shelled : 6 ≤ ph → ph ≤ 11 → {u : ℕ} → New u → halfOf u ≡ cur → colour M′ u ≢ white → replica M′ u ≢ null
+  pub white-away : ph ≤ atStackFlip → {u : ℕ} → New u → halfOf u ≡ otherHalf cur → colour M′ u ≡ white
+  pub paired : ph ≤ atStackFlip → {u : ℕ} → New u → halfOf u ≡ cur → replica M′ u ≢ null → colour M′ u ≢ white
+  pub shelled : atPreCopy ≤ ph → ph ≤ atStackFlip → {u : ℕ} → New u → halfOf u ≡ cur → colour M′ u ≢ white → replica M′ u ≢ null
   -- they leave the grey list its room
-  pub room : 1 ≤ ph → ph ≤ 4 → total M cur (marks M) ≤ total M′ cur (marks M′)
+  pub room : atPreMark1 ≤ ph → ph ≤ atHeapMark → total M cur (marks M) ≤ total M′ cur (marks M′)

@@ -8,6 +8,7 @@ use Rattle.rules.specs.Memory.{Memory, frontier, null, halfOf, shapeAt, 
 use Rattle.rules.specs.Control.{Store, withMemory}
 use Rattle.rules.specs.Phases.{otherHalf}
 use Rattle.rules.specs.Free.{Free, Record}
+use Rattle.rules.proofs.invariant.Turns.{atAllocate}
 use Rattle.rules.proofs.memory.Cases.{either}
 use Rattle.rules.proofs.memory.Encoding.{other-below-2, other-differs}
 use Rattle.rules.proofs.memory.Records.{Start, start-nonnull, size-fields, size-3}
@@ -28,7 +29,7 @@ use Rattle.rules.proofs.allocation.GrowSim.{grown-sim}
 use Rattle.rules.proofs.allocation.FreeRecords.{longer-not}
 
 -- M₁ has the shell, M₂ also the replica word that names it
-module _ {K : ℕ → Type 0} {m : ℕ → ℕ} {s : Store} {f : Free} (h : Sim K m s f) {M₁ M₂ : Memory} {v : ℕ} (at-5 : s .phase ≡ 5)
+module _ {K : ℕ → Type 0} {m : ℕ → ℕ} {s : Store} {f : Free} (h : Sim K m s f) {M₁ M₂ : Memory} {v : ℕ} (at-5 : s .phase ≡ atAllocate)
     (this : In (s .memory) (s .current) v) (marked : colour (s .memory) v ≢ white) (alone : replica (s .memory) v ≡ null)
     (one : Appended (s .memory) M₁ (otherHalf (s .current)) (word (s .memory) v shapeAt) white v (refs (s .memory) v + plains (s .memory) v))
     (more : PutKept M₁ M₂ v replicaAt (nextReference (s .memory) (otherHalf (s .current)))) where

@@ -11,6 +11,7 @@ use Rattle.rules.specs.Control.{Store, withMemory}
 use Rattle.rules.specs.Phases.{otherHalf}
 use Rattle.rules.specs.Free.{Free, Record}
 use Rattle.rules.specs.declared.Session.{Session}
+use Rattle.rules.proofs.invariant.Turns.{atAllocate, atPreMark1, atReclaim, atRest, atRootMark, atStackFlip}
 use Rattle.rules.proofs.memory.Cases.{either}
 use Rattle.rules.proofs.memory.Encoding.{other-below-2, other-differs, refs-shape, plains-shape}
 use Rattle.rules.proofs.memory.Append.{Appended}
@@ -29,12 +30,12 @@ use Rattle.rules.proofs.allocation.FreeRecords.{withRecords, blankRecor
 -- ---- the colours that it may have by phase
 pub record Tint (ph c : ℕ) : Type 0 where
   pub small : c ≤ 2
-  pub at-rest : ph ≡ 0 → c ≡ white
-  pub at-reclaim : ph ≡ 12 → c ≡ white
-  pub none-black : ph ≡ 1 → c ≢ black
+  pub at-rest : ph ≡ atRest → c ≡ white
+  pub at-reclaim : ph ≡ atReclaim → c ≡ white
+  pub none-black : ph ≡ atPreMark1 → c ≢ black
   pub none-grey : c ≢ grey
-  pub marked : 3 ≤ ph → ph ≤ 11 → c ≢ white
-  pub phases : (ph ≤ 5) ⊎ (ph ≡ 12)
+  pub marked : atRootMark ≤ ph → ph ≤ atStackFlip → c ≢ white
+  pub phases : (ph ≤ atAllocate) ⊎ (ph ≡ atReclaim)
 
 -- M′ has it
 module _ {K : ℕ → Type 0} {m : ℕ → ℕ} {s : Store} {f : Free} (h : Sim K m s f) (r p : ℕ) (pb : p ≤ 255) {M′ : Memory} {c : ℕ} (tint : Tint (s .phase) c)

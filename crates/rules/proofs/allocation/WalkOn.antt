@@ -7,6 +7,7 @@ use Rattle.rules.specs.Memory.{frontier, null, white, colour, replica, s
 use Rattle.rules.specs.Control.{Store, withWalk}
 use Rattle.rules.specs.Collector.{walked}
 use Rattle.rules.specs.Free.{Free}
+use Rattle.rules.proofs.invariant.Turns.{atAllocate}
 use Rattle.rules.proofs.memory.Cases.{either}
 use Rattle.rules.proofs.memory.Walk.{walk-split}
 use Rattle.rules.proofs.invariant.Sim.{Sim}
@@ -14,7 +15,7 @@ use Rattle.rules.proofs.invariant.Laws.{cur-two}
 use Rattle.rules.proofs.invariant.Idle.{agreement-early}
 use Rattle.rules.proofs.invariant.Walked.{walked-next, walked-limit, walk-sim}
 
-module _ {K : ℕ → Type 0} {m : ℕ → ℕ} {s : Store} {f : Free} (h : Sim K m s f) (at-5 : s .phase ≡ 5)
+module _ {K : ℕ → Type 0} {m : ℕ → ℕ} {s : Store} {f : Free} (h : Sim K m s f) (at-5 : s .phase ≡ atAllocate)
     (under : s .walk .place < frontier (s .memory) (s .current)) where
   pub walks-on : (colour (s .memory) (walked s) ≢ white → replica (s .memory) (walked s) ≢ null)
       → (k : ℕ) → k ≡ s .walk .place + size (s .memory) (walked s) → Sim K m (withWalk s k 0) f

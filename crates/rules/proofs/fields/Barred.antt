@@ -9,6 +9,7 @@ use Rattle.rules.specs.Control.{Store}
 use Rattle.rules.specs.Barriers.{heapOf, shadesAt, barrierShade, shade}
 use Rattle.rules.specs.Free.{Free}
 use Rattle.rules.specs.declared.Session.{Session}
+use Rattle.rules.proofs.invariant.Turns.{atPreMark1, atPreMark2, atReclaim, atStackFlip}
 use Rattle.rules.proofs.memory.Cases.{lt-or, either}
 use Rattle.rules.proofs.invariant.Words.{Names, Clean}
 use Rattle.rules.proofs.invariant.Sim.{Sim}
@@ -24,11 +25,11 @@ pub record Barred (K : ℕ → Type 0) (m : ℕ → ℕ) (s : Store) (f : Free) 
   pub passes : barrierShade (heapOf s) l q ≡ passed it
   pub sim : Sim K m (shade s it) f
   pub keeps : ShadeKeeps s it
-  pub clean : 2 ≤ s .phase → s .phase ≤ 11 → Clean (shade s it .memory) (s .current) q
+  pub clean : atPreMark2 ≤ s .phase → s .phase ≤ atStackFlip → Clean (shade s it .memory) (s .current) q
 
 module _ {K : ℕ → Type 0} {m : ℕ → ℕ} {s : Store} {f : Free} (h : Sim K m s f) {l q : ℕ} where
   -- level 0: nothing is black in its phases
-  barred-none : l ≡ 0 → (s .phase ≤ 1) ⊎ (s .phase ≡ 12) → Barred K m s f l q
+  barred-none : l ≡ 0 → (s .phase ≤ atPreMark1) ⊎ (s .phase ≡ atReclaim) → Barred K m s f l q
   unfolding barrierShade shadesAt shade
   barred-none e ph = record {
     it = null;

@@ -8,6 +8,7 @@ use Rattle.rules.specs.Control.{Store, withWalk, walkLimit}
 use Rattle.rules.specs.Phases.{otherHalf}
 use Rattle.rules.specs.Collector.{walked}
 use Rattle.rules.specs.Free.{Free}
+use Rattle.rules.proofs.invariant.Turns.{atCopy}
 use Rattle.rules.proofs.memory.Cases.{lt-or, either}
 use Rattle.rules.proofs.memory.Encoding.{word-reference, reference-same}
 use Rattle.rules.proofs.memory.Records.{start-from-2, start-refs, start-plains}
@@ -23,7 +24,7 @@ pub record FieldCopied (M : Memory) (cur v i : ℕ) : Type 0 where
   pub refs-agree : replica M v ≢ null → i < refs M v → field M (replica M v) i ≡ fwd M (otherHalf cur) (field M v i)
   pub plains-agree : replica M v ≢ null → (k : ℕ) → refs M v + k ≡ i → k < plains M v → plainOf M (replica M v) k ≡ plainOf M v k
 
-module _ {K : ℕ → Type 0} {m : ℕ → ℕ} {s : Store} {f : Free} (h : Sim K m s f) (e : s .phase ≡ 7) where
+module _ {K : ℕ → Type 0} {m : ℕ → ℕ} {s : Store} {f : Free} (h : Sim K m s f) (e : s .phase ≡ atCopy) where
   -- the walk at k and i
   copy-walk : (k i : ℕ) → k ≤ walkLimit (s .phase) (s .lengths .half0) → i ≤ 510 → Walk (s .memory) (s .current) k
       → (k < frontier (s .memory) (s .current) → i ≤ refs (s .memory) (reference (s .current) k) + plains (s .memory) (reference (s .current) k))

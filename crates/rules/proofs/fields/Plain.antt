@@ -9,6 +9,7 @@ use Rattle.rules.specs.Memory.{Memory, null, replica, refs, plains, refF
 use Rattle.rules.specs.Control.{Store, withMemory}
 use Rattle.rules.specs.Phases.{otherHalf}
 use Rattle.rules.specs.Free.{Free, Record, recordAt, withRecord}
+use Rattle.rules.proofs.invariant.Turns.{atCopy, atStackFlip}
 use Rattle.rules.proofs.memory.Cases.{eq-or}
 use Rattle.rules.proofs.invariant.Words.{In, plainOf, recOf}
 use Rattle.rules.proofs.invariant.Sim.{Sim}
@@ -38,7 +39,7 @@ module _ {K : ℕ → Type 0} {m : ℕ → ℕ} {s : Store} {f : Free} {M′ : M
   new : plainOf M′ v i ≡ a
   new = rw (refs-kept (w .frame) (w .here .start)) (w .new)
 
-  new-copy : 7 ≤ s .phase → s .phase ≤ 11 → replica (s .memory) v ≢ null → plainOf M′ (replica (s .memory) v) i ≡ a
+  new-copy : atCopy ≤ s .phase → s .phase ≤ atStackFlip → replica (s .memory) v ≢ null → plainOf M′ (replica (s .memory) v) i ≡ a
   new-copy lo hi n =
       rw (refs-kept (w .frame) (h .pairs .pair v (w .here) n .start), replica-shape h v (w .here) n .0) (w .copy lo hi n)
 
@@ -70,7 +71,7 @@ module _ {K : ℕ → Type 0} {m : ℕ → ℕ} {s : Store} {f : Free} {M′ : M
         plains-agree = λ lo hi c k q b. rw (number k q, new-copy lo hi c, new);
       }
     where
-      copy-refs : s .phase ≤ 11 → In (s .memory) (otherHalf (s .current)) t → refs (s .memory) t ≡ refs (s .memory) v
+      copy-refs : s .phase ≤ atStackFlip → In (s .memory) (otherHalf (s .current)) t → refs (s .memory) t ≡ refs (s .memory) v
       copy-refs hi o = sym (rw (w .paired hi o) at (pair-shape (h .identity) (o .start) (h .pairs .home hi t o .1) .0))
 
   pub plain-write-sim : Sim K m (withMemory s M′) (withRecord f (m v) (withPlain (recordAt f (m v)) i a))

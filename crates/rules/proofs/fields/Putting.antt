@@ -17,6 +17,7 @@ use Rattle.rules.specs.Calls.{isRegister, isGlobal}
 use Rattle.rules.specs.Free.{Free, freePut}
 use Rattle.rules.specs.declared.Session.{Session}
 use Rattle.rules.specs.declared.Writes.{Writes}
+use Rattle.rules.proofs.invariant.Turns.{atRootFlip, atStackFlip}
 use Rattle.rules.proofs.memory.Cases.{eq-or, lt-or, either}
 use Rattle.rules.proofs.invariant.Words.{Names}
 use Rattle.rules.proofs.invariant.Sim.{Sim}
@@ -35,7 +36,7 @@ use Rattle.rules.proofs.fields.Table.{own-fits, forwarded-fits, forward
 
 -- what fits a field fits a global, where the flip has not passed it
 fits-global : {K : ℕ → Type 0} {m : ℕ → ℕ} {s : Store} {u p : ℕ} (g : ℕ) → Fits K m s u p
-    → (10 ≤ s .phase → s .phase ≤ 11 → Names (otherHalf (s .current)) u) → GlobalFits K m s g u p
+    → (atRootFlip ≤ s .phase → s .phase ≤ atStackFlip → Names (otherHalf (s .current)) u) → GlobalFits K m s g u p
 fits-global g x flipped = record {
   ok = x .ok;
   is = x .is;
@@ -84,7 +85,7 @@ module _ {K : ℕ → Type 0} {m : ℕ → ℕ} {s : Store} {f : Free} {x : Sess
 
   -- levels 4 to 6: nothing is shaded
   placed-high : {u : ℕ} → 4 ≤ l → ownWord (heapOf s) l null q ≡ passed u → Fits K m s u p
-      → (10 ≤ s .phase → s .phase ≤ 11 → Names (otherHalf (s .current)) u) → GlobalPut K m s f l g q p
+      → (atRootFlip ≤ s .phase → s .phase ≤ atStackFlip → Names (otherHalf (s .current)) u) → GlobalPut K m s f l g q p
   unfolding shade
   placed-high {u} c e y n = record {
     writes = record { shade = null; own = u; replica = null; copy = null };
@@ -97,7 +98,7 @@ module _ {K : ℕ → Type 0} {m : ℕ → ℕ} {s : Store} {f : Free} {x : Sess
       (λ c. let lo = level-from 4 (omega arith) (h .range .phases) a c in
       eq-or (s .phase) 12
       (λ e. placed-high c (reclaim-own h t e (level-last (h .range .phases) a c e) null) (reclaim-fits h t e) (λ y z. absurd (omega arith)))
-      (λ n. let hi : s .phase ≤ 11 = omega (arith, h .range .phases) in
+      (λ n. let hi : s .phase ≤ atStackFlip = omega (arith, h .range .phases) in
       lt-or l 6
       (λ d. placed-high c (own-global (heapOf s) (λ e. omega arith)) (own-fits h t lo hi) (λ y z. absurd (omega (arith, level-to 5 (omega arith) (h .range .phases) a (omega arith) (omega arith)))))
       (λ d. let e : l ≡ 6 = omega (arith, level-most (s .phase) l (h .range .phases) a) in

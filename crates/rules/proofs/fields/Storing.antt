@@ -16,6 +16,7 @@ use Rattle.rules.specs.Calls.{isRegister}
 use Rattle.rules.specs.Free.{Free, recordAt, withRecord, freeStore}
 use Rattle.rules.specs.declared.Session.{Session}
 use Rattle.rules.specs.declared.Writes.{Writes}
+use Rattle.rules.proofs.invariant.Turns.{atPreCopy, atPreFlip2, atReclaim, atStackFlip}
 use Rattle.rules.proofs.memory.Cases.{eq-or, lt-or}
 use Rattle.rules.proofs.memory.Records.{Start, start-nonnull}
 use Rattle.rules.proofs.invariant.Words.{In, fwd}
@@ -65,7 +66,7 @@ module _ {K : ℕ → Type 0} {m : ℕ → ℕ} {s : Store} {f : Free} {x : Sess
       }
 
   -- levels 4 to 6 in phases 6 to 11, the record in the current half
-  stored-from : 4 ≤ l → l ≤ 6 → 6 ≤ s .phase → s .phase ≤ 11 → In (s .memory) (s .current) v → replica (s .memory) v ≢ null → i < refs (s .memory) v
+  stored-from : 4 ≤ l → l ≤ 6 → atPreCopy ≤ s .phase → s .phase ≤ atStackFlip → In (s .memory) (s .current) v → replica (s .memory) v ≢ null → i < refs (s .memory) v
       → Stored K m s f l v i q p
   unfolding putBoth shade
   stored-from b c lo hi o n r =
@@ -78,7 +79,7 @@ module _ {K : ℕ → Type 0} {m : ℕ → ℕ} {s : Store} {f : Free} {x : Sess
       }
 
   -- the record in the other half
-  stored-to : 5 ≤ l → l ≤ 6 → 9 ≤ s .phase → s .phase ≤ 11 → In (s .memory) (otherHalf (s .current)) v → i < refs (s .memory) v → Stored K m s f l v i q p
+  stored-to : 5 ≤ l → l ≤ 6 → atPreFlip2 ≤ s .phase → s .phase ≤ atStackFlip → In (s .memory) (otherHalf (s .current)) v → i < refs (s .memory) v → Stored K m s f l v i q p
   unfolding putBoth shade
   stored-to b c lo hi o r =
       let w = to-words h t (omega arith) hi lo b c o in
@@ -96,7 +97,7 @@ module _ {K : ℕ → Type 0} {m : ℕ → ℕ} {s : Store} {f : Free} {x : Sess
       }
 
   -- level 6 in phase 12: both are in the current half already
-  stored-reclaim : l ≡ 6 → s .phase ≡ 12 → In (s .memory) (s .current) v → i < refs (s .memory) v → Stored K m s f l v i q p
+  stored-reclaim : l ≡ 6 → s .phase ≡ atReclaim → In (s .memory) (s .current) v → i < refs (s .memory) v → Stored K m s f l v i q p
   unfolding putBoth shade
   stored-reclaim b e o r = eq-or (replica (s .memory) v) null
       (λ n. record {
@@ -121,10 +122,10 @@ module _ {K : ℕ → Type 0} {m : ℕ → ℕ} {s : Store} {f : Free} {x : Sess
       (λ b. let lo = level-from 4 (omega arith) (h .range .phases) a b in
       eq-or (s .phase) 12
       (λ e. stored-reclaim (level-last (h .range .phases) a b e) e (here (omega arith)) n)
-      (λ e. let hi : s .phase ≤ 11 = omega (arith, h .range .phases) in
+      (λ e. let hi : s .phase ≤ atStackFlip = omega (arith, h .range .phases) in
       in-or (s .current) (cur-two h) o
       (λ c. stored-from b top lo hi c (has-replica h lo hi c (r .clean (omega arith) hi)) n)
-      (λ c. let late : 9 ≤ s .phase = lt-or (s .phase) 9
+      (λ c. let late : atPreFlip2 ≤ s .phase = lt-or (s .phase) 9
       (λ g. absurd (other-not h (sym (c .side) ∙ here (omega arith) .side))) (λ g. g) in
       stored-to (level-late (h .range .phases) a b late) top late hi c n)))
 

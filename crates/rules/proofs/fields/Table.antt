@@ -10,6 +10,7 @@ use Rattle.rules.specs.Phases.{otherHalf, fromspace}
 use Rattle.rules.specs.Barriers.{heapOf, to, ownWord, replicaWord}
 use Rattle.rules.specs.Free.{Free}
 use Rattle.rules.specs.declared.Session.{Session}
+use Rattle.rules.proofs.invariant.Turns.{atPreCopy, atPreFlip2, atReclaim, atStackFlip}
 use Rattle.rules.proofs.memory.Cases.{lt-or, either}
 use Rattle.rules.proofs.memory.Encoding.{other-other}
 use Rattle.rules.proofs.memory.Records.{start-nonnull}
@@ -37,7 +38,7 @@ pub record ToWords (K : ℕ → Type 0) (m : ℕ → ℕ) (s : Store) (l v q p :
   pub copy : replicaWord (heapOf s) l v q ≡ passed word
 
 module _ {K : ℕ → Type 0} {m : ℕ → ℕ} {s : Store} {f : Free} {x : Session} {q p : ℕ} (h : Sim K m s f) (t : WordFits K m s x q p)
-    (lo : 6 ≤ s .phase) (hi : s .phase ≤ 11) where
+    (lo : atPreCopy ≤ s .phase) (hi : s .phase ≤ atStackFlip) where
   abbrev away : ℕ
   away = otherHalf (s .current)
 
@@ -53,7 +54,7 @@ module _ {K : ℕ → Type 0} {m : ℕ → ℕ} {s : Store} {f : Free} {x : Sess
   forwarded-names = fwd-names h lo hi (t .ok) (t .clean (omega arith) hi)
 
   -- from phase 9 on the forwarded word
-  pub forwarded-fits : 9 ≤ s .phase → Fits K m s forwarded p
+  pub forwarded-fits : atPreFlip2 ≤ s .phase → Fits K m s forwarded p
   forwarded-fits b = record {
     is = t .is ∙ sym (fwd-place h (t .ok));
     held = t .kept;
@@ -125,7 +126,7 @@ module _ {K : ℕ → Type 0} {m : ℕ → ℕ} {s : Store} {f : Free} {x : Sess
       }))
 
   -- in the other one, from phase 9 on
-  pub to-words : {l v : ℕ} → 9 ≤ s .phase → 5 ≤ l → l ≤ 6 → In (s .memory) away v → ToWords K m s l v q p
+  pub to-words : {l v : ℕ} → atPreFlip2 ≤ s .phase → 5 ≤ l → l ≤ 6 → In (s .memory) away v → ToWords K m s l v q p
   to-words {l} {v} n b c o =
       lt-or l 6
       (λ g. let e : l ≡ 5 = omega arith in
@@ -158,7 +159,7 @@ module _ {K : ℕ → Type 0} {m : ℕ → ℕ} {s : Store} {f : Free} {x : Sess
           (λ r. inl r)
 
 -- ---- phase 12, level 6: q names tospace, the current half, already
-module _ {K : ℕ → Type 0} {m : ℕ → ℕ} {s : Store} {f : Free} {x : Session} {q p : ℕ} (h : Sim K m s f) (t : WordFits K m s x q p) (e : s .phase ≡ 12) where
+module _ {K : ℕ → Type 0} {m : ℕ → ℕ} {s : Store} {f : Free} {x : Session} {q p : ℕ} (h : Sim K m s f) (t : WordFits K m s x q p) (e : s .phase ≡ atReclaim) where
   there : Names (s .current) q
   there = t .names (omega arith)
 

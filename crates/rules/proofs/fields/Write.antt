@@ -10,6 +10,7 @@ use Rattle.rules.specs.Memory.{Memory, null, replica, refs, plains, head
 use Rattle.rules.specs.Control.{Store}
 use Rattle.rules.specs.Phases.{otherHalf}
 use Rattle.rules.specs.Free.{Free, Record}
+use Rattle.rules.proofs.invariant.Turns.{atCopy, atPreMark2, atStackFlip}
 use Rattle.rules.proofs.memory.Cases.{eq-or, either}
 use Rattle.rules.proofs.memory.Records.{Start}
 use Rattle.rules.proofs.invariant.Words.{In, Ok, Names, Clean, field, plainOf, fwd, recOf}
@@ -32,7 +33,7 @@ pub record FieldWrite (K : ℕ → Type 0) (m : ℕ → ℕ) (s : Store) (f : Fr
   pub here : In (s .memory) (s .current) v
   pub past : header ≤ j
   pub apart : ¬ In (s .memory) (s .current) t
-  pub paired : s .phase ≤ 11 → In (s .memory) (otherHalf (s .current)) t → replica (s .memory) t ≡ v
+  pub paired : s .phase ≤ atStackFlip → In (s .memory) (otherHalf (s .current)) t → replica (s .memory) t ≡ v
   -- the collector-free record
   pub refs-number : length (x .refs) ≡ refs (s .memory) v
   pub plains-number : length (x .plains) ≡ plains (s .memory) v
@@ -44,15 +45,15 @@ pub record FieldWrite (K : ℕ → Type 0) (m : ℕ → ℕ) (s : Store) (f : Fr
   pub ok : (k : ℕ) → refField k ≡ j → k < refs (s .memory) v → Ok (s .memory) (field M′ v k)
   pub side : NoFlip (s .phase)
       → (k : ℕ) → refField k ≡ j → k < refs (s .memory) v → Names (s .current) (field M′ v k)
-  pub clean : 2 ≤ s .phase → s .phase ≤ 11
+  pub clean : atPreMark2 ≤ s .phase → s .phase ≤ atStackFlip
       → (k : ℕ) → refField k ≡ j → k < refs (s .memory) v → Clean (s .memory) (s .current) (field M′ v k)
-  pub away : s .phase ≤ 11 → In (s .memory) (otherHalf (s .current)) t
+  pub away : s .phase ≤ atStackFlip → In (s .memory) (otherHalf (s .current)) t
       → (k : ℕ) → refField k ≡ j → k < refs (s .memory) t → Names (otherHalf (s .current)) (field M′ t k) × Ok (s .memory) (field M′ t k)
   -- the replica's word agrees with it
-  pub refs-agree : 7 ≤ s .phase → s .phase ≤ 11 → replica (s .memory) v ≢ null
+  pub refs-agree : atCopy ≤ s .phase → s .phase ≤ atStackFlip → replica (s .memory) v ≢ null
       → (k : ℕ) → refField k ≡ j → k < refs (s .memory) v
       → field M′ (replica (s .memory) v) k ≡ fwd (s .memory) (otherHalf (s .current)) (field M′ v k)
-  pub plains-agree : 7 ≤ s .phase → s .phase ≤ 11 → replica (s .memory) v ≢ null
+  pub plains-agree : atCopy ≤ s .phase → s .phase ≤ atStackFlip → replica (s .memory) v ≢ null
       → (k : ℕ) → plainField (refs (s .memory) v) k ≡ j → k < plains (s .memory) v
       → plainOf M′ (replica (s .memory) v) k ≡ plainOf M′ v k
 
@@ -139,7 +140,7 @@ module _ {K : ℕ → Type 0} {m : ℕ → ℕ} {s : Store} {f : Free} {M′ : M
   away-plain {a} q k l d = plain-kept (w .frame) (q .start) k l (away-at q (plainField (refs M a) k) d)
 
   -- the replica of another record of the current half isn't t
-  pub other-pair : s .phase ≤ 11 → {a : ℕ} → In M cur a → replica M a ≢ null → a ≢ v → replica M a ≢ t
+  pub other-pair : s .phase ≤ atStackFlip → {a : ℕ} → In M cur a → replica M a ≢ null → a ≢ v → replica M a ≢ t
   other-pair hi {a} q n d e =
       let o = pair-other (cur-two h) (h .pairs) q n in
       d (sym (h .pairs .pair a q n .back) ∙ rw e (w .paired hi (rw e at o)))

@@ -9,6 +9,7 @@ use Rattle.rules.specs.Memory.{Memory, null, black, colour, replica, ref
 use Rattle.rules.specs.Control.{Store, withMemory}
 use Rattle.rules.specs.Phases.{otherHalf}
 use Rattle.rules.specs.Free.{Free, Record, withRecord}
+use Rattle.rules.proofs.invariant.Turns.{atCopy, atStackFlip}
 use Rattle.rules.proofs.memory.Cases.{eq-or, either}
 use Rattle.rules.proofs.invariant.Words.{In, Ok, Names, Clean, field, plainOf, fwd, recOf}
 use Rattle.rules.proofs.invariant.Groups.{Identity, Values, FieldHalves, Copied, Agreement}
@@ -131,13 +132,13 @@ module _ {K : ℕ → Type 0} {m : ℕ → ℕ} {s : Store} {f : Free} {M′ : M
         (λ z. old (inl z));
   }
     where
-      new : 7 ≤ s .phase → s .phase ≤ 11 → {a k : ℕ} → a ≡ v → replica M a ≢ null → k < refs M a → refField k ≡ j → replica M′ a ≡ replica M a
+      new : atCopy ≤ s .phase → s .phase ≤ atStackFlip → {a k : ℕ} → a ≡ v → replica M a ≢ null → k < refs M a → refField k ≡ j → replica M′ a ≡ replica M a
           → field M′ (replica M′ a) k ≡ fwd M′ away-half (field M′ a k)
       new lo hi {a} {k} e n l i r =
           let b : k < refs M v = rw e at l in
           rw (r, e, fwd-kept (w .frame) (changed h w .replicas-same) away-half (w .ok k i b)) (w .refs-agree lo hi (rw e at n) k i b)
 
-      new-plain : 7 ≤ s .phase → s .phase ≤ 11 → {a k : ℕ} → a ≡ v → replica M a ≢ null → k < plains M a → plainField (refs M a) k ≡ j → replica M′ a ≡ replica M a
+      new-plain : atCopy ≤ s .phase → s .phase ≤ atStackFlip → {a k : ℕ} → a ≡ v → replica M a ≢ null → k < plains M a → plainField (refs M a) k ≡ j → replica M′ a ≡ replica M a
           → plainOf M′ (replica M′ a) k ≡ plainOf M′ a k
       new-plain lo hi {a} {k} e n l i r = rw (r, e) (w .plains-agree lo hi (rw e at n) k (rw e at i) (rw e at l))
 

@@ -14,6 +14,7 @@ use Rattle.rules.specs.Calls as calls
 use Rattle.rules.specs.Calls.{isRegister}
 use Rattle.rules.specs.Free.{Free, recordAt, withRecord, freeWrite}
 use Rattle.rules.specs.declared.Session.{Session}
+use Rattle.rules.proofs.invariant.Turns.{atCopy, atStackFlip}
 use Rattle.rules.proofs.memory.Cases.{eq-or, lt-or, either}
 use Rattle.rules.proofs.memory.Records.{Start, start-nonnull, plain-inside}
 use Rattle.rules.proofs.invariant.Words.{In}
@@ -44,7 +45,7 @@ pub record Rewritten (K : ℕ → Type 0) (m : ℕ → ℕ) (s : Store) (f : Fre
 
 module _ {K : ℕ → Type 0} {m : ℕ → ℕ} {s : Store} {f : Free} {l v i : ℕ} (h : Sim K m s f) (a : ℕ) (r : i < plains (s .memory) v) where
   -- the record alone
-  alone : In (s .memory) (s .current) v → (7 ≤ s .phase → s .phase ≤ 11 → replica (s .memory) v ≢ null → ⊥)
+  alone : In (s .memory) (s .current) v → (atCopy ≤ s .phase → s .phase ≤ atStackFlip → replica (s .memory) v ≢ null → ⊥)
       → replicaFor (s .memory) plains l v i ≡ passed null → Rewritten K m s f l v i a
   unfolding putBoth
   alone o none e = record {
@@ -67,7 +68,7 @@ module _ {K : ℕ → Type 0} {m : ℕ → ℕ} {s : Store} {f : Free} {l v i : 
       }
 
   -- the record is the replica of one of the current half
-  to : 4 ≤ l → s .phase ≤ 11 → In (s .memory) (otherHalf (s .current)) v → Rewritten K m s f l v i a
+  to : 4 ≤ l → s .phase ≤ atStackFlip → In (s .memory) (otherHalf (s .current)) v → Rewritten K m s f l v i a
   unfolding putBoth
   to b hi o =
       let home = h .pairs .home hi v o in

@@ -5,6 +5,7 @@ use mathlib.Core.List.{List}
 use native.Mathlib.Omega.{arith}
 use Rattle.rules.specs.Memory.{Memory, null, wordOf, replica, frontier}
 use Rattle.rules.specs.Free.{Record, FreeSession}
+use Rattle.rules.proofs.invariant.Turns.{atReclaim}
 use Rattle.rules.proofs.memory.Walk.{walk-start}
 use Rattle.rules.proofs.memory.Total.{total-equal}
 use Rattle.rules.proofs.invariant.Words.{In, marks}
@@ -46,7 +47,7 @@ module _ {M M′ : Memory} {Q : ℕ → ℕ → Type 0} (F : Frame M M′ Q) whe
 
   -- the replica words of the current half in Reclaim
   pub walking-kept : {cur ph place wf head tail : ℕ} → cur < 2
-      → (ph ≡ 12 → (v : ℕ) → In M cur v → wordOf v < place → replica M v ≡ null → replica M′ v ≡ null)
+      → (ph ≡ atReclaim → (v : ℕ) → In M cur v → wordOf v < place → replica M v ≡ null → replica M′ v ≡ null)
       → Walking M cur ph place wf head tail → Walking M′ cur ph place wf head tail
   walking-kept {cur} {ph} {place} two r g = record {
     at-5 = λ e. F .walks two (g .at-5 e);

@@ -7,6 +7,7 @@ use Rattle.rules.specs.Memory.{Memory, null, refs, plains, replica}
 use Rattle.rules.specs.Phases.{otherHalf}
 use Rattle.rules.specs.Free.{Record, FreeSession}
 use Rattle.rules.specs.declared.Session.{Session}
+use Rattle.rules.proofs.invariant.Turns.{atStackFlip}
 use Rattle.rules.proofs.memory.Total.{total-equal}
 use Rattle.rules.proofs.invariant.Words.{In, copied}
 use Rattle.rules.proofs.invariant.Groups.{Identity, Values, Roots, FieldHalves, Pair, Pairs, Copied, Agreement}
@@ -34,7 +35,7 @@ module _ {M M′ : Memory} {Q : ℕ → ℕ → Type 0} (F : Frame M M′ Q) whe
   roots-kept g = roots-carried (λ n k. ok-to F (g .reg-ok n k)) (λ k. ok-to F (g .global-ok k)) (λ u o. refl) g
 
   -- reference fields, those of the other half up to StackFlip
-  pub field-halves-kept : {cur ph : ℕ} → RefsSame M M′ cur → (ph ≤ 11 → RefsSame M M′ (otherHalf cur)) → FieldHalves M cur ph → FieldHalves M′ cur ph
+  pub field-halves-kept : {cur ph : ℕ} → RefsSame M M′ cur → (ph ≤ atStackFlip → RefsSame M M′ (otherHalf cur)) → FieldHalves M cur ph → FieldHalves M′ cur ph
   field-halves-kept same away g = record {
     home = λ a v i t l. let q = in-back F t in let z : i < refs M v = rw (refs-kept F (q .start)) at l in
         rw (same v i q z) (g .home a v i q z);

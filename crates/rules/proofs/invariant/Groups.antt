@@ -10,6 +10,7 @@ use Rattle.rules.specs.Memory.{Memory, null, halfOf, wordOf, refs, plain
 use Rattle.rules.specs.Phases.{otherHalf, levelOf, absent}
 use Rattle.rules.specs.Free.{Record, FreeSession, freeAbsent}
 use Rattle.rules.specs.declared.Session.{Session}
+use Rattle.rules.proofs.invariant.Turns.{atCopy, atHeapMark, atPreFlip1, atPreFlip2, atRootFlip, atStackFlip}
 use Rattle.rules.proofs.memory.Records.{Start}
 use Rattle.rules.proofs.memory.Total.{total}
 use Rattle.rules.proofs.invariant.Words.{In, Ok, Names, field, plainOf, fwd, copied, reg, freg, recOf}
@@ -54,21 +55,21 @@ pub record Levels (ph : ℕ) (xs : List Session) : Type 0 where
 
 -- ---- which half a word may name: the current one but in phases 9 to 11; what is in tospace names tospace
 abbrev pub NoFlip : ℕ → Type 0
-NoFlip ph = (ph ≢ 9) × (ph ≢ 10) × (ph ≢ 11)
+NoFlip ph = (ph ≢ atPreFlip2) × (ph ≢ atRootFlip) × (ph ≢ atStackFlip)
 
 pub record RootHalves (cur ph place : ℕ) (xs : List Session) (gs : List ℕ) : Type 0 where
   pub regs : NoFlip ph → (n k : ℕ) → Names cur (reg xs n k)
   pub globals : NoFlip ph → (g : ℕ) → Names cur (getD gs g null)
   -- RootFlip and StackFlip: what has been forwarded names the other half
-  pub flipping : ph ≡ 10 → (g : ℕ) → g < place → Names (otherHalf cur) (getD gs g null)
-  pub flipped : ph ≡ 11 → (g : ℕ) → Names (otherHalf cur) (getD gs g null)
-  pub marked : ph ≡ 11 → (n k : ℕ) → getD xs n absent .attached ≡ true → getD xs n absent .scanned ≡ true
+  pub flipping : ph ≡ atRootFlip → (g : ℕ) → g < place → Names (otherHalf cur) (getD gs g null)
+  pub flipped : ph ≡ atStackFlip → (g : ℕ) → Names (otherHalf cur) (getD gs g null)
+  pub marked : ph ≡ atStackFlip → (n k : ℕ) → getD xs n absent .attached ≡ true → getD xs n absent .scanned ≡ true
       → Names (otherHalf cur) (reg xs n k)
 
 pub record FieldHalves (M : Memory) (cur ph : ℕ) : Type 0 where
   pub home : NoFlip ph → (v i : ℕ) → In M cur v → i < refs M v → Names cur (field M v i)
-  pub away : ph ≤ 11 → (v i : ℕ) → In M (otherHalf cur) v → i < refs M v → Names (otherHalf cur) (field M v i)
-  pub away-ok : ph ≤ 11 → (v i : ℕ) → In M (otherHalf cur) v → i < refs M v → Ok M (field M v i)
+  pub away : ph ≤ atStackFlip → (v i : ℕ) → In M (otherHalf cur) v → i < refs M v → Names (otherHalf cur) (field M v i)
+  pub away-ok : ph ≤ atStackFlip → (v i : ℕ) → In M (otherHalf cur) v → i < refs M v → Ok M (field M v i)
 
 -- ---- pairs: w is the replica of v
 pub record Pair (M : Memory) (m : ℕ → ℕ) (v w : ℕ) : Type 0 where
@@ -80,20 +81,20 @@ pub record Pair (M : Memory) (m : ℕ → ℕ) (v w : ℕ) : Type 0 where
 pub record Pairs (M : Memory) (m : ℕ → ℕ) (cur ph : ℕ) : Type 0 where
   pub pair : (v : ℕ) → In M cur v → replica M v ≢ null → Pair M m v (replica M v)
   -- up to StackFlip every record of the other half is the replica of one of the current half
-  pub home : ph ≤ 11 → (v : ℕ) → In M (otherHalf cur) v → (replica M v ≢ null) × Pair M m v (replica M v)
+  pub home : ph ≤ atStackFlip → (v : ℕ) → In M (otherHalf cur) v → (replica M v ≢ null) × Pair M m v (replica M v)
   -- up to HeapMark the other half is empty
-  pub empty : ph ≤ 4 → frontier M (otherHalf cur) ≡ 0
+  pub empty : ph ≤ atHeapMark → frontier M (otherHalf cur) ≡ 0
   -- the other half holds as many words as the current half's records with a replica: a shell finds room
-  pub spent : ph ≤ 11 → frontier M (otherHalf cur) ≡ total M cur (copied M)
+  pub spent : ph ≤ atStackFlip → frontier M (otherHalf cur) ≡ total M cur (copied M)
 
 -- ---- agreement: field number j of v has been copied to its replica
 pub data Copied (ph place wf v j : ℕ) : Type 0 where
-  over : 8 ≤ ph → Copied ph place wf v j
+  over : atPreFlip1 ≤ ph → Copied ph place wf v j
   earlier : wordOf v < place → Copied ph place wf v j
   here : wordOf v ≡ place → j < wf → Copied ph place wf v j
 
 pub record Agreement (M : Memory) (cur ph place wf : ℕ) : Type 0 where
-  pub refs-agree : 7 ≤ ph → ph ≤ 11 → (v i : ℕ) → In M cur v → replica M v ≢ null → i < refs M v → Copied ph place wf v i
+  pub refs-agree : atCopy ≤ ph → ph ≤ atStackFlip → (v i : ℕ) → In M cur v → replica M v ≢ null → i < refs M v → Copied ph place wf v i
       → field M (replica M v) i ≡ fwd M (otherHalf cur) (field M v i)
-  pub plains-agree : 7 ≤ ph → ph ≤ 11 → (v i : ℕ) → In M cur v → replica M v ≢ null → i < plains M v → Copied ph place wf v (refs M v + i)
+  pub plains-agree : atCopy ≤ ph → ph ≤ atStackFlip → (v i : ℕ) → In M cur v → replica M v ≢ null → i < plains M v → Copied ph place wf v (refs M v + i)
       → plainOf M (replica M v) i ≡ plainOf M v i

@@ -11,6 +11,7 @@ use Rattle.rules.specs.Memory.{Memory, half, frontier}
 use Rattle.rules.specs.Control.{Store, Walk, Grey, withMemory, withWalk, withList, withGlobals, withSessions, withCurrent, walkLimit}
 use Rattle.rules.specs.Phases.{nextPhase, sessionAt, absent, moveOn}
 use Rattle.rules.specs.declared.Session.{Session}
+use Rattle.rules.proofs.invariant.Turns.{atReclaim, atRootFlip, atRootMark}
 use Rattle.rules.proofs.Ranges.{InRange}
 use Rattle.rules.proofs.memory.Cases.{chosen-below}
 use Rattle.rules.proofs.memory.Records.{Filled}
@@ -32,11 +33,11 @@ half-length k (suc zero) l = omega (arith, k .lent1, k .equal)
 half-length k (suc (suc h)) l = absurd (omega arith)
 
 -- but in phases 3 and 10 the walk place goes up to the half length
-pub limit-length : (ph n : ℕ) → ph ≢ 3 → ph ≢ 10 → walkLimit ph n ≡ n
+pub limit-length : (ph n : ℕ) → ph ≢ atRootMark → ph ≢ atRootFlip → walkLimit ph n ≡ n
 unfolding walkLimit
 limit-length ph n a b = rw (ne-eqb ph 3 a, ne-eqb ph 10 b)
 
-next-most : (ph : ℕ) → ph ≤ 12 → nextPhase ph ≤ 12
+next-most : (ph : ℕ) → ph ≤ atReclaim → nextPhase ph ≤ atReclaim
 unfolding nextPhase
 next-most ph l = leb→le _ _ (at-each 13 (λ i. leb (nextPhase i) 12) tt ph (omega arith))
 
@@ -45,7 +46,7 @@ next-most ph l = leb→le _ _ (at-each 13 (λ i. leb (nextPhase i) 12) tt ph (om
 -- what is asked of the numbers, the list's words and the sessions
 record Numbers (s : Store) (cur ph : ℕ) (w : Walk) (l : Grey) (xs : List Session) : Type 0 where
   half : cur ≤ 1
-  phases : ph ≤ 12
+  phases : ph ≤ atReclaim
   places : w .place ≤ walkLimit ph (s .lengths .half0)
   fields : w .field ≤ 510
   same : length (l .words) ≡ length (s .list .words)

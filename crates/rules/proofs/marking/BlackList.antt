@@ -7,6 +7,7 @@ use native.Mathlib.Omega.{arith}
 use lib.ListN.{getD}
 use Rattle.rules.specs.Memory.{Memory, null, white, grey, black, colourAt, colour, refs}
 use Rattle.rules.specs.declared.Session.{Session}
+use Rattle.rules.proofs.invariant.Turns.{atHeapMark, atPreMark1, atPreMark2, atStackFlip}
 use Rattle.rules.proofs.memory.Cases.{eq-or, lt-or}
 use Rattle.rules.proofs.memory.Put.{PutKept}
 use Rattle.rules.proofs.invariant.Words.{In, Ok, Clean, field}
@@ -14,12 +15,12 @@ use Rattle.rules.proofs.invariant.Marking.{GreyList, Cleaned}
 use Rattle.rules.proofs.frames.Kept.{in-to, in-back}
 use Rattle.rules.proofs.marking.Recolour.{recolour-frame, colour-new, colour-other, field-still, clean-still, total-still}
 
-module _ {M M′ : Memory} {cur ph : ℕ} {ws : List ℕ} {head tail : ℕ} (p : PutKept M M′ (getD ws head null) colourAt black) (is : ph ≡ 4)
+module _ {M M′ : Memory} {cur ph : ℕ} {ws : List ℕ} {head tail : ℕ} (p : PutKept M M′ (getD ws head null) colourAt black) (is : ph ≡ atHeapMark)
     (two : cur < 2) (g : GreyList M cur ph ws head tail) (more : head < tail) where
-  lo : 1 ≤ ph
+  lo : atPreMark1 ≤ ph
   lo = omega arith
 
-  hi : ph ≤ 4
+  hi : ph ≤ atHeapMark
   hi = omega arith
 
   oldest : In M cur (getD ws head null)
@@ -62,7 +63,7 @@ module _ {M M′ : Memory} {cur ph : ℕ} {ws : List ℕ} {head tail : ℕ} (p :
     registers = λ a. absurd (omega arith);
   }
     where
-      fields : 2 ≤ ph → ph ≤ 11 → (u i : ℕ) → In M′ cur u → colour M′ u ≡ black → i < refs M′ u → Clean M′ cur (field M′ u i)
+      fields : atPreMark2 ≤ ph → ph ≤ atStackFlip → (u i : ℕ) → In M′ cur u → colour M′ u ≡ black → i < refs M′ u → Clean M′ cur (field M′ u i)
       fields a b u i j c l =
           let k : In M cur u = in-back (recolour-frame p) j in
           let n : i < refs M u = rw (p .same-refs (k .start)) at l in

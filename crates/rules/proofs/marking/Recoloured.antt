@@ -6,6 +6,7 @@ use mathlib.Core.List.{List}
 use native.Mathlib.Omega.{arith}
 use Rattle.rules.specs.Memory.{Memory, white, black, colourAt}
 use Rattle.rules.specs.Free.{Record, FreeSession}
+use Rattle.rules.proofs.invariant.Turns.{atHeapMark, atPreMark1}
 use Rattle.rules.proofs.memory.Cases.{eq-or}
 use Rattle.rules.proofs.memory.Encoding.{other-differs}
 use Rattle.rules.proofs.memory.Put.{PutKept}
@@ -15,8 +16,8 @@ use Rattle.rules.proofs.invariant.Carried.{kept-carried}
 use Rattle.rules.proofs.frames.Kept.{in-back}
 use Rattle.rules.proofs.marking.Recolour.{recolour-frame, colour-new, colour-other, replica-same, marked-still}
 
-module _ {M M′ : Memory} {v c cur ph : ℕ} (p : PutKept M M′ v colourAt c) (lo : 1 ≤ ph) (hi : ph ≤ 4) (two : cur < 2) (t : In M cur v) (d : c ≢ white) where
-  pub colours-recoloured : {place : ℕ} → (ph ≡ 1 → c ≢ black) → Colours M cur ph place → Colours M′ cur ph place
+module _ {M M′ : Memory} {v c cur ph : ℕ} (p : PutKept M M′ v colourAt c) (lo : atPreMark1 ≤ ph) (hi : ph ≤ atHeapMark) (two : cur < 2) (t : In M cur v) (d : c ≢ white) where
+  pub colours-recoloured : {place : ℕ} → (ph ≡ atPreMark1 → c ≢ black) → Colours M cur ph place → Colours M′ cur ph place
   colours-recoloured one q = record {
     at-rest = λ e. absurd (omega arith);
     at-reclaim = λ e. absurd (omega arith);

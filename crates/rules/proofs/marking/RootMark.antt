@@ -10,6 +10,7 @@ use Rattle.rules.specs.Phases.{moveOn}
 use Rattle.rules.specs.Barriers.{shade}
 use Rattle.rules.specs.Collector.{rootMark}
 use Rattle.rules.specs.Free.{Free}
+use Rattle.rules.proofs.invariant.Turns.{atRootMark}
 use Rattle.rules.proofs.memory.Cases.{lt-or}
 use Rattle.rules.proofs.invariant.Sim.{Sim}
 use Rattle.rules.proofs.invariant.Alive.{global-alive}
@@ -18,7 +19,7 @@ use Rattle.rules.proofs.phases.Moves.{root-mark-moves}
 use Rattle.rules.proofs.marking.Shading.{Shaded, shading-marks}
 use Rattle.rules.proofs.marking.WalkOn.{past-global}
 
-module _ {K : ℕ → Type 0} {m : ℕ → ℕ} {s : Store} {f : Free} (h : Sim K m s f) (is : s .phase ≡ 3) where
+module _ {K : ℕ → Type 0} {m : ℕ → ℕ} {s : Store} {f : Free} (h : Sim K m s f) (is : s .phase ≡ atRootMark) where
   -- a global that is left
   global-left : s .walk .place < globalCount → Stepped K m s f (rootMark s)
   unfolding rootMark

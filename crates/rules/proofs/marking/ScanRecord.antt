@@ -8,6 +8,7 @@ use Rattle.rules.specs.Control.{Store, withWalk}
 use Rattle.rules.specs.Barriers.{shade}
 use Rattle.rules.specs.Collector.{scanRecord}
 use Rattle.rules.specs.Free.{Free}
+use Rattle.rules.proofs.invariant.Turns.{atHeapMark}
 use Rattle.rules.proofs.memory.Cases.{lt-or}
 use Rattle.rules.proofs.invariant.Words.{field}
 use Rattle.rules.proofs.invariant.Sim.{Sim}
@@ -20,7 +21,7 @@ use Rattle.rules.proofs.marking.Shading.{Shaded, shading-marks}
 use Rattle.rules.proofs.marking.WalkOn.{past-field}
 use Rattle.rules.proofs.marking.Blacken.{oldest, blackened, oldest-in, oldest-marked, blacken-kept, blacken-sim}
 
-module _ {K : ℕ → Type 0} {m : ℕ → ℕ} {s : Store} {f : Free} (h : Sim K m s f) (is : s .phase ≡ 4) (more : s .list .head < s .list .tail) where
+module _ {K : ℕ → Type 0} {m : ℕ → ℕ} {s : Store} {f : Free} (h : Sim K m s f) (is : s .phase ≡ atHeapMark) (more : s .list .head < s .list .tail) where
   -- a field that is left
   field-shaded : s .walk .field < refs (s .memory) (oldest s) → Shaded K m s f (field (s .memory) (oldest s) (s .walk .field))
   field-shaded l =

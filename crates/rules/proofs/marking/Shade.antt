@@ -9,6 +9,7 @@ use Rattle.rules.specs.Control.{Store, withMemory, withList, withSession
 use Rattle.rules.specs.Phases.{unmarked, sessionAt}
 use Rattle.rules.specs.Barriers.{shade}
 use Rattle.rules.specs.Free.{Free}
+use Rattle.rules.proofs.invariant.Turns.{atHeapMark, atPreMark1}
 use Rattle.rules.proofs.memory.Put.{PutKept, put-colour}
 use Rattle.rules.proofs.memory.Total.{total-room, total-count}
 use Rattle.rules.proofs.invariant.Words.{In, marks}
@@ -35,7 +36,7 @@ shaded s v =
 
 -- ---- the list has room for a white record
 
-module _ {K : ℕ → Type 0} {m : ℕ → ℕ} {s : Store} {f : Free} (h : Sim K m s f) (lo : 1 ≤ s .phase) (hi : s .phase ≤ 4)
+module _ {K : ℕ → Type 0} {m : ℕ → ℕ} {s : Store} {f : Free} (h : Sim K m s f) (lo : atPreMark1 ≤ s .phase) (hi : s .phase ≤ atHeapMark)
     {v : ℕ} (t : In (s .memory) (s .current) v) (e : colour (s .memory) v ≡ white) where
   -- fewer records are marked than there are, and each takes 3 words at least
   pub shade-room : s .list .tail + 1 ≤ length (s .list .words)

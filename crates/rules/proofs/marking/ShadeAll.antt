@@ -10,6 +10,7 @@ use Rattle.rules.specs.Control.{Store}
 use Rattle.rules.specs.Barriers.{shade}
 use Rattle.rules.specs.Collector.{shadeAll}
 use Rattle.rules.specs.Free.{Free}
+use Rattle.rules.proofs.invariant.Turns.{atHeapMark, atPreMark1}
 use Rattle.rules.proofs.memory.Put.{PutKept}
 use Rattle.rules.proofs.invariant.Sim.{Sim}
 use Rattle.rules.proofs.frames.Kept.{in-to}
@@ -30,7 +31,7 @@ pub record ShadedAll (K : ℕ → Type 0) (m : ℕ → ℕ) (s : Store) (f : Fre
   pub lengths : shadeAll s vs .lengths ≡ s .lengths
   pub front : (g : ℕ) → frontier (shadeAll s vs .memory) g ≡ frontier (s .memory) g
 
-pub shade-all : {K : ℕ → Type 0} {m : ℕ → ℕ} (vs : List ℕ) {s : Store} {f : Free} → Sim K m s f → 1 ≤ s .phase → s .phase ≤ 4
+pub shade-all : {K : ℕ → Type 0} {m : ℕ → ℕ} (vs : List ℕ) {s : Store} {f : Free} → Sim K m s f → atPreMark1 ≤ s .phase → s .phase ≤ atHeapMark
     → Whites (s .memory) (s .current) (λ v. K (m v)) vs → ShadedAll K m s f vs
 shade-all [] h lo hi w = record { sim = h; tail = omega arith; lengths = refl; front = λ g. refl }
 shade-all {K} {m} (v ∷ vs) {s} {f} h lo hi (one-white t c k a q) =

@@ -9,6 +9,7 @@ use lib.Seq.{getD-set-same, getD-set-other}
 use Rattle.rules.specs.Memory.{Memory, null, white, grey, black, colourAt, colour, refs}
 use Rattle.rules.specs.Phases.{unmarked}
 use Rattle.rules.specs.declared.Session.{Session}
+use Rattle.rules.proofs.invariant.Turns.{atHeapMark, atPreMark1, atPreMark2, atStackFlip}
 use Rattle.rules.proofs.memory.Cases.{eq-or, lt-or}
 use Rattle.rules.proofs.memory.Put.{PutKept}
 use Rattle.rules.proofs.invariant.Words.{In, Ok, Clean, field}
@@ -17,7 +18,7 @@ use Rattle.rules.proofs.invariant.Unmarked.{unmarked-none}
 use Rattle.rules.proofs.frames.Kept.{in-to, in-back}
 use Rattle.rules.proofs.marking.Recolour.{recolour-frame, colour-new, colour-other, field-still, clean-still, total-more}
 
-module _ {M M′ : Memory} {v cur ph : ℕ} (p : PutKept M M′ v colourAt grey) (lo : 1 ≤ ph) (hi : ph ≤ 4) (two : cur < 2) (t : In M cur v)
+module _ {M M′ : Memory} {v cur ph : ℕ} (p : PutKept M M′ v colourAt grey) (lo : atPreMark1 ≤ ph) (hi : ph ≤ atHeapMark) (two : cur < 2) (t : In M cur v)
     (e : colour M v ≡ white) {ws : List ℕ} {head tail : ℕ} (g : GreyList M cur ph ws head tail) (begins : head ≤ tail) (fits : tail < length ws) where
   -- entries below the end stay, and are other records than v
   entry : (i : ℕ) → i < tail → getD (set ws tail v) i null ≡ getD ws i null
@@ -64,7 +65,7 @@ module _ {M M′ : Memory} {v cur ph : ℕ} (p : PutKept M M′ v colourAt grey)
 
   -- what was clean stays so; the fields passed of the entry at the list's place are none where it is v
   pub shade-cleaned : {place wf : ℕ} {xs : List Session} {gs : List ℕ} → ((u i : ℕ) → In M cur u → i < refs M u → Ok M (field M u i))
-      → ((k : ℕ) → Ok M (getD gs k null)) → (ph ≡ 4 → head ≡ tail → wf ≡ 0)
+      → ((k : ℕ) → Ok M (getD gs k null)) → (ph ≡ atHeapMark → head ≡ tail → wf ≡ 0)
       → Cleaned M cur ph place wf ws head tail xs gs → Cleaned M′ cur ph place wf (set ws tail v) head (tail + 1) (unmarked xs) gs
   shade-cleaned {place} {wf} {xs} {gs} ok root none q = record {
     fields = fields;
@@ -83,7 +84,7 @@ module _ {M M′ : Memory} {v cur ph : ℕ} (p : PutKept M M′ v colourAt grey)
     registers = λ a. absurd (omega arith);
   }
     where
-      fields : 2 ≤ ph → ph ≤ 11 → (u i : ℕ) → In M′ cur u → colour M′ u ≡ black → i < refs M′ u → Clean M′ cur (field M′ u i)
+      fields : atPreMark2 ≤ ph → ph ≤ atStackFlip → (u i : ℕ) → In M′ cur u → colour M′ u ≡ black → i < refs M′ u → Clean M′ cur (field M′ u i)
       fields a b u i j c l =
           let k : In M cur u = in-back (recolour-frame p) j in
           let n : i < refs M u = rw (p .same-refs (k .start)) at l in

@@ -6,6 +6,7 @@ use lib.ListN.{getD}
 use Rattle.rules.specs.Memory.{null, refs}
 use Rattle.rules.specs.Control.{Store, withWalk, walkLimit}
 use Rattle.rules.specs.Free.{Free}
+use Rattle.rules.proofs.invariant.Turns.{atHeapMark, atRootMark}
 use Rattle.rules.proofs.memory.Cases.{lt-or}
 use Rattle.rules.proofs.memory.Records.{start-refs}
 use Rattle.rules.proofs.invariant.Words.{Clean, field}
@@ -15,7 +16,7 @@ use Rattle.rules.proofs.invariant.Walked.{walk-sim}
 
 module _ {K : ℕ → Type 0} {m : ℕ → ℕ} {s : Store} {f : Free} (h : Sim K m s f) where
   -- RootMark: the global at the walk place is clean
-  pub past-global : s .phase ≡ 3 → (k i : ℕ) → s .walk .place ≡ k → s .walk .field ≡ i → k < 32
+  pub past-global : s .phase ≡ atRootMark → (k i : ℕ) → s .walk .place ≡ k → s .walk .field ≡ i → k < 32
       → Clean (s .memory) (s .current) (getD (s .globals) k null) → Sim K m (withWalk s (k + 1) i) f
   unfolding walkLimit
   past-global e k i a b l c = walk-sim h (record {
@@ -33,7 +34,7 @@ module _ {K : ℕ → Type 0} {m : ℕ → ℕ} {s : Store} {f : Free} (h : Sim 
   })
 
   -- HeapMark: the field at the walk field of the entry at the list's place is clean
-  pub past-field : s .phase ≡ 4 → (k i v : ℕ) → s .walk .place ≡ k → s .walk .field ≡ i → s .list .head < s .list .tail
+  pub past-field : s .phase ≡ atHeapMark → (k i v : ℕ) → s .walk .place ≡ k → s .walk .field ≡ i → s .list .head < s .list .tail
       → getD (s .list .words) (s .list .head) null ≡ v → i < refs (s .memory) v
       → Clean (s .memory) (s .current) (field (s .memory) v i) → Sim K m (withWalk s k (i + 1)) f
   past-field e k i v a b l o n c = walk-sim h (record {

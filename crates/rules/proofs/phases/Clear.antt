@@ -7,6 +7,7 @@ use Rattle.rules.specs.Memory.{Memory, null, wordOf, replicaAt, put, rep
 use Rattle.rules.specs.Control.{Store}
 use Rattle.rules.specs.Collector.{walked, pastRecord}
 use Rattle.rules.specs.Free.{Free}
+use Rattle.rules.proofs.invariant.Turns.{atReclaim}
 use Rattle.rules.proofs.memory.Cases.{eq-or, either}
 use Rattle.rules.proofs.memory.Records.{Start}
 use Rattle.rules.proofs.memory.Walk.{walk-split}
@@ -24,7 +25,7 @@ use Rattle.rules.proofs.frames.Change.{put-frame}
 use Rattle.rules.proofs.frames.Kept.{in-back, replica-kept}
 use Rattle.rules.proofs.frames.Whole.{ReplicaChanged, replica-changed}
 
-module _ {K : ℕ → Type 0} {m : ℕ → ℕ} {s : Store} {f : Free} (h : Sim K m s f) (e : s .phase ≡ 12) (l : s .walk .place < frontier (s .memory) (s .current)) where
+module _ {K : ℕ → Type 0} {m : ℕ → ℕ} {s : Store} {f : Free} (h : Sim K m s f) (e : s .phase ≡ atReclaim) (l : s .walk .place < frontier (s .memory) (s .current)) where
   abbrev M : Memory
   M = s .memory
 

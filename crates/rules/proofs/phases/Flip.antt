@@ -7,6 +7,7 @@ use lib.ListN.{getD, length}
 use Rattle.rules.specs.Control.{Store, withCurrent}
 use Rattle.rules.specs.Phases.{tospace, levelOf, nextPhase, absent, unmarked, moveOn, lowestUnmarked}
 use Rattle.rules.specs.Free.{Free}
+use Rattle.rules.proofs.invariant.Turns.{atStackFlip}
 use Rattle.rules.proofs.memory.Cases.{bool-or}
 use Rattle.rules.proofs.memory.Encoding.{other-below-2}
 use Rattle.rules.proofs.memory.Walk.{walk-zero}
@@ -23,7 +24,7 @@ use Rattle.rules.proofs.invariant.Carried.{kept-carried}
 use Rattle.rules.proofs.phases.Sessions.{all-now, all-marked}
 use Rattle.rules.proofs.phases.MoveOn.{next-phase}
 
-module _ {K : ℕ → Type 0} {m : ℕ → ℕ} {s : Store} {f : Free} (h : Sim K m s f) (e : s .phase ≡ 11) where
+module _ {K : ℕ → Type 0} {m : ℕ → ℕ} {s : Store} {f : Free} (h : Sim K m s f) (e : s .phase ≡ atStackFlip) where
   -- ---- the fields of the other half's records are those of their originals
   values-flip : Values (s .memory) m (other h) (f .records)
   values-flip = record {

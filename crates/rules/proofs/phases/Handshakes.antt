@@ -6,13 +6,14 @@ use Rattle.rules.specs.Control.{Store}
 use Rattle.rules.specs.Phases.{moveOn}
 use Rattle.rules.specs.Collector.{rest, handshake, haveLevel}
 use Rattle.rules.specs.Free.{Free}
+use Rattle.rules.proofs.invariant.Turns.{atRest}
 use Rattle.rules.proofs.memory.Cases.{bool-or}
 use Rattle.rules.proofs.invariant.Sim.{Sim}
 use Rattle.rules.proofs.relation.Stepped.{Stepped, stepped-same}
 use Rattle.rules.proofs.phases.Moves.{Waits, rest-moves, handshake-moves}
 
 module _ {K : ℕ → Type 0} {m : ℕ → ℕ} {s : Store} {f : Free} (h : Sim K m s f) where
-  pub rest-stepped : s .phase ≡ 0 → Stepped K m s f (rest s)
+  pub rest-stepped : s .phase ≡ atRest → Stepped K m s f (rest s)
   unfolding rest moveOn
   rest-stepped e = stepped-same refl (rest-moves h e) refl
 

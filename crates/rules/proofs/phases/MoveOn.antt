@@ -10,6 +10,7 @@ use Rattle.rules.specs.Memory.{null, wordOf, white, grey, colour, replic
 use Rattle.rules.specs.Control.{Store}
 use Rattle.rules.specs.Phases.{otherHalf, levelOf, nextPhase, absent, unmarked, moveOn}
 use Rattle.rules.specs.Free.{Free}
+use Rattle.rules.proofs.invariant.Turns.{atAllocate, atCopy, atHeapMark, atRest, atRootFlip, atRootMark, atStackFlip}
 use Rattle.rules.proofs.memory.Cases.{eq-or}
 use Rattle.rules.proofs.memory.Walk.{walk-zero}
 use Rattle.rules.proofs.invariant.Words.{In, Names, Clean, reg}
@@ -24,19 +25,19 @@ use Rattle.rules.proofs.invariant.Carried.{kept-carried}
 -- what entering the phase after that of s needs beyond what carries over
 pub record Entering (s : Store) : Type 0 where
   pub level : (n : ℕ) → getD (s .sessions) n absent .attached ≡ true → getD (s .sessions) n absent .level ≡ levelOf (s .phase)
-  pub emptied : s .phase ≡ 0 → s .list .tail ≡ 0
-  pub globals : s .phase ≡ 3 → (g : ℕ) → Clean (s .memory) (s .current) (getD (s .globals) g null)
-  pub none-grey : s .phase ≡ 4 → (v : ℕ) → In (s .memory) (s .current) v → colour (s .memory) v ≢ grey
-  pub registers : s .phase ≡ 4 → (n k : ℕ) → Clean (s .memory) (s .current) (reg (s .sessions) n k)
-  pub shelled : s .phase ≡ 5 → (v : ℕ) → In (s .memory) (s .current) v → colour (s .memory) v ≢ white → replica (s .memory) v ≢ null
-  pub copied : s .phase ≡ 7 → (v : ℕ) → In (s .memory) (s .current) v → wordOf v < s .walk .place
-  pub flipped : s .phase ≡ 10 → (g : ℕ) → Names (otherHalf (s .current)) (getD (s .globals) g null)
+  pub emptied : s .phase ≡ atRest → s .list .tail ≡ 0
+  pub globals : s .phase ≡ atRootMark → (g : ℕ) → Clean (s .memory) (s .current) (getD (s .globals) g null)
+  pub none-grey : s .phase ≡ atHeapMark → (v : ℕ) → In (s .memory) (s .current) v → colour (s .memory) v ≢ grey
+  pub registers : s .phase ≡ atHeapMark → (n k : ℕ) → Clean (s .memory) (s .current) (reg (s .sessions) n k)
+  pub shelled : s .phase ≡ atAllocate → (v : ℕ) → In (s .memory) (s .current) v → colour (s .memory) v ≢ white → replica (s .memory) v ≢ null
+  pub copied : s .phase ≡ atCopy → (v : ℕ) → In (s .memory) (s .current) v → wordOf v < s .walk .place
+  pub flipped : s .phase ≡ atRootFlip → (g : ℕ) → Names (otherHalf (s .current)) (getD (s .globals) g null)
 
-pub next-phase : (ph : ℕ) → ph ≤ 11 → nextPhase ph ≡ suc ph
+pub next-phase : (ph : ℕ) → ph ≤ atStackFlip → nextPhase ph ≡ suc ph
 unfolding nextPhase
 next-phase ph l = eqb→eq _ _ (at-each 12 (λ i. eqb (nextPhase i) (suc i)) tt ph (omega arith))
 
-module _ {K : ℕ → Type 0} {m : ℕ → ℕ} {s : Store} {f : Free} (h : Sim K m s f) (e : Entering s) (early : s .phase ≤ 10) where
+module _ {K : ℕ → Type 0} {m : ℕ → ℕ} {s : Store} {f : Free} (h : Sim K m s f) (e : Entering s) (early : s .phase ≤ atRootFlip) where
   levels-on : Levels (suc (s .phase)) (unmarked (s .sessions))
   levels-on = record {
     allowed = λ n a. inr (rw (unmarked-level (s .sessions) n, ← next-phase (s .phase) (omega arith), ← moves-on (s .phase) (omega arith))
@@ -73,7 +74,7 @@ module _ {K : ℕ → Type 0} {m : ℕ → ℕ} {s : Store} {f : Free} (h : Sim 
   copied-on v j t (earlier l) = absurd (omega arith)
   copied-on v j t (here a l) = absurd (omega arith)
 
-  begun : (v j : ℕ) → 7 ≤ suc (s .phase) → Copied (suc (s .phase)) 0 0 v j → 7 ≤ s .phase
+  begun : (v j : ℕ) → atCopy ≤ suc (s .phase) → Copied (suc (s .phase)) 0 0 v j → atCopy ≤ s .phase
   begun v j b (over l) = omega arith
   begun v j b (earlier l) = absurd (omega arith)
   begun v j b (here a l) = absurd (omega arith)

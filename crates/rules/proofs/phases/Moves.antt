@@ -10,6 +10,7 @@ use Rattle.rules.specs.Control.{Store, withList}
 use Rattle.rules.specs.Phases.{levelOf, absent, moveOn, lowestUnmarked}
 use Rattle.rules.specs.Collector.{haveLevel}
 use Rattle.rules.specs.Free.{Free}
+use Rattle.rules.proofs.invariant.Turns.{atAllocate, atCopy, atHeapMark, atPreCopy, atPreFlip1, atPreFlip2, atPreMark1, atPreMark2, atRest, atRootFlip, atRootMark}
 use Rattle.rules.proofs.memory.Cases.{lt-or, bool-or}
 use Rattle.rules.proofs.memory.Walk.{walk-done}
 use Rattle.rules.proofs.invariant.Words.{In, Clean, reg}
@@ -22,9 +23,9 @@ use Rattle.rules.proofs.phases.MoveOn.{moves}
 
 -- the phases that only wait for the level
 pub data Waits (ph : ℕ) : Type 0 where
-  pre-mark : 1 ≤ ph → ph ≤ 2 → Waits ph
-  pre-copy : ph ≡ 6 → Waits ph
-  pre-flip : 8 ≤ ph → ph ≤ 9 → Waits ph
+  pre-mark : atPreMark1 ≤ ph → ph ≤ atPreMark2 → Waits ph
+  pre-copy : ph ≡ atPreCopy → Waits ph
+  pre-flip : atPreFlip1 ≤ ph → ph ≤ atPreFlip2 → Waits ph
 
 -- every attached session has the phase's level
 abbrev AllAt : Store → Type 0
@@ -32,7 +33,7 @@ AllAt s = (n : ℕ) → getD (s .sessions) n absent .attached ≡ true → getD 
 
 -- none of the phases that ask for more than what carries over
 abbrev Plain : ℕ → Type 0
-Plain ph = (ph ≢ 0) × (ph ≢ 3) × (ph ≢ 4) × (ph ≢ 5) × (ph ≢ 7) × (ph ≤ 9)
+Plain ph = (ph ≢ atRest) × (ph ≢ atRootMark) × (ph ≢ atHeapMark) × (ph ≢ atAllocate) × (ph ≢ atCopy) × (ph ≤ atPreFlip2)
 
 plain : {ph : ℕ} → Waits ph → Plain ph
 plain (pre-mark a b) = omega arith
@@ -57,7 +58,7 @@ module _ {K : ℕ → Type 0} {m : ℕ → ℕ} {s : Store} {f : Free} (h : Sim 
   past-globals g l = List·getD-eq-default (s .globals) null (omega (arith, h .roots .globals))
 
   -- ---- 0 Rest: the grey list emptied
-  rest-empties : s .phase ≡ 0 → Sim K m (withList s (s .list .words) 0 0) f
+  rest-empties : s .phase ≡ atRest → Sim K m (withList s (s .list .words) 0 0) f
   rest-empties e = record {
     range = range-emptied (h .range);
     filled = h .filled;
@@ -76,7 +77,7 @@ module _ {K : ℕ → Type 0} {m : ℕ → ℕ} {s : Store} {f : Free} (h : Sim 
     kept = h .kept;
   }
 
-  pub rest-moves : s .phase ≡ 0 → Sim K m (moveOn (withList s (s .list .words) 0 0)) f
+  pub rest-moves : s .phase ≡ atRest → Sim K m (moveOn (withList s (s .list .words) 0 0)) f
   unfolding levelOf levelBefore
   rest-moves e = moves (rest-empties e)
       (record {
@@ -107,7 +108,7 @@ module _ {K : ℕ → Type 0} {m : ℕ → ℕ} {s : Store} {f : Free} (h : Sim 
       (omega (arith, p .5))
 
   -- ---- 3 RootMark: every global has been shaded
-  pub root-mark-moves : s .phase ≡ 3 → 32 ≤ s .walk .place → Sim K m (moveOn s) f
+  pub root-mark-moves : s .phase ≡ atRootMark → 32 ≤ s .walk .place → Sim K m (moveOn s) f
   unfolding levelOf levelBefore
   root-mark-moves e l = moves h
       (record {
@@ -123,12 +124,12 @@ module _ {K : ℕ → Type 0} {m : ℕ → ℕ} {s : Store} {f : Free} (h : Sim 
       (omega arith)
 
   -- ---- 4 HeapMark: the list is done, so nothing is grey; all attached sessions are scanned
-  scanned-all : s .phase ≡ 4 → length (s .sessions) ≤ lowestUnmarked (s .sessions) → (n k : ℕ) → Clean (s .memory) (s .current) (reg (s .sessions) n k)
+  scanned-all : s .phase ≡ atHeapMark → length (s .sessions) ≤ lowestUnmarked (s .sessions) → (n k : ℕ) → Clean (s .memory) (s .current) (reg (s .sessions) n k)
   scanned-all e l n k = bool-or (getD (s .sessions) n absent .attached)
       (λ a. h .cleaned .scanned e n k a (all-marked (s .sessions) l n a))
       (λ a o. absurd (o (h .roots .idle n k a)))
 
-  pub heap-mark-moves : s .phase ≡ 4 → s .list .head ≡ s .list .tail → length (s .sessions) ≤ lowestUnmarked (s .sessions) → Sim K m (moveOn s) f
+  pub heap-mark-moves : s .phase ≡ atHeapMark → s .list .head ≡ s .list .tail → length (s .sessions) ≤ lowestUnmarked (s .sessions) → Sim K m (moveOn s) f
   unfolding levelOf levelBefore
   heap-mark-moves e d l = moves h
       (record {
@@ -144,7 +145,7 @@ module _ {K : ℕ → Type 0} {m : ℕ → ℕ} {s : Store} {f : Free} (h : Sim 
       (omega arith)
 
   -- ---- 5 Allocate: every marked record has its replica
-  pub allocate-moves : s .phase ≡ 5 → frontier (s .memory) (s .current) ≤ s .walk .place → haveLevel s ≡ true → Sim K m (moveOn s) f
+  pub allocate-moves : s .phase ≡ atAllocate → frontier (s .memory) (s .current) ≤ s .walk .place → haveLevel s ≡ true → Sim K m (moveOn s) f
   allocate-moves e d l = moves h
       (record {
         level = have-level l;
@@ -159,7 +160,7 @@ module _ {K : ℕ → Type 0} {m : ℕ → ℕ} {s : Store} {f : Free} (h : Sim 
       (omega arith)
 
   -- ---- 7 Copy: every field has been copied
-  pub copy-moves : s .phase ≡ 7 → frontier (s .memory) (s .current) ≤ s .walk .place → Sim K m (moveOn s) f
+  pub copy-moves : s .phase ≡ atCopy → frontier (s .memory) (s .current) ≤ s .walk .place → Sim K m (moveOn s) f
   unfolding levelOf levelBefore
   copy-moves e d = moves h
       (record {
@@ -175,7 +176,7 @@ module _ {K : ℕ → Type 0} {m : ℕ → ℕ} {s : Store} {f : Free} (h : Sim 
       (omega arith)
 
   -- ---- 10 RootFlip: every global has been forwarded
-  pub root-flip-moves : s .phase ≡ 10 → 32 ≤ s .walk .place → Sim K m (moveOn s) f
+  pub root-flip-moves : s .phase ≡ atRootFlip → 32 ≤ s .walk .place → Sim K m (moveOn s) f
   unfolding levelOf levelBefore
   root-flip-moves e l = moves h
       (record {

@@ -10,6 +10,7 @@ use Rattle.rules.specs.Control.{Store, withMemory}
 use Rattle.rules.specs.Phases.{otherHalf, levelOf, nextPhase, unmarked, moveOn}
 use Rattle.rules.specs.Collector.{haveLevel}
 use Rattle.rules.specs.Free.{Free}
+use Rattle.rules.proofs.invariant.Turns.{atReclaim}
 use Rattle.rules.proofs.memory.Cases.{eq-or}
 use Rattle.rules.proofs.memory.Encoding.{other-below-2}
 use Rattle.rules.proofs.memory.Records.{Start}
@@ -28,7 +29,7 @@ use Rattle.rules.proofs.invariant.Carried.{in-carried, Within, identity
 use Rattle.rules.proofs.invariant.Counted.{copied-none}
 use Rattle.rules.proofs.phases.Sessions.{all-at}
 
-module _ {K : ℕ → Type 0} {m : ℕ → ℕ} {s : Store} {f : Free} (h : Sim K m s f) (e : s .phase ≡ 12) (d : frontier (s .memory) (s .current) ≤ s .walk .place) where
+module _ {K : ℕ → Type 0} {m : ℕ → ℕ} {s : Store} {f : Free} (h : Sim K m s f) (e : s .phase ≡ atReclaim) (d : frontier (s .memory) (s .current) ≤ s .walk .place) where
   abbrev M : Memory
   M = s .memory
 

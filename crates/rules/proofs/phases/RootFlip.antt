@@ -10,6 +10,7 @@ use Rattle.rules.specs.Control.{Store, withWalk, walkLimit}
 use Rattle.rules.specs.Phases.{otherHalf, moveOn}
 use Rattle.rules.specs.Collector.{rootFlip}
 use Rattle.rules.specs.Free.{Free}
+use Rattle.rules.proofs.invariant.Turns.{atRootFlip}
 use Rattle.rules.proofs.memory.Cases.{lt-or}
 use Rattle.rules.proofs.invariant.Words.{Names, fwd}
 use Rattle.rules.proofs.invariant.Groups.{over}
@@ -22,7 +23,7 @@ use Rattle.rules.proofs.sessions.Session.{GlobalFits, global-sim-same}
 use Rattle.rules.proofs.phases.Moves.{root-flip-moves}
 
 -- ---- the walk over the globals goes on
-module _ {K : ℕ → Type 0} {m : ℕ → ℕ} {s : Store} {f : Free} (h : Sim K m s f) (e : s .phase ≡ 10) (l : s .walk .place < 32)
+module _ {K : ℕ → Type 0} {m : ℕ → ℕ} {s : Store} {f : Free} (h : Sim K m s f) (e : s .phase ≡ atRootFlip) (l : s .walk .place < 32)
     (here : Names (otherHalf (s .current)) (getD (s .globals) (s .walk .place) null)) where
   next-global : Sim K m (withWalk s (s .walk .place + 1) (s .walk .field)) f
   unfolding walkLimit
@@ -44,7 +45,7 @@ module _ {K : ℕ → Type 0} {m : ℕ → ℕ} {s : Store} {f : Free} (h : Sim 
   })
 
 -- ---- the unit
-module _ {K : ℕ → Type 0} {m : ℕ → ℕ} {s : Store} {f : Free} (h : Sim K m s f) (e : s .phase ≡ 10) where
+module _ {K : ℕ → Type 0} {m : ℕ → ℕ} {s : Store} {f : Free} (h : Sim K m s f) (e : s .phase ≡ atRootFlip) where
   -- what the global becomes
   abbrev new : ℕ
   new = fwd (s .memory) (other h) (getD (s .globals) (s .walk .place) null)

@@ -13,6 +13,7 @@ use Rattle.rules.specs.Phases.{sessionAt, withSession, withRegisters, wi
 use Rattle.rules.specs.Collector.{forwardAll, stackFlip}
 use Rattle.rules.specs.Free.{Free, freeSession}
 use Rattle.rules.specs.declared.Session.{Session}
+use Rattle.rules.proofs.invariant.Turns.{atStackFlip}
 use Rattle.rules.proofs.memory.Cases.{lt-or}
 use Rattle.rules.proofs.memory.Records.{Filled}
 use Rattle.rules.proofs.invariant.Words.{Ok, Names, fwd}
@@ -31,7 +32,7 @@ forward-all-passed to k (v ∷ vs) ok = rw (forward-passed to k (ok 0), forward-
 forwarded-at : (M : Memory) (to : ℕ) (vs : List ℕ) (k : ℕ) → getD (map (fwd M to) vs) k null ≡ fwd M to (getD vs k null)
 forwarded-at M to vs k = rw (fwd-null M to) at (List·getD-map (fwd M to) vs k null)
 
-module _ {K : ℕ → Type 0} {m : ℕ → ℕ} {s : Store} {f : Free} (h : Sim K m s f) (e : s .phase ≡ 11) where
+module _ {K : ℕ → Type 0} {m : ℕ → ℕ} {s : Store} {f : Free} (h : Sim K m s f) (e : s .phase ≡ atStackFlip) where
   -- ---- one session
   module _ (n : ℕ) (l : n ≤ 15) (a : sessionAt s n .attached ≡ true) where
     abbrev regs : List ℕ

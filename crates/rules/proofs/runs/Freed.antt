@@ -14,6 +14,7 @@ use Rattle.rules.specs.Runs.{Call, Step, apply, after}
 use Rattle.rules.specs.Free.{Free, Record, noRecord, recordAt, freeSession, freeRegister}
 use Rattle.rules.specs.Tracking.{Beside, track, besideCall, beside, Reached, by-register, by-global, by-field}
 use Rattle.rules.specs.Claims.{FreedBetween, leftIn}
+use Rattle.rules.proofs.invariant.Turns.{atPreMark1, atRest}
 use Rattle.rules.proofs.Ranges.{in-range-tested}
 use Rattle.rules.proofs.memory.Records.{Start, size-fields}
 use Rattle.rules.proofs.memory.Listing.{mapped-start, mapped-once, mapped-words}
@@ -34,7 +35,7 @@ Living f q = Reached f q ⊎ length (f .records) < q
 abbrev begun : Beside → Beside
 begun b = record { store = moveOn (withList (b .store) (b .store .list .words) 0 0); free = b .free; place = b .place }
 
-module _ {K : ℕ → Type 0} (b : Beside) (h : Holds K b) (z : b .store .phase ≡ 0) where
+module _ {K : ℕ → Type 0} (b : Beside) (h : Holds K b) (z : b .store .phase ≡ atRest) where
   first-unit : getD units (b .store .phase) handshake (b .store) ≡ rest (b .store)
   first-unit = ap (λ ph. getD units ph handshake (b .store)) z
 
@@ -73,7 +74,7 @@ module _ {K : ℕ → Type 0} (b : Beside) (h : Holds K b) (z : b .store .phase 
       field q i (inl r) e = inl (by-field q i r e)
       field q i (inr l) e = absurd (e (no-fields (b .free .records) q i l))
 
-  phase-1 : begun b .store .phase ≡ 1
+  phase-1 : begun b .store .phase ≡ atPreMark1
   unfolding moveOn nextPhase
   phase-1 = rw z
 
@@ -102,7 +103,7 @@ module _ {K : ℕ → Type 0} (b : Beside) (h : Holds K b) (z : b .store .phase 
 
 -- ---- back in phase 0
 
-module _ {K : ℕ → Type 0} {e : Beside} (h : Holds K e) (z : e .store .phase ≡ 0) where
+module _ {K : ℕ → Type 0} {e : Beside} (h : Holds K e) (z : e .store .phase ≡ atRest) where
   sizes : (v : ℕ) → Start (e .store .memory) v → halfOf v ≡ e .store .current
       → sizeOf (length (recordAt (e .free) (e .place v) .refs)) (length (recordAt (e .free) (e .place v) .plains)) ≡ size (e .store .memory) v
   unfolding recordAt
@@ -121,7 +122,7 @@ module _ {K : ℕ → Type 0} {e : Beside} (h : Holds K e) (z : e .store .phase 
     emptied = h .pairs .empty (omega arith);
   }
 
-pub freed-between : {K : ℕ → Type 0} (b : Beside) → Holds K b → b .store .phase ≡ 0 → (ds : List Call) → after (b .store) (Step ∷ ds) .phase ≡ 0
+pub freed-between : {K : ℕ → Type 0} (b : Beside) → Holds K b → b .store .phase ≡ atRest → (ds : List Call) → after (b .store) (Step ∷ ds) .phase ≡ 0
     → FreedBetween b (beside b (Step ∷ ds)) (leftIn (beside b (Step ∷ ds)))
 freed-between b h z ds back =
     let k : Holds (Living (b .free)) (beside (besideCall b Step) ds) = rw (first-step b h z) (run-holds (begun b) (living-holds b h z) ds) in

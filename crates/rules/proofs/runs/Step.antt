@@ -8,6 +8,7 @@ use Rattle.rules.specs.Control.{Store}
 use Rattle.rules.specs.Collector.{units, handshake, step}
 use Rattle.rules.specs.Free.{Free}
 use Rattle.rules.specs.declared.Answer.the-variants.{Phase}
+use Rattle.rules.proofs.invariant.Turns.{atAllocate, atPreCopy, atReclaim}
 use Rattle.rules.proofs.Ranges.{in-range-tested}
 use Rattle.rules.proofs.memory.Cases.{eq-or, lt-or}
 use Rattle.rules.proofs.invariant.Sim.{Sim}
@@ -27,16 +28,16 @@ module _ {K : ℕ → Type 0} {m : ℕ → ℕ} {s : Store} {f : Free} (h : Sim 
   Unit-of ph = Stepped K m s f (getD units ph handshake s)
 
   -- up to Allocate, and after it
-  first-units : (ph : ℕ) → s .phase ≡ ph → ph ≤ 5 → Unit-of ph
+  first-units : (ph : ℕ) → s .phase ≡ ph → ph ≤ atAllocate → Unit-of ph
   first-units ph p l =
       eq-or ph 0 (λ e. rw e (rest-stepped h (p ∙ e)))
       (λ n0. eq-or ph 1 (λ e. rw e (handshake-stepped h (pre-mark (omega arith) (omega arith))))
       (λ n1. eq-or ph 2 (λ e. rw e (handshake-stepped h (pre-mark (omega arith) (omega arith))))
       (λ n2. eq-or ph 3 (λ e. rw e (root-mark-stepped h (p ∙ e)))
       (λ n3. eq-or ph 4 (λ e. rw e (heap-mark-stepped h (p ∙ e)))
-      (λ n4. let e : ph ≡ 5 = omega arith in rw e (allocate-shells-stepped h (p ∙ e)))))))
+      (λ n4. let e : ph ≡ atAllocate = omega arith in rw e (allocate-shells-stepped h (p ∙ e)))))))
 
-  last-units : (ph : ℕ) → s .phase ≡ ph → ph ≤ 12 → 6 ≤ ph → Unit-of ph
+  last-units : (ph : ℕ) → s .phase ≡ ph → ph ≤ atReclaim → atPreCopy ≤ ph → Unit-of ph
   last-units ph p b l =
       eq-or ph 6 (λ e. rw e (handshake-stepped h (pre-copy (p ∙ e))))
       (λ n6. eq-or ph 7 (λ e. rw e (copy-stepped h (p ∙ e)))
@@ -44,7 +45,7 @@ module _ {K : ℕ → Type 0} {m : ℕ → ℕ} {s : Store} {f : Free} (h : Sim 
       (λ n8. eq-or ph 9 (λ e. rw e (handshake-stepped h (pre-flip (omega arith) (omega arith))))
       (λ n9. eq-or ph 10 (λ e. rw e (root-flip-stepped h (p ∙ e)))
       (λ n10. eq-or ph 11 (λ e. rw e (stack-flip-stepped h (p ∙ e)))
-      (λ n11. let e : ph ≡ 12 = omega arith in rw e (reclaim-stepped h (p ∙ e))))))))
+      (λ n11. let e : ph ≡ atReclaim = omega arith in rw e (reclaim-stepped h (p ∙ e))))))))
 
   pub unit-stepped : Stepped K m s f (getD units (s .phase) handshake s)
   unit-stepped = lt-or (s .phase) 6 (λ l. first-units (s .phase) refl (omega arith)) (last-units (s .phase) refl (h .range .phases))

@@ -10,9 +10,10 @@ use borrow.Author.Tests.{leb-true}
 use Rattle.rules.specs.Refusals.{_>>=_, done}
 use Rattle.rules.specs.Memory.{null}
 use Rattle.rules.specs.Control.{Store, registerCount}
-use Rattle.rules.specs.Phases.{levelOf, sessionAt, withSession}
+use Rattle.rules.specs.Phases.{withLevel, attachedAt, detached, levelOf, sessionAt, withSession}
 use Rattle.rules.specs.Calls as calls
 use Rattle.rules.specs.Free.{Free, freeSession, freeNobody, freeSessionOf, freeAttach, freeDetach}
+use Rattle.rules.specs.declared.Session.{Session}
 use Rattle.rules.proofs.Ranges.{in-range-tested}
 use Rattle.rules.proofs.memory.Lists.{zeros}
 use Rattle.rules.proofs.invariant.Sim.{Sim}
@@ -25,7 +26,7 @@ module _ {K : ℕ → Type 0} {m : ℕ → ℕ} {s : Store} {f : Free} (h : Sim 
   phase-level : levelOf (s .phase) ≤ 6
   phase-level = level-most (s .phase) (levelOf (s .phase)) (h .range .phases) (inl refl)
 
-  attached-fits : SessionFits K m s (record { registers = replicate registerCount null; level = levelOf (s .phase); attached = true; scanned = false })
+  attached-fits : SessionFits K m s (attachedAt (levelOf (s .phase)))
       (record { attached = true; registers = replicate registerCount null })
   attached-fits = record {
     registers = refl;
@@ -39,7 +40,7 @@ module _ {K : ℕ → Type 0} {m : ℕ → ℕ} {s : Store} {f : Free} (h : Sim 
     free-idle = λ e. absurd (true≢false e);
   }
 
-  detached-fits : (b : Bool) → SessionFits K m s (record { registers = replicate registerCount null; level = 0; attached = false; scanned = b }) freeNobody
+  detached-fits : (x : Session) → SessionFits K m s (detached x) freeNobody
   detached-fits b = record {
     registers = refl;
     free-registers = refl;
@@ -54,7 +55,7 @@ module _ {K : ℕ → Type 0} {m : ℕ → ℕ} {s : Store} {f : Free} (h : Sim 
 
   -- the session at the phase's level
   safe-fits : (n : ℕ) → n ≤ 15
-      → SessionFits K m s (record { registers = sessionAt s n .registers; level = levelOf (s .phase); attached = sessionAt s n .attached; scanned = sessionAt s n .scanned }) (freeSession f n)
+      → SessionFits K m s (withLevel (sessionAt s n) (levelOf (s .phase))) (freeSession f n)
   safe-fits n l = let z = session-fits h n l in record {
     registers = z .registers;
     free-registers = z .free-registers;
@@ -75,7 +76,7 @@ module _ {K : ℕ → Type 0} {m : ℕ → ℕ} {s : Store} {f : Free} (h : Sim 
 
   pub detach-alike : (n q : ℕ) → Alike K q m s (calls.detach s n) (freeDetach f n)
   unfolding calls.detach freeDetach withSession
-  detach-alike n q = both-session h n _ _ (λ a. alike-done (session-sim h n (a .number) (detached-fits _)) refl refl refl)
+  detach-alike n q = both-session h n _ _ (λ a. alike-done (session-sim h n (a .number) (detached-fits (sessionAt s n))) refl refl refl)
 
   -- the collector-free store has no safe point: beside it the same session tests, and nothing changed
   pub safe-point-alike : (n q : ℕ) → Alike K q m s (calls.safePoint s n) (freeSessionOf f n >>= λ x. done f)

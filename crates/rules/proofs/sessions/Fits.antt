@@ -10,6 +10,7 @@ use Rattle.rules.specs.Control.{Store}
 use Rattle.rules.specs.Phases.{otherHalf, sessionAt}
 use Rattle.rules.specs.Free.{Free, FreeSession, freeSession}
 use Rattle.rules.specs.declared.Session.{Session}
+use Rattle.rules.proofs.invariant.Turns.{atAllocate, atHeapMark, atRootFlip, atRootMark, atStackFlip}
 use Rattle.rules.proofs.memory.Cases.{bool-or}
 use Rattle.rules.proofs.invariant.Words.{Ok, ok-null, Names, Clean}
 use Rattle.rules.proofs.invariant.Groups.{NoFlip}
@@ -21,9 +22,9 @@ pub record WordFits (K : ℕ → Type 0) (m : ℕ → ℕ) (s : Store) (x : Sess
   pub ok : Ok (s .memory) v
   pub is : q ≡ m v
   pub names : NoFlip (s .phase) → Names (s .current) v
-  pub marked : s .phase ≡ 11 → x .scanned ≡ true → Names (otherHalf (s .current)) v
-  pub scanned : s .phase ≡ 4 → x .scanned ≡ true → Clean (s .memory) (s .current) v
-  pub clean : 5 ≤ s .phase → s .phase ≤ 11 → Clean (s .memory) (s .current) v
+  pub marked : s .phase ≡ atStackFlip → x .scanned ≡ true → Names (otherHalf (s .current)) v
+  pub scanned : s .phase ≡ atHeapMark → x .scanned ≡ true → Clean (s .memory) (s .current) v
+  pub clean : atAllocate ≤ s .phase → s .phase ≤ atStackFlip → Clean (s .memory) (s .current) v
   pub kept : q ≢ null → K q
 
 -- it goes by the mark of the session alone
@@ -47,7 +48,7 @@ pub record SessionFits (K : ℕ → Type 0) (m : ℕ → ℕ) (s : Store) (x : S
   pub allowed : x .attached ≡ true → Allowed (s .phase) (x .level)
   pub idle : x .attached ≡ false → (k : ℕ) → getD (x .registers) k null ≡ null
   -- HeapMark marks a session only while the list is done
-  pub done : s .phase ≡ 4 → x .attached ≡ true → x .scanned ≡ true → s .list .head ≡ s .list .tail
+  pub done : s .phase ≡ atHeapMark → x .attached ≡ true → x .scanned ≡ true → s .list .head ≡ s .list .tail
   pub words : x .attached ≡ true → (k : ℕ) → WordFits K m s x (getD (x .registers) k null) (getD (y .registers) k null)
   pub free-idle : x .attached ≡ false → (k : ℕ) → getD (y .registers) k null ≡ null
 
@@ -56,10 +57,10 @@ pub record GlobalFits (K : ℕ → Type 0) (m : ℕ → ℕ) (s : Store) (g v q 
   pub ok : Ok (s .memory) v
   pub is : q ≡ m v
   pub names : NoFlip (s .phase) → Names (s .current) v
-  pub flipping : s .phase ≡ 10 → g < s .walk .place → Names (otherHalf (s .current)) v
-  pub flipped : s .phase ≡ 11 → Names (otherHalf (s .current)) v
-  pub below : s .phase ≡ 3 → g < s .walk .place → Clean (s .memory) (s .current) v
-  pub clean : 4 ≤ s .phase → s .phase ≤ 11 → Clean (s .memory) (s .current) v
+  pub flipping : s .phase ≡ atRootFlip → g < s .walk .place → Names (otherHalf (s .current)) v
+  pub flipped : s .phase ≡ atStackFlip → Names (otherHalf (s .current)) v
+  pub below : s .phase ≡ atRootMark → g < s .walk .place → Clean (s .memory) (s .current) v
+  pub clean : atHeapMark ≤ s .phase → s .phase ≤ atStackFlip → Clean (s .memory) (s .current) v
   pub kept : q ≢ null → K q
 
 -- ---- a session that fits, attached or not
@@ -80,7 +81,7 @@ module _ {K : ℕ → Type 0} {m : ℕ → ℕ} {s : Store} {x : Session} {y : F
   pub fits-names : NoFlip (s .phase) → Names (s .current) (getD (x .registers) k null)
   fits-names a = each-word (λ v q. Names (s .current) v) (λ n. absurd (n refl)) (λ w. w .names a)
 
-  pub fits-clean : 5 ≤ s .phase → s .phase ≤ 11 → Clean (s .memory) (s .current) (getD (x .registers) k null)
+  pub fits-clean : atAllocate ≤ s .phase → s .phase ≤ atStackFlip → Clean (s .memory) (s .current) (getD (x .registers) k null)
   fits-clean a b = each-word (λ v q. Clean (s .memory) (s .current) v) (λ n. absurd (n refl)) (λ w. w .clean a b)
 
   pub fits-kept : getD (y .registers) k null ≢ null → K (getD (y .registers) k null)

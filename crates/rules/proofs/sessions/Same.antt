@@ -16,6 +16,7 @@ use Rattle.rules.specs.Calls as calls
 use Rattle.rules.specs.Calls.{isRegister}
 use Rattle.rules.specs.Free.{Free, freeSame}
 use Rattle.rules.specs.declared.Session.{Session}
+use Rattle.rules.proofs.invariant.Turns.{atPreFlip1, atStackFlip}
 use Rattle.rules.proofs.memory.Cases.{eq-or, lt-or}
 use Rattle.rules.proofs.memory.Encoding.{half-below-2, only-other}
 use Rattle.rules.proofs.memory.Records.{start-nonnull}
@@ -94,10 +95,10 @@ module _ {K : ℕ → Type 0} {m : ℕ → ℕ} {s : Store} {f : Free} (h : Sim 
 
   module _ {x : Session} {v q : ℕ} (t : WordFits K m s x v q) where
     -- from Flip on a record of fromspace has its replica; in Reclaim no word names fromspace
-    has-copy : 8 ≤ s .phase → In M (fromspace s) v → Pair M m v (replica M v)
+    has-copy : atPreFlip1 ≤ s .phase → In M (fromspace s) v → Pair M m v (replica M v)
     has-copy lo c = eq-or (s .phase) 12
         (λ e. absurd (other-not h (sym (rw (from-other h e) at (c .side)) ∙ t .names (omega arith) (start-nonnull (c .start)))))
-        (λ n. let hi : s .phase ≤ 11 = omega (arith, h .range .phases) in
+        (λ n. let hi : s .phase ≤ atStackFlip = omega (arith, h .range .phases) in
         let c′ : In M (s .current) v = rw (from-current h n) at c in
         h .pairs .pair v c′ (has-replica h (omega arith) hi c′ (t .clean (omega arith) hi)))
 

@@ -10,6 +10,7 @@ use Rattle.rules.specs.Control.{Store}
 use Rattle.rules.specs.Phases.{otherHalf}
 use Rattle.rules.specs.Free.{Free, recordAt}
 use Rattle.rules.specs.declared.Session.{Session}
+use Rattle.rules.proofs.invariant.Turns.{atHeapMark, atPreFlip2, atStackFlip}
 use Rattle.rules.proofs.memory.Cases.{eq-or}
 use Rattle.rules.proofs.memory.Records.{Start, start-nonnull}
 use Rattle.rules.proofs.invariant.Words.{In, field, plainOf, recOf}
@@ -38,12 +39,12 @@ module _ {K : ℕ → Type 0} {m : ℕ → ℕ} {s : Store} {f : Free} (h : Sim 
   free-plains = h .identity .nplains v z
 
 -- the phases in which words may name the other half
-flips : (ph : ℕ) → (NoFlip ph → ⊥) → (9 ≤ ph) × (ph ≤ 11)
+flips : (ph : ℕ) → (NoFlip ph → ⊥) → (atPreFlip2 ≤ ph) × (ph ≤ atStackFlip)
 flips ph c =
     eq-or ph 9 (λ e. omega arith) (λ a. eq-or ph 10 (λ e. omega arith) (λ b. eq-or ph 11 (λ e. omega arith) (λ d. absurd (c (a, b, d)))))
 
 module _ {K : ℕ → Type 0} {m : ℕ → ℕ} {s : Store} {f : Free} (h : Sim K m s f) {x : Session} {v q : ℕ} (t : WordFits K m s x v q) (z : Start (s .memory) v)
-    (done : s .phase ≡ 4 → x .scanned ≡ true → s .list .head ≡ s .list .tail) where
+    (done : s .phase ≡ atHeapMark → x .scanned ≡ true → s .list .head ≡ s .list .tail) where
   abbrev M : Memory
   M = s .memory
 
@@ -53,10 +54,10 @@ module _ {K : ℕ → Type 0} {m : ℕ → ℕ} {s : Store} {f : Free} (h : Sim 
   -- ---- of the current half
 
   -- while the list is done no record is grey
-  not-grey : s .phase ≡ 4 → x .scanned ≡ true → In M (s .current) v → colour M v ≢ grey
+  not-grey : s .phase ≡ atHeapMark → x .scanned ≡ true → In M (s .current) v → colour M v ≢ grey
   not-grey p b c g = let w = h .grey-list .found (omega arith) (omega arith) v c g in omega (arith, done p b, w .1, w .2)
 
-  scanned-black : s .phase ≡ 4 → x .scanned ≡ true → In M (s .current) v → colour M v ≡ black
+  scanned-black : s .phase ≡ atHeapMark → x .scanned ≡ true → In M (s .current) v → colour M v ≡ black
   scanned-black p b c =
       omega (arith, h .filled .colours z, t .scanned p b (start-nonnull z) (c .side), not-grey p b c)
 
@@ -73,7 +74,7 @@ module _ {K : ℕ → Type 0} {m : ℕ → ℕ} {s : Store} {f : Free} (h : Sim 
 
   -- ---- of the other half: what its original gives
   module _ (c : In M (otherHalf (s .current)) v) where
-    flipping : (9 ≤ s .phase) × (s .phase ≤ 11)
+    flipping : (atPreFlip2 ≤ s .phase) × (s .phase ≤ atStackFlip)
     flipping = flips (s .phase) (λ a. other-not h (sym (c .side) ∙ t .names a (start-nonnull z)))
 
     away-ref : (i : ℕ) → i < refs M v → WordFits K m s x (field M v i) (getD (recOf (f .records) (m v) .refs) i null)
