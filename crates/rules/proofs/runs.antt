@@ -7,6 +7,8 @@ pub mod Step
 pub mod Call
 -- runs: the invariant, and the session answers
 pub mod Runs
+-- the halves without gaps
+pub mod Filled
 -- what a collection frees
 pub mod Freed
 -- the claims 2 to 4

@@ -1,12 +1,12 @@
 -- The claims about the rules. Together with the contracts of the code they say points 1, 2 and 3.
-use Prim.Native.Nat.{ℕ, _<_}
+use Prim.Native.Nat.{ℕ, _+_, _<_}
 use mathlib.Core.Path.{_≡_}
 use mathlib.Core.Logic.{_≢_, _⊎_}
 use mathlib.Core.Bool.{true}
 use mathlib.Core.List.{List, _∷_, map, List·Memᴰ}
 use lib.ListN.{getD, length}
 use Rattle.rules.specs.Refusals.{answer}
-use Rattle.rules.specs.Memory.{frontier}
+use Rattle.rules.specs.Memory.{Memory, frontier, reference, size, sound}
 use Rattle.rules.specs.Control.{Store, make, inRange}
 use Rattle.rules.specs.Phases.{otherHalf}
 use Rattle.rules.specs.Runs.{Call, Step, apply, after, sessionCalls, sessionRun, feeds}
@@ -43,6 +43,15 @@ NoDamage =
 -- every number that the control record holds stays in its range
 unfoldable pub StaysInRange : Type 0
 StaysInRange = (s : Store) → Made s → (cs : List Call) → inRange (after s cs) ≡ true
+
+-- the records of half h from word k on: each is sound, the next begins where it ends, and the last ends at the frontier
+pub data FilledFrom (M : Memory) (h : ℕ) : ℕ → Type 0 where
+  at-frontier : FilledFrom M h (frontier M h)
+  at-record : (k : ℕ) → sound M (reference h k) ≡ true → FilledFrom M h (k + size M (reference h k)) → FilledFrom M h k
+
+-- Memory and references: "Each half has a frontier: records fill words 0 up to it without gaps". In every run, of both halves.
+unfoldable pub Filled : Type 0
+Filled = (s : Store) → Made s → (cs : List Call) (h : ℕ) → h < 2 → FilledFrom (after s cs .memory) h 0
 
 -- ---- 3. Two runs
 -- Point 3: "two runs with the same calls agree exactly when the same allocations met no room". The calls are the session calls;

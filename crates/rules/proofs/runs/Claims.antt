@@ -1,15 +1,16 @@
--- The claims about runs: answers, no damage, ranges, two runs, what is freed.
+-- The claims about runs: answers, no damage, ranges, halves without gaps, two runs, what is freed.
 use Prim.Native.Nat.{ℕ}
 use mathlib.Core.List.{List}
 use Rattle.rules.specs.Control.{Store}
 use Rattle.rules.specs.Runs.{Call}
 use Rattle.rules.specs.Tracking.{newBeside, beside}
-use Rattle.rules.specs.Claims.{Made, Answers, NoDamage, StaysInRange, TwoRuns, Freed}
+use Rattle.rules.specs.Claims.{Made, Answers, NoDamage, StaysInRange, Filled, TwoRuns, Freed}
 use Rattle.rules.proofs.Ranges.{in-range-tested}
 use Rattle.rules.proofs.claims.TwoRuns as pair
 use Rattle.rules.proofs.runs.Start.{start-sim}
 use Rattle.rules.proofs.runs.Call.{one-call}
 use Rattle.rules.proofs.runs.Runs.{Holds, run-holds, beside-store, run-answers}
+use Rattle.rules.proofs.runs.Filled.{filled-half}
 use Rattle.rules.proofs.runs.Freed.{freed-between}
 
 -- every place may stay
@@ -37,6 +38,10 @@ no-damage s made cs c =
 pub stays-in-range : StaysInRange
 unfolding StaysInRange
 stays-in-range s made cs = rw (← beside-store (newBeside s) cs) (in-range-tested (holds s made cs .range))
+
+pub filled : Filled
+unfolding Filled
+filled s made cs h two = rw (← beside-store (newBeside s) cs) (filled-half (holds s made cs .filled) two)
 
 pub two-runs : TwoRuns
 two-runs = pair.two-runs answers
