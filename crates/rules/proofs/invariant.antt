@@ -26,5 +26,7 @@ pub mod Range
 -- facts on words that carry over to another memory; what is counted of a record
 pub mod Carried
 pub mod Counted
+-- the invariant looks at the places of records alone
+pub mod Places
 -- the record at the walk, and the walk moved
 pub mod Walked

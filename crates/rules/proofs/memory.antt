@@ -10,8 +10,9 @@ pub mod Encoding
 pub mod Chain
 -- the halves of a changed memory
 pub mod Halves
--- records of a memory; the reference that the next one gets
+-- records of a memory; whether a reference names one; the reference that the next one gets
 pub mod Records
+pub mod Decided
 pub mod Next
 -- a walk over the records of a half
 pub mod Walk

@@ -9,7 +9,8 @@ pub mod Call
 pub mod Runs
 -- the halves without gaps
 pub mod Filled
--- what a collection frees
+-- what a collection frees, and that it stays so
 pub mod Freed
+pub mod StaysFreed
 -- the claims 2 to 4
 pub mod Claims

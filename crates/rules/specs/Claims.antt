@@ -10,7 +10,7 @@ use Rattle.rules.specs.Memory.{Memory, frontier, reference, size, sound}
 use Rattle.rules.specs.Control.{Store, make, inRange}
 use Rattle.rules.specs.Phases.{otherHalf}
 use Rattle.rules.specs.Runs.{Call, Step, apply, after, sessionCalls, sessionRun, feeds}
-use Rattle.rules.specs.Free.{newFree, freeRun}
+use Rattle.rules.specs.Free.{Free, newFree, freeRun}
 use Rattle.rules.specs.Tracking.{Beside, newBeside, beside, Reached, recordsOf, wordsAt}
 use Rattle.rules.specs.Examples.{starred}
 use Rattle.rules.specs.declared.Answer.the-variants.{Refused, Done}
@@ -62,11 +62,19 @@ TwoRuns =
     → (sessionRun s cs ≡ sessionRun t ds → feeds s cs ≡ feeds t ds) × (feeds s cs ≡ feeds t ds → sessionRun s cs ≡ sessionRun t ds)
 
 -- ---- 4. Freed
+-- the places that a collection may keep: reached when it began, with the collector-free store f, or allocated since
+abbrev pub Living : Free → ℕ → Type 0
+Living f q = Reached f q ⊎ length (f .records) < q
+
+-- the places of the records that half h holds
+abbrev pub placesIn : Beside → ℕ → List ℕ
+placesIn e h = map (e .place) (recordsOf (e .store .memory) h)
+
 -- Point 2: "what was unreachable when a collection began takes up no word when it has ended". b is the run as a step leaves
 -- phase 0, e as a later one has come back to it; left are the places of the records that the current half then holds.
 pub record FreedBetween (b e : Beside) (left : List ℕ) : Type 0 where
   -- each was reached when the collection began, or has been allocated since
-  pub kept : (q : ℕ) → List·Memᴰ q left → Reached (b .free) q ⊎ length (b .free .records) < q
+  pub kept : (q : ℕ) → List·Memᴰ q left → Living (b .free) q
   -- each is there once
   pub once : (i j : ℕ) → i < length left → j < length left → getD left i 0 ≡ getD left j 0 → i ≡ j
   -- the current half's used words are exactly theirs, and the other half has none
@@ -74,7 +82,7 @@ pub record FreedBetween (b e : Beside) (left : List ℕ) : Type 0 where
   pub emptied : frontier (e .store .memory) (otherHalf (e .store .current)) ≡ 0
 
 abbrev pub leftIn : Beside → List ℕ
-leftIn e = map (e .place) (recordsOf (e .store .memory) (e .store .current))
+leftIn e = placesIn e (e .store .current)
 
 unfoldable pub Freed : Type 0
 Freed =
@@ -82,6 +90,16 @@ Freed =
     → after s cs .phase ≡ 0 → after (after s cs) (Step ∷ ds) .phase ≡ 0
     → FreedBetween (beside (newBeside s) cs) (beside (beside (newBeside s) cs) (Step ∷ ds))
     (leftIn (beside (beside (newBeside s) cs) (Step ∷ ds)))
+
+-- "takes up no word when it has ended", and no word ever after: after any further calls es, each record that either half holds was
+-- reached when that collection began, or has been allocated since
+unfoldable pub StaysFreed : Type 0
+StaysFreed =
+    (s : Store) → Made s → (cs ds : List Call)
+    → after s cs .phase ≡ 0 → after (after s cs) (Step ∷ ds) .phase ≡ 0
+    → (es : List Call) (h : ℕ) → h < 2
+    → (q : ℕ) → List·Memᴰ q (placesIn (beside (beside (beside (newBeside s) cs) (Step ∷ ds)) es) h)
+    → Living (beside (newBeside s) cs .free) q
 
 -- ---- 5. Starred examples
 -- "The starred examples are proved of the rules as one table with one theorem"

@@ -80,9 +80,9 @@ roots-carried r g same k = record {
 }
 
 -- what is kept alive, where only what marking has met or a collection has left is asked anew
-pub kept-carried : {K : ℕ → Type 0} {M M′ : Memory} {m : ℕ → ℕ} {cur cur′ ph ph′ : ℕ} {rs : List Record} {ys : List FreeSession} {fgs : List ℕ}
-    → (atPreMark1 ≤ ph′ → ph′ ≤ 11 → (v : ℕ) → In M′ cur′ v → colour M′ v ≢ white → K (m v)) → (ph′ ≡ 12 → (v : ℕ) → In M′ cur′ v → K (m v))
-    → (ph′ ≡ 0 → (v : ℕ) → In M′ cur′ v → K (m v)) → Kept K M m cur ph rs ys fgs → Kept K M′ m cur′ ph′ rs ys fgs
+pub kept-carried : {K : ℕ → Type 0} {M M′ : Memory} {m m′ : ℕ → ℕ} {cur cur′ ph ph′ : ℕ} {rs : List Record} {ys : List FreeSession} {fgs : List ℕ}
+    → (atPreMark1 ≤ ph′ → ph′ ≤ 11 → (v : ℕ) → In M′ cur′ v → colour M′ v ≢ white → K (m′ v)) → (ph′ ≡ 12 → (v : ℕ) → In M′ cur′ v → K (m′ v))
+    → (ph′ ≡ 0 → (v : ℕ) → In M′ cur′ v → K (m′ v)) → Kept K M m cur ph rs ys fgs → Kept K M′ m′ cur′ ph′ rs ys fgs
 kept-carried a b c k = record {
   to-come = k .to-come;
   registers = k .registers;

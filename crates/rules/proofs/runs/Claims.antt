@@ -4,7 +4,7 @@ use mathlib.Core.List.{List}
 use Rattle.rules.specs.Control.{Store}
 use Rattle.rules.specs.Runs.{Call}
 use Rattle.rules.specs.Tracking.{newBeside, beside}
-use Rattle.rules.specs.Claims.{Made, Answers, NoDamage, StaysInRange, Filled, TwoRuns, Freed}
+use Rattle.rules.specs.Claims.{Made, Answers, NoDamage, StaysInRange, Filled, TwoRuns, Freed, StaysFreed}
 use Rattle.rules.proofs.Ranges.{in-range-tested}
 use Rattle.rules.proofs.claims.TwoRuns as pair
 use Rattle.rules.proofs.runs.Start.{start-sim}
@@ -12,6 +12,7 @@ use Rattle.rules.proofs.runs.Call.{one-call}
 use Rattle.rules.proofs.runs.Runs.{Holds, run-holds, beside-store, run-answers}
 use Rattle.rules.proofs.runs.Filled.{filled-half}
 use Rattle.rules.proofs.runs.Freed.{freed-between}
+use Rattle.rules.proofs.runs.StaysFreed.{freed-after}
 
 -- every place may stay
 abbrev Any : ℕ → Type 0
@@ -50,3 +51,8 @@ pub freed : Freed
 unfolding Freed
 freed s made cs ds begins ends =
     freed-between (beside (newBeside s) cs) (holds s made cs) (rw (beside-store (newBeside s) cs) begins) ds (rw (beside-store (newBeside s) cs) ends)
+
+pub stays-freed : StaysFreed
+unfolding StaysFreed
+stays-freed s made cs ds begins ends =
+    freed-after (beside (newBeside s) cs) (holds s made cs) (rw (beside-store (newBeside s) cs) begins) ds (rw (beside-store (newBeside s) cs) ends)

@@ -2,7 +2,7 @@
 -- reached then, or have been allocated since, as those to be kept.
 use Prim.Native.Nat.{ℕ, _-_, _<_}
 use mathlib.Core.Path.{_≡_, sym, ap, _∙_, fun-ext, subst}
-use mathlib.Core.Logic.{_≢_, _⊎_, inl, inr}
+use mathlib.Core.Logic.{_≢_, inl, inr}
 use mathlib.Core.List.{List, _∷_, List·Memᴰ}
 use native.Mathlib.Omega.{arith}
 use lib.ListN.{getD, length, List·getD-eq-default}
@@ -11,23 +11,20 @@ use Rattle.rules.specs.Control.{withList}
 use Rattle.rules.specs.Phases.{moveOn, nextPhase}
 use Rattle.rules.specs.Collector.{rest, step, walked, units, handshake}
 use Rattle.rules.specs.Runs.{Call, Step, apply, after}
-use Rattle.rules.specs.Free.{Free, Record, noRecord, recordAt, freeSession, freeRegister}
-use Rattle.rules.specs.Tracking.{Beside, track, besideCall, beside, Reached, by-register, by-global, by-field}
-use Rattle.rules.specs.Claims.{FreedBetween, leftIn}
+use Rattle.rules.specs.Free.{Record, noRecord, recordAt, freeSession, freeRegister}
+use Rattle.rules.specs.Tracking.{Beside, track, besideCall, beside, by-register, by-global, by-field}
+use Rattle.rules.specs.Claims.{Living, FreedBetween, leftIn, placesIn}
 use Rattle.rules.proofs.invariant.Turns.{atPreMark1, atRest}
 use Rattle.rules.proofs.Ranges.{in-range-tested}
 use Rattle.rules.proofs.memory.Records.{Start, size-fields}
+use Rattle.rules.proofs.memory.Empty.{empty-none}
 use Rattle.rules.proofs.memory.Listing.{mapped-start, mapped-once, mapped-words}
 use Rattle.rules.proofs.invariant.Words.{recOf}
 use Rattle.rules.proofs.invariant.Marking.{Kept}
-use Rattle.rules.proofs.invariant.Laws.{cur-two}
+use Rattle.rules.proofs.invariant.Laws.{cur-two, in-or}
 use Rattle.rules.proofs.relation.Tracks.{tracked, tracks-none}
 use Rattle.rules.proofs.runs.Call.{one-call}
 use Rattle.rules.proofs.runs.Runs.{Holds, run-holds, beside-store}
-
--- the places to keep: reached when the collection begins, or allocated since
-abbrev pub Living : Free → ℕ → Type 0
-Living f q = Reached f q ⊎ length (f .records) < q
 
 -- ---- the step that leaves phase 0
 
@@ -101,29 +98,40 @@ module _ {K : ℕ → Type 0} (b : Beside) (h : Holds K b) (z : b .store .phase 
     kept = begun-kept;
   }
 
+-- ---- every record of either half has a place in K
+
+abbrev pub AllKept : (ℕ → Type 0) → Beside → Type 0
+AllKept K e = (v : ℕ) → Start (e .store .memory) v → K (e .place v)
+
+pub all-listed : {K : ℕ → Type 0} {e : Beside} → Holds K e → AllKept K e → {g : ℕ} → g < 2 → (q : ℕ) → List·Memᴰ q (placesIn e g) → K q
+all-listed {e = e} h all two q i = let l = mapped-start (h .filled) two (e .place) i in rw (l .value) at (all (l .named) (l .start))
+
 -- ---- back in phase 0
 
 module _ {K : ℕ → Type 0} {e : Beside} (h : Holds K e) (z : e .store .phase ≡ atRest) where
+  -- the current half has only such records, the other none
+  pub ended-kept : AllKept K e
+  ended-kept v t = in-or (e .store .current) (cur-two h) t
+      (h .kept .left-0 z v)
+      (λ o. absurd (empty-none (rw (o .side) (h .pairs .empty (omega arith))) t))
+
   sizes : (v : ℕ) → Start (e .store .memory) v → halfOf v ≡ e .store .current
       → sizeOf (length (recordAt (e .free) (e .place v) .refs)) (length (recordAt (e .free) (e .place v) .plains)) ≡ size (e .store .memory) v
   unfolding recordAt
   sizes v t side = rw (h .identity .nrefs v t, h .identity .nplains v t) (sym (size-fields (e .store .memory) v))
 
-  left-of : (q : ℕ) → List·Memᴰ q (leftIn e) → K q
-  left-of q i =
-      let l = mapped-start (h .filled) (cur-two h) (e .place) i in
-      rw (l .value) at (h .kept .left-0 z (l .named) (record { start = l .start; side = l .side }))
-
   ended : (b : Beside) → ((q : ℕ) → K q → Living (b .free) q) → FreedBetween b e (leftIn e)
   ended b k = record {
-    kept = λ q i. k q (left-of q i);
+    kept = λ q i. k q (all-listed h ended-kept (cur-two h) q i);
     once = mapped-once (h .filled) (cur-two h) (e .place) (λ u v t a w c. h .identity .apart u v t w (a ∙ sym c));
     used = sym (mapped-words (h .filled) (cur-two h) (e .place) (e .free) sizes);
     emptied = h .pairs .empty (omega arith);
   }
 
+-- the invariant from the step that leaves phase 0 on
+pub living-run : {K : ℕ → Type 0} (b : Beside) → Holds K b → b .store .phase ≡ atRest → (ds : List Call) → Holds (Living (b .free)) (beside (besideCall b Step) ds)
+living-run b h z ds = rw (first-step b h z) (run-holds (begun b) (living-holds b h z) ds)
+
 pub freed-between : {K : ℕ → Type 0} (b : Beside) → Holds K b → b .store .phase ≡ atRest → (ds : List Call) → after (b .store) (Step ∷ ds) .phase ≡ 0
     → FreedBetween b (beside b (Step ∷ ds)) (leftIn (beside b (Step ∷ ds)))
-freed-between b h z ds back =
-    let k : Holds (Living (b .free)) (beside (besideCall b Step) ds) = rw (first-step b h z) (run-holds (begun b) (living-holds b h z) ds) in
-    ended k (rw (beside-store b (Step ∷ ds)) back) b (λ q l. l)
+freed-between b h z ds back = ended (living-run b h z ds) (rw (beside-store b (Step ∷ ds)) back) b (λ q l. l)
