@@ -7,6 +7,7 @@ use native.Mathlib.Omega.{arith}
 use lib.Dec.{leb, eqb}
 use lib.ListN.{length, getD}
 use borrow.Author.Tests.{leb-true, eqb-true, le-leb, eq-eqb}
+use Rattle.rules.specs.Memory.{header}
 use Rattle.rules.specs.Refusals.{Tested, refused, passed, check, refusalOf, _>>_}
 use Rattle.rules.specs.Control.{Store, inRange, sameLengths, lengthsAllowed, halfAllowed, listAllowed, walkLimit, levelsInRange}
 use Rattle.rules.specs.Phases.{sessionAt, absent}
@@ -23,7 +24,7 @@ pub record InRange (s : Store) : Type 0 where
   pub least : 16 ≤ s .lengths .half0
   pub most : s .lengths .half0 ≤ 1048576
   pub equal : s .lengths .half0 ≡ s .lengths .half1
-  pub enough : s .lengths .half0 / 3 ≤ s .lengths .list
+  pub enough : s .lengths .half0 / header ≤ s .lengths .list
   pub half : s .current ≤ 1
   pub front0 : s .memory .frontier0 ≤ s .lengths .half0
   pub front1 : s .memory .frontier1 ≤ s .lengths .half0

@@ -7,14 +7,14 @@ use native.Mathlib.Nat.{le-refl, add-zero, not-suc-le-zero}
 use native.Mathlib.Omega.{arith}
 use lib.ListN.{length, getD, set, length-set}
 use lib.Seq.{sets, getD-set-same, getD-set-other}
-use Rattle.rules.specs.Memory.{sizeOf, refsOf, plainsOf}
+use Rattle.rules.specs.Memory.{header, sizeOf, refsOf, plainsOf}
 use Rattle.rules.proofs.memory.Cases.{lt-or, eq-or}
 
 -- the size of a record by its word 0
 unfoldable pub wordSize : ℕ → ℕ
 wordSize w = sizeOf (refsOf w) (plainsOf w)
 
-word-size-3 : (w : ℕ) → 3 ≤ wordSize w
+word-size-3 : (w : ℕ) → header ≤ wordSize w
 unfolding wordSize
 word-size-3 w = omega arith
 
@@ -35,7 +35,7 @@ pub pos-suc : (ws : List ℕ) (n : ℕ) → pos ws (suc n) ≡ pos ws n + sizeAt
 unfolding pos sizeAt
 pos-suc ws n = refl
 
-size-at-3 : (ws : List ℕ) (n : ℕ) → 3 ≤ sizeAt ws n
+size-at-3 : (ws : List ℕ) (n : ℕ) → header ≤ sizeAt ws n
 unfolding sizeAt
 size-at-3 ws n = word-size-3 (getD ws (pos ws n) 0)
 
@@ -64,7 +64,7 @@ pub pos-injective : (ws : List ℕ) (n m : ℕ) → pos ws n ≡ pos ws m → n 
 pos-injective ws n m e = omega (arith, le-of-pos ws n m (rw e (le-refl _)), le-of-pos ws m n (rw e (le-refl _)))
 
 -- 3 words a record at least
-pub pos-3 : (ws : List ℕ) (n : ℕ) → n * 3 ≤ pos ws n
+pub pos-3 : (ws : List ℕ) (n : ℕ) → n * header ≤ pos ws n
 pos-3 ws zero = zero-le
 pos-3 ws (suc n) = let q = pos-3 ws n in omega (arith, pos-suc ws n, size-at-3 ws n)
 

@@ -115,7 +115,7 @@ module _ {M : Memory} (k : Filled M) {h : ℕ} (two : h < 2) where
       sizes (suc n) = sum-suc _ n ∙ rw (sizes n, size-number M h n two) (sym (pos-suc (half M h) n))
 
   -- 3 words a record at least
-  pub total-count : total M h (λ v. 1) * 3 ≤ frontier M h
+  pub total-count : total M h (λ v. 1) * header ≤ frontier M h
   total-count = omega (arith, total-numbers (λ v. 1), sum-ones (k .count h), pos-3 (half M h) (k .count h), k .full h two)
 
 -- a weight that is 0 at every record of a half

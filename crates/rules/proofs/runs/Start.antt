@@ -8,7 +8,7 @@ use lib.Dec.{leb, eqb}
 use lib.ListN.{getD, length, getD-replicate}
 use borrow.Author.Tests.{leb-true, eqb-true}
 use Rattle.rules.specs.Refusals.{Tested, refused, passed, check, answer}
-use Rattle.rules.specs.Memory.{null, frontier, halfOf}
+use Rattle.rules.specs.Memory.{null, frontier, halfOf, header}
 use Rattle.rules.specs.Control.{Store, Lengths, lengthsOf, newStore, nobody, halfAllowed, listAllowed, making, madeBy, make, walkLimit}
 use Rattle.rules.specs.Phases.{otherHalf, sessionAt, absent}
 use Rattle.rules.specs.Free.{newFree, freeNobody, freeAbsent}
@@ -31,7 +31,7 @@ pub record Fit (h0 h1 ws : List ℕ) : Type 0 where
   pub least : 16 ≤ length h0
   pub most : length h0 ≤ 1048576
   pub equal : length h0 ≡ length h1
-  pub enough : length h0 / 3 ≤ length ws
+  pub enough : length h0 / header ≤ length ws
 
 module _ (K : ℕ → Type 0) (to-come : (q : ℕ) → 0 < q → K q) (h0 h1 ws : List ℕ) (fit : Fit h0 h1 ws) where
   abbrev s : Store
@@ -196,7 +196,7 @@ fit-of h0 h1 ws e =
       least = leb-true _ _ (d .0);
       most = leb-true _ _ (d .1);
       equal = eqb-true _ _ (b .0);
-      enough = leb-true _ _ (last (leb (length h0 / 3) (length ws)) (b .1));
+      enough = leb-true _ _ (last (leb (length h0 / header) (length ws)) (b .1));
     }
 
 accepted : (t : Tested (Unit {0})) (n : Lengths) (h0 h1 ws : List ℕ) → madeBy t n h0 h1 ws .reply ≡ answer Done → t ≡ passed tt
