@@ -15,7 +15,7 @@ use Rattle.rules.proofs.memory.Cases.{lt-or, eq-or, either}
 use Rattle.rules.proofs.memory.Encoding.{half-reference, word-reference, half-below-2, reference-again}
 use Rattle.rules.proofs.memory.Chain.{pos, sizeAt, pos-suc, pos-lt, lt-of-pos, le-of-pos, sets-before, sets-in, pos-sets}
 use Rattle.rules.proofs.memory.Halves.{half-same, half-other, frontier-half, half-frontier, frontier-same, frontier-other, length-half}
-use Rattle.rules.proofs.memory.Records.{Start, Filled, start-at, size-number, size-fields, size-3, start-whole}
+use Rattle.rules.proofs.memory.Records.{Start, Filled, start-at, size-number, size-fields, size-least, start-whole}
 use Rattle.rules.proofs.memory.Walk.{Walk}
 use Rattle.rules.proofs.memory.Same.{SameStarts, start-kept, start-back, walk-kept}
 
@@ -146,11 +146,11 @@ module _ {M : Memory} {h w c n : ℕ} (a : Appendable M h w c n) (v : ℕ) where
       (λ d. rw (append-there M h vs (halfOf u) (a .side) (half-below-2 u) d))
 
   shape-old : {u : ℕ} → Start M u → word M′ u shapeAt ≡ word M u shapeAt
-  shape-old {u} s = word-old s shapeAt (omega (arith, size-3 M u))
+  shape-old {u} s = word-old s shapeAt (omega (arith, size-least M u))
 
   colour-old : {u : ℕ} → Start M u → colour M′ u ≡ colour M u
   unfolding colour
-  colour-old {u} s = word-old s colourAt (omega (arith, size-3 M u))
+  colour-old {u} s = word-old s colourAt (omega (arith, size-least M u))
 
   shape-new : word M′ (nextReference M h) shapeAt ≡ w
   shape-new = word-new shapeAt (omega arith) ∙ record-shape w c v n

@@ -10,7 +10,7 @@ use Rattle.rules.proofs.memory.Cases.{eq-or}
 use Rattle.rules.proofs.memory.Encoding.{half-below-2}
 use Rattle.rules.proofs.memory.Chain.{pos, pos-set}
 use Rattle.rules.proofs.memory.Halves.{half-same, half-other, frontier-half, length-half}
-use Rattle.rules.proofs.memory.Records.{Start, Filled, refs-same, plains-same, size-at, size-3, start-inside, starts-apart}
+use Rattle.rules.proofs.memory.Records.{Start, Filled, refs-same, plains-same, size-at, size-least, start-inside, starts-apart}
 use Rattle.rules.proofs.memory.Walk.{Walk}
 use Rattle.rules.proofs.memory.Same.{SameStarts, start-kept, start-back, walk-kept}
 
@@ -71,12 +71,12 @@ module _ {M : Memory} (f : Filled M) {v : ℕ} (s : Start M v) (j x : ℕ) (past
       (λ e. rw (put-there M v j x (halfOf w) (half-below-2 w) e))
 
   put-shape : {w : ℕ} → Start M w → word (put M v j x) w shapeAt ≡ word M w shapeAt
-  put-shape {w} t = put-same t shapeAt (omega (arith, size-3 M w)) (inr (omega arith))
+  put-shape {w} t = put-same t shapeAt (omega (arith, size-least M w)) (inr (omega arith))
 
   put-colour-bound : (j ≡ colourAt → x ≤ black) → {w : ℕ} → Start M w → colour (put M v j x) w ≤ black
   unfolding colour
   put-colour-bound small {w} t =
-      let keep : w ≢ v ⊎ colourAt ≢ j → word (put M v j x) w colourAt ≤ black = λ d. rw (put-same t colourAt (omega (arith, size-3 M w)) d) (f .colours t) in
+      let keep : w ≢ v ⊎ colourAt ≢ j → word (put M v j x) w colourAt ≤ black = λ d. rw (put-same t colourAt (omega (arith, size-least M w)) d) (f .colours t) in
       eq-or w v
       (λ e. eq-or colourAt j
       (λ q. let n : word (put M v j x) v colourAt ≡ x = ap (word (put M v j x) v) q ∙ put-new in rw (e, n) (small (sym q)))
@@ -107,10 +107,10 @@ module _ {M : Memory} (f : Filled M) {v : ℕ} (s : Start M v) (j x : ℕ) (past
 -- the writes that there are: the colour, the replica word, a field
 module _ {M : Memory} (f : Filled M) {v : ℕ} (s : Start M v) where
   pub put-colour : (c : ℕ) → c ≤ black → PutKept M (put M v colourAt c) v colourAt c
-  put-colour c l = put-kept f s colourAt c (omega arith) (omega (arith, size-3 M v)) (λ e. l)
+  put-colour c l = put-kept f s colourAt c (omega arith) (omega (arith, size-least M v)) (λ e. l)
 
   pub put-replica : (x : ℕ) → PutKept M (put M v replicaAt x) v replicaAt x
-  put-replica x = put-kept f s replicaAt x (omega arith) (omega (arith, size-3 M v)) (λ e. absurd (omega arith))
+  put-replica x = put-kept f s replicaAt x (omega arith) (omega (arith, size-least M v)) (λ e. absurd (omega arith))
 
   pub put-field : (j x : ℕ) → header ≤ j → j < size M v → PutKept M (put M v j x) v j x
   put-field j x p l = put-kept f s j x (omega arith) l (λ e. absurd (omega arith))

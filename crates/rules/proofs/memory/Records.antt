@@ -63,8 +63,8 @@ pub size-fields : (M : Memory) (v : ℕ) → size M v ≡ header + refs M v + pl
 unfolding size
 size-fields M v = refl
 
-pub size-3 : (M : Memory) (v : ℕ) → header ≤ size M v
-size-3 M v = omega (arith, size-fields M v)
+pub size-least : (M : Memory) (v : ℕ) → header ≤ size M v
+size-least M v = omega (arith, size-fields M v)
 
 pub ref-inside : (M : Memory) (v i : ℕ) → i < refs M v → header + i < size M v
 ref-inside M v i l = omega (arith, size-fields M v)
