@@ -8,7 +8,7 @@ use native.Mathlib.Nat.{le-refl}
 use native.Mathlib.Omega.{arith}
 use lib.Dec.{eqb}
 use lib.ListN.{length, getD, length-replicate, getD-replicate}
-use lib.Seq.{sets, length-sets}
+use lib.Seq.{sets, length-sets, getD-drop}
 use borrow.Author.Tests.{eq-eqb, ne-eqb}
 use Rattle.rules.specs.Memory.{Memory, half, frontier, withHalf, reference, halfOf, wordOf, refsOf, plainsOf, newRecord, word, append, nextReference, colour, replica, refs, plains, size, header, shapeAt, mostShape, colourAt, replicaAt, black}
 use Rattle.rules.proofs.memory.Cases.{lt-or, eq-or, either}
@@ -50,7 +50,7 @@ length-record w c v n = rw length-replicate (omega arith)
 
 record-zero : (w c v n i : ℕ) → i < n → getD (newRecord w c v n) (header + i) 0 ≡ 0
 unfolding newRecord
-record-zero w c v n i l = let e : header + i ≡ suc (suc (suc i)) = omega arith in rw e (getD-replicate n i 0 0 l)
+record-zero w c v n i l = sym (getD-drop header (newRecord w c v n) i 0) ∙ getD-replicate n i 0 0 l
 
 record-shape : (w c v n : ℕ) → getD (newRecord w c v n) shapeAt 0 ≡ w
 unfolding newRecord
