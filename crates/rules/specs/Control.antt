@@ -122,16 +122,18 @@ withCurrent s h =
 abbrev pub phaseCount : ℕ
 phaseCount = 13
 
+-- "32 global references"
 abbrev pub globalCount : ℕ
 globalCount = 32
 
+-- "16 sessions, each with eight registers"
 abbrev pub sessionCount : ℕ
 sessionCount = 16
 
 abbrev pub registerCount : ℕ
 registerCount = 8
 
--- the last number of each: "session number above 15", "register above 7", "global above 31"
+-- the last number of each: 5 "number above 15", 8 "register above 7", 9 "global above 31"
 abbrev pub lastSession : ℕ
 lastSession = sessionCount - 1
 

@@ -73,7 +73,7 @@ header = 3
 abbrev pub mostCount : ℕ
 mostCount = 255
 
--- word 0 of a record with r reference and p plain fields
+-- word 0 of a record with r reference and p plain fields; 256 is one more than mostCount
 unfoldable pub shapeWord : ℕ → ℕ → ℕ
 shapeWord r p = 256 * r + p
 
