@@ -7,8 +7,9 @@ use native.Mathlib.Omega.{arith}
 use lib.Dec.{leb, eqb}
 use lib.ListN.{length, getD}
 use borrow.Author.Tests.{leb-true, eqb-true, le-leb, eq-eqb}
+use Rattle.rules.specs.Memory.{header}
 use Rattle.rules.specs.Refusals.{Tested, refused, passed, check, refusalOf, _>>_}
-use Rattle.rules.specs.Control.{Store, inRange, sameLengths, lengthsAllowed, halfAllowed, listAllowed, walkLimit, levelsInRange}
+use Rattle.rules.specs.Control.{Store, inRange, sameLengths, lengthsAllowed, halfAllowed, listAllowed, walkLimit, levelsInRange, globalCount, lastSession, lastLevel, mostFields, leastLength, mostLength}
 use Rattle.rules.specs.Phases.{sessionAt, absent}
 use Rattle.rules.specs.Calls.{sessionOf}
 use Rattle.rules.specs.declared.Session.{Session}
@@ -20,19 +21,19 @@ pub record InRange (s : Store) : Type 0 where
   pub lent0 : s .lengths .half0 ≡ length (s .memory .half0)
   pub lent1 : s .lengths .half1 ≡ length (s .memory .half1)
   pub lent2 : s .lengths .list ≡ length (s .list .words)
-  pub least : 16 ≤ s .lengths .half0
-  pub most : s .lengths .half0 ≤ 1048576
+  pub least : leastLength ≤ s .lengths .half0
+  pub most : s .lengths .half0 ≤ mostLength
   pub equal : s .lengths .half0 ≡ s .lengths .half1
-  pub enough : s .lengths .half0 / 3 ≤ s .lengths .list
+  pub enough : s .lengths .half0 / header ≤ s .lengths .list
   pub half : s .current ≤ 1
   pub front0 : s .memory .frontier0 ≤ s .lengths .half0
   pub front1 : s .memory .frontier1 ≤ s .lengths .half0
   pub phases : s .phase ≤ 12
   pub places : s .walk .place ≤ walkLimit (s .phase) (s .lengths .half0)
-  pub fields : s .walk .field ≤ 510
+  pub fields : s .walk .field ≤ mostFields
   pub begins : s .list .head ≤ s .list .tail
   pub ends : s .list .tail ≤ s .lengths .list
-  pub levels : (n : ℕ) → sessionAt s n .level ≤ 6
+  pub levels : (n : ℕ) → sessionAt s n .level ≤ lastLevel
 
 -- both of two tests that passed together
 pub both : (a b : Bool) → (a && b) ≡ true → (a ≡ true) × (b ≡ true)
@@ -43,12 +44,12 @@ pub together : {a b : Bool} → a ≡ true → b ≡ true → (a && b) ≡ true
 together {a = true} p q = q
 together {a = false} p q = p
 
-levels-known : (xs : List Session) → levelsInRange xs ≡ true → (n : ℕ) → getD xs n absent .level ≤ 6
+levels-known : (xs : List Session) → levelsInRange xs ≡ true → (n : ℕ) → getD xs n absent .level ≤ lastLevel
 levels-known [] e n = omega arith
-levels-known (x ∷ xs) e zero = leb-true _ _ (both (leb (x .level) 6) _ e .0)
-levels-known (x ∷ xs) e (suc n) = levels-known xs (both (leb (x .level) 6) _ e .1) n
+levels-known (x ∷ xs) e zero = leb-true _ _ (both (leb (x .level) lastLevel) _ e .0)
+levels-known (x ∷ xs) e (suc n) = levels-known xs (both (leb (x .level) lastLevel) _ e .1) n
 
-levels-tested : (xs : List Session) → ((n : ℕ) → getD xs n absent .level ≤ 6) → levelsInRange xs ≡ true
+levels-tested : (xs : List Session) → ((n : ℕ) → getD xs n absent .level ≤ lastLevel) → levelsInRange xs ≡ true
 levels-tested [] k = refl
 levels-tested (x ∷ xs) k = together (le-leb _ _ (k 0)) (levels-tested xs (λ n. k (suc n)))
 
@@ -102,11 +103,11 @@ in-range-tested {s} k =
     (levels-tested (s .sessions) (k .levels))
 
 -- the walk place in every phase
-limit-small : (b : Bool) (n : ℕ) → 16 ≤ n → n ≤ 1048576 → cond b 32 n ≤ 1048576
+limit-small : (b : Bool) (n : ℕ) → leastLength ≤ n → n ≤ mostLength → cond b globalCount n ≤ mostLength
 limit-small true n l m = omega arith
 limit-small false n l m = m
 
-pub place-small : {s : Store} → InRange s → s .walk .place ≤ 1048576
+pub place-small : {s : Store} → InRange s → s .walk .place ≤ mostLength
 unfolding walkLimit
 place-small {s} k = let l = limit-small (eqb (s .phase) 3 || eqb (s .phase) 10) _ (k .least) (k .most) in omega arith
 
@@ -120,7 +121,7 @@ fronts k = (omega arith, omega arith)
 -- the attached session x of a call with session number n
 pub record InSession (s : Store) (n : ℕ) (x : Session) : Type 0 where
   pub known : InRange s
-  pub number : n ≤ 15
+  pub number : n ≤ lastSession
   pub attached : sessionAt s n .attached ≡ true
   pub session : x ≡ sessionAt s n
 
@@ -133,14 +134,14 @@ pub in-session : {x : Session} (s : Store) (n : ℕ) → sessionOf s n ≡ passe
 unfolding sessionOf
 in-session {x} s n e =
     let a = after-check (inRange s) 4 _ e in
-    let b = after-check (leb n 15) 5 _ (a .1) in
+    let b = after-check (leb n lastSession) 5 _ (a .1) in
     let c = after-check (sessionAt s n .attached) 6 _ (b .1) in
     record { known = in-range s (a .0); number = leb-true _ _ (b .0); attached = c .0; session = cc }
 
 -- the same of the refusal number: where it is 0 the session is there, and where it isn't the call is refused with it
 pub session-passed : (s : Store) (n : ℕ) → refusalOf (sessionOf s n) ≡ 0 → sessionOf s n ≡ passed (sessionAt s n)
 unfolding sessionOf
-session-passed s n e = passing (inRange s) (leb n 15) (sessionAt s n .attached) e
+session-passed s n e = passing (inRange s) (leb n lastSession) (sessionAt s n .attached) e
   where
     passing : (a b c : Bool) → refusalOf (check a 4 >> (check b 5 >> (check c 6 >> passed (sessionAt s n)))) ≡ 0
         → (check a 4 >> (check b 5 >> (check c 6 >> passed (sessionAt s n)))) ≡ passed (sessionAt s n)

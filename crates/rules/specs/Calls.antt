@@ -5,8 +5,8 @@ use mathlib.Core.List.{List}
 use lib.Dec.{leb, ltb, eqb}
 use lib.ListN.{getD, set, take, drop, replicate}
 use Rattle.rules.specs.Refusals.{Tested, passed, check, _>>=_, _>>_, Outcome, done, answered}
-use Rattle.rules.specs.Memory.{half, null, halfOf, wordOf, header, word, refs, plains, refField, plainField, followed}
-use Rattle.rules.specs.Control.{Store, withMemory, withGlobals, inRange, registerCount}
+use Rattle.rules.specs.Memory.{half, null, halfOf, wordOf, header, mostCount, word, refs, plains, refField, plainField, followed}
+use Rattle.rules.specs.Control.{Store, withMemory, withGlobals, inRange, lastSession, lastRegister, lastGlobal}
 use Rattle.rules.specs.Phases.{levelOf, sessionAt, withSession, register, withRegisters, withLevel, attachedAt, detached}
 use Rattle.rules.specs.Barriers.{heapOf, shade, replicaFor, storeWrites, putWrites, putBoth, sameAt, allocationRoom, allocated, allocatedReference}
 use Rattle.rules.specs.declared.Session.{Session}
@@ -18,21 +18,21 @@ use Rattle.rules.specs.declared.Answer.the-variants.{Word, Same}
 unfoldable pub sessionOf : Store → ℕ → Tested Session
 sessionOf s n = do
   check (inRange s) 4
-  check (leb n 15) 5
+  check (leb n lastSession) 5
   check (sessionAt s n .attached) 6
   passed (sessionAt s n)
 
 -- 8: a register number
 abbrev pub isRegister : ℕ → Bool
-isRegister k = leb k 7
+isRegister k = leb k lastRegister
 
 -- 9: a global's number
 abbrev pub isGlobal : ℕ → Bool
-isGlobal g = leb g 31
+isGlobal g = leb g lastGlobal
 
 -- 10: "each 0 to 255"
 abbrev pub isShape : ℕ → ℕ → Bool
-isShape r p = leb r 255 && leb p 255
+isShape r p = leb r mostCount && leb p mostCount
 
 -- 11, 12: the record worked on, in register k
 unfoldable pub recordIn : Store → Session → ℕ → Tested ℕ
@@ -51,7 +51,7 @@ withRegister s n k v = withSession s n (withRegisters (sessionAt s n) (set (sess
 unfoldable pub attach : Store → ℕ → Tested (Outcome Store)
 attach s n = do
   check (inRange s) 4
-  check (leb n 15) 5
+  check (leb n lastSession) 5
   check (not (sessionAt s n .attached)) 7
   done (withSession s n (attachedAt (levelOf (s .phase))))
 

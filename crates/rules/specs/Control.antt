@@ -1,10 +1,10 @@
 -- Memory and references: the control record with the lent words, its ranges (refusal 4), and making (refusals 1 to 3).
-use Prim.Native.Nat.{ℕ, _/_}
+use Prim.Native.Nat.{ℕ, _+_, _-_, _/_}
 use mathlib.Core.Bool.{Bool, true, false, cond, _&&_, _||_}
 use mathlib.Core.List.{List, [], _∷_}
 use lib.Dec.{leb, eqb}
 use lib.ListN.{replicate, length}
-use Rattle.rules.specs.Memory.{Memory, null, header}
+use Rattle.rules.specs.Memory.{Memory, null, header, mostCount}
 use Rattle.rules.specs.Refusals.{Tested, refused, passed, check, _>>_, Outcome, answer}
 use Rattle.rules.specs.declared.Session.{Session}
 use Rattle.rules.specs.declared.Answer.the-variants.{Refused, Done}
@@ -122,18 +122,45 @@ withCurrent s h =
 abbrev pub phaseCount : ℕ
 phaseCount = 13
 
+-- "32 global references"
 abbrev pub globalCount : ℕ
 globalCount = 32
 
+-- "16 sessions, each with eight registers"
 abbrev pub sessionCount : ℕ
 sessionCount = 16
 
 abbrev pub registerCount : ℕ
 registerCount = 8
 
+-- the last number of each: 5 "number above 15", 8 "register above 7", 9 "global above 31"
+abbrev pub lastSession : ℕ
+lastSession = sessionCount - 1
+
+abbrev pub lastRegister : ℕ
+lastRegister = registerCount - 1
+
+abbrev pub lastGlobal : ℕ
+lastGlobal = globalCount - 1
+
+-- the last of the levels
+abbrev pub lastLevel : ℕ
+lastLevel = 6
+
+-- the most that the walk field may be, 510: a record's fields of both kinds
+abbrev pub mostFields : ℕ
+mostFields = mostCount + mostCount
+
 -- "16 to 1,048,576 words"
+abbrev pub leastLength : ℕ
+leastLength = 16
+
+abbrev pub mostLength : ℕ
+mostLength = 1048576
+
+-- a half may be that long
 unfoldable pub halfAllowed : ℕ → Bool
-halfAllowed n = leb 16 n && leb n 1048576
+halfAllowed n = leb leastLength n && leb n mostLength
 
 -- "a grey list of at least (half length divided by 3, rounded down) words"
 unfoldable pub listAllowed : ℕ → ℕ → Bool
@@ -157,7 +184,7 @@ walkLimit phase n = cond (eqb phase 3 || eqb phase 10) globalCount n
 -- "level at most 6"
 abbrev pub levelsInRange : List Session → Bool
 levelsInRange [] = true
-levelsInRange (x ∷ xs) = leb (x .level) 6 && levelsInRange xs
+levelsInRange (x ∷ xs) = leb (x .level) lastLevel && levelsInRange xs
 
 -- refusal 4 does not come: the lent lengths are those at making, and every number is in its range
 unfoldable pub inRange : Store → Bool
@@ -166,7 +193,7 @@ inRange s =
     && leb (s .current) 1
     && leb (s .memory .frontier0) (s .lengths .half0) && leb (s .memory .frontier1) (s .lengths .half0)
     && leb (s .phase) 12
-    && leb (s .walk .place) (walkLimit (s .phase) (s .lengths .half0)) && leb (s .walk .field) 510
+    && leb (s .walk .place) (walkLimit (s .phase) (s .lengths .half0)) && leb (s .walk .field) mostFields
     && leb (s .list .head) (s .list .tail) && leb (s .list .tail) (s .lengths .list)
     && levelsInRange (s .sessions)
 

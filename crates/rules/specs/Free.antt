@@ -7,7 +7,7 @@ use lib.Dec.{leb, ltb, eqb}
 use lib.ListN.{getD, set, length, replicate}
 use Rattle.rules.specs.Refusals.{Tested, passed, check, _>>=_, _>>_, Outcome, Reply, answer, words, settle, wordsOr, doneOr, done, answered}
 use Rattle.rules.specs.Memory.{null}
-use Rattle.rules.specs.Control.{globalCount, sessionCount, registerCount}
+use Rattle.rules.specs.Control.{globalCount, sessionCount, registerCount, lastSession}
 use Rattle.rules.specs.Calls.{isRegister, isGlobal, isShape}
 use Rattle.rules.specs.Runs.{Call, Attach, Detach, SafePoint, Allocate, Load, StoreRef, Read, Write, Move, Clear, SameAs, Get, Put, Stretch, Companion, Step, isAllocation, Fed, fitted, noRoom}
 use Rattle.rules.specs.declared.Answer.the-variants.{Done, Word, Same}
@@ -73,7 +73,7 @@ withFreeRegister f n k q =
 
 unfoldable pub freeSessionOf : Free → ℕ → Tested FreeSession
 freeSessionOf f n = do
-  check (leb n 15) 5
+  check (leb n lastSession) 5
   check (freeSession f n .attached) 6
   passed (freeSession f n)
 
@@ -87,7 +87,7 @@ freeRecordIn x k = do
 
 unfoldable pub freeAttach : Free → ℕ → Tested (Outcome Free)
 freeAttach f n = do
-  check (leb n 15) 5
+  check (leb n lastSession) 5
   check (not (freeSession f n .attached)) 7
   done (withFreeSession f n (record { attached = true; registers = replicate registerCount null }))
 

@@ -69,7 +69,11 @@ inHalf h v = leb 2 v && eqb (halfOf v) h
 abbrev pub header : ℕ
 header = 3
 
--- word 0 of a record with r reference and p plain fields
+-- the most fields of one kind: "each 0 to 255"
+abbrev pub mostCount : ℕ
+mostCount = 255
+
+-- word 0 of a record with r reference and p plain fields; 256 is one more than mostCount
 unfoldable pub shapeWord : ℕ → ℕ → ℕ
 shapeWord r p = 256 * r + p
 
@@ -78,6 +82,10 @@ refsOf w = w / 256
 
 unfoldable pub plainsOf : ℕ → ℕ
 plainsOf w = w % 256
+
+-- the most that word 0 may be, 65,535: the word of mostCount fields of each kind
+abbrev pub mostShape : ℕ
+mostShape = 256 * mostCount + mostCount
 
 -- the words of a record with r and p fields
 abbrev pub sizeOf : ℕ → ℕ → ℕ
@@ -150,7 +158,7 @@ nextReference M h = reference h (frontier M h)
 -- "A reference is sound when it names a word at which word 0 is at most 65,535, the colour at most 2, and the whole record lies below the frontier"
 unfoldable pub sound : Memory → ℕ → Bool
 sound M v =
-    leb 2 v && leb (word M v shapeAt) 65535 && leb (colour M v) black
+    leb 2 v && leb (word M v shapeAt) mostShape && leb (colour M v) black
     && leb (wordOf v + size M v) (frontier M (halfOf v))
 
 -- "Following ends in one of two answers, the record's shape and place or damage"

@@ -7,7 +7,8 @@ use lib.Dec.{leb}
 use lib.ListN.{length}
 use borrow.Author.Tests.{leb-true, le-leb}
 use Rattle.rules.specs.Refusals.{passed, check, _>>_, settle, done}
-use Rattle.rules.specs.Control.{Store, withMemory}
+use Rattle.rules.specs.Memory.{mostCount}
+use Rattle.rules.specs.Control.{Store, withMemory, lastSession, lastRegister}
 use Rattle.rules.specs.Phases.{sessionAt, withSession}
 use Rattle.rules.specs.Barriers.{allocationRoom, allocated, allocatedReference}
 use Rattle.rules.specs.Calls.{sessionOf, isRegister, isShape, withRegister, allocate}
@@ -32,7 +33,7 @@ module _ {K : ℕ → Type 0} {m : ℕ → ℕ} {s : Store} {f : Free} (h : Sim 
   -- ---- what is fed: whether the last test passes, where the tests before it do
   session-passes : Attached s n → sessionOf s n ≡ passed (sessionAt s n)
   unfolding sessionOf
-  session-passes a = rw (in-range-tested (h .range), le-leb n 15 (a .number), a .attached)
+  session-passes a = rw (in-range-tested (h .range), le-leb n lastSession (a .number), a .attached)
 
   fed-last : (t : Store) (b : Bool) → fedRoom (fedBy (settle s (check b 14 >> done t) .reply)) ≡ b
   fed-last t true = refl
@@ -50,11 +51,11 @@ module _ {K : ℕ → Type 0} {m : ℕ → ℕ} {s : Store} {f : Free} (h : Sim 
       (done (withFreeRegister (withRecords f (f .records ++ blankRecord r p ∷ [])) n k q))
   unfolding withRegister withSession tracked sessionAt
   written a i j room =
-      let b = both (leb r 255) (leb p 255) j in
-      let w = allocation h level r p (leb-true r 255 (b .0)) (leb-true p 255 (b .1)) (a .allowed) room in
+      let b = both (leb r mostCount) (leb p mostCount) j in
+      let w = allocation h level r p (leb-true r mostCount (b .0)) (leb-true p mostCount (b .1)) (a .allowed) room in
       passed-both (record {
         place = tracked q m (s .memory) (allocated s level r p);
-        sim = register-sim (w .sim) n k (a .number) (leb-true k 7 i) (a .attached) (w .fits _);
+        sim = register-sim (w .sim) n k (a .number) (leb-true k lastRegister i) (a .attached) (w .fits _);
         reply = refl;
         tracks = λ u. refl;
       })

@@ -7,7 +7,7 @@ use mathlib.Core.List.{[], _∷_, _++_}
 use native.Mathlib.Omega.{arith}
 use lib.ListN.{length}
 use borrow.Author.Tests.{leb-true, le-leb, lt-leb}
-use Rattle.rules.specs.Memory.{Memory, half, frontier, null, shapeWord, sizeOf, white, black, nextReference}
+use Rattle.rules.specs.Memory.{Memory, half, frontier, null, shapeWord, sizeOf, white, black, nextReference, mostCount}
 use Rattle.rules.specs.Control.{Store, withMemory}
 use Rattle.rules.specs.Phases.{otherHalf, fromspace, tospace}
 use Rattle.rules.specs.Barriers.{roomIn, allocationRoom, placed, allocated, allocatedReference}
@@ -62,13 +62,13 @@ room-known : (M : Memory) (h r p : ℕ) → roomIn M h r p ≡ true → frontier
 unfolding roomIn
 room-known M h r p e = leb-true (frontier M h + sizeOf r p) (length (half M h)) e
 
-module _ {K : ℕ → Type 0} {m : ℕ → ℕ} {s : Store} {f : Free} (h : Sim K m s f) (l r p : ℕ) (rb : r ≤ 255) (pb : p ≤ 255) (allow : Allowed (s .phase) l)
+module _ {K : ℕ → Type 0} {m : ℕ → ℕ} {s : Store} {f : Free} (h : Sim K m s f) (l r p : ℕ) (rb : r ≤ mostCount) (pb : p ≤ mostCount) (allow : Allowed (s .phase) l)
     (room : allocationRoom s l r p ≡ true) where
   abbrev M : Memory
   M = s .memory
 
   -- the shape passed its test
-  placeable : {N : Memory} {g c : ℕ} → Filled N → g < 2 → c ≤ 2 → frontier N g + sizeOf r p ≤ length (half N g) → Placeable N g r p c
+  placeable : {N : Memory} {g c : ℕ} → Filled N → g < 2 → c ≤ black → frontier N g + sizeOf r p ≤ length (half N g) → Placeable N g r p c
   placeable n two small fits = record { filled = n; side = two; few-refs = rb; few-plains = pb; tint = small; room = fits }
 
   -- ---- one half

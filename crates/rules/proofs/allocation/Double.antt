@@ -6,7 +6,7 @@ use mathlib.Core.List.{List, [], _∷_, _++_}
 use native.Mathlib.Nat.{le-refl}
 use native.Mathlib.Omega.{arith}
 use lib.ListN.{length, length-replicate}
-use Rattle.rules.specs.Memory.{Memory, frontier, null, halfOf, header, shapeWord, white, black, colour, replica, refs, plains, nextReference}
+use Rattle.rules.specs.Memory.{Memory, frontier, null, halfOf, header, shapeWord, white, black, colour, replica, refs, plains, nextReference, mostCount}
 use Rattle.rules.specs.Control.{Store, withMemory}
 use Rattle.rules.specs.Phases.{otherHalf}
 use Rattle.rules.specs.Free.{Free, Record}
@@ -38,7 +38,7 @@ pub record Sides (cur ph from : ℕ) : Type 0 where
   pub flipped : ph ≡ atReclaim → otherHalf from ≡ cur
 
 -- the two records, one after the other: M₁ has the first, M₂ both
-module _ {K : ℕ → Type 0} {m : ℕ → ℕ} {s : Store} {f : Free} (h : Sim K m s f) {M₁ M₂ : Memory} {from : ℕ} (r p : ℕ) (pb : p ≤ 255)
+module _ {K : ℕ → Type 0} {m : ℕ → ℕ} {s : Store} {f : Free} (h : Sim K m s f) {M₁ M₂ : Memory} {from : ℕ} (r p : ℕ) (pb : p ≤ mostCount)
     (sides : Sides (s .current) (s .phase) from)
     (one : Appended (s .memory) M₁ from (shapeWord r p) black (nextReference (s .memory) (otherHalf from)) (r + p))
     (more : Appended M₁ M₂ (otherHalf from) (shapeWord r p) white (nextReference (s .memory) from) (r + p)) where

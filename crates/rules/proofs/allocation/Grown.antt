@@ -5,10 +5,10 @@ use mathlib.Core.Logic.{_≢_, _⊎_, inl, inr}
 use native.Mathlib.Nat.{le-refl}
 use native.Mathlib.Omega.{arith}
 use lib.ListN.{length}
-use Rattle.rules.specs.Memory.{Memory, half, frontier, halfOf, wordOf, header, shapeAt, replicaAt, word, colour, replica, refs, plains, size, nextReference}
+use Rattle.rules.specs.Memory.{Memory, half, frontier, halfOf, wordOf, header, shapeAt, replicaAt, word, colour, replica, refs, plains, size, nextReference, colourAt}
 use Rattle.rules.proofs.memory.Cases.{eq-or, either}
 use Rattle.rules.proofs.memory.Encoding.{half-below-2}
-use Rattle.rules.proofs.memory.Records.{Start, Filled, refs-same, plains-same, size-same, size-3, size-fields, ref-inside, plain-inside}
+use Rattle.rules.proofs.memory.Records.{Start, Filled, refs-same, plains-same, size-same, size-least, size-fields, ref-inside, plain-inside}
 use Rattle.rules.proofs.memory.Next.{next-above}
 use Rattle.rules.proofs.memory.Walk.{Walk}
 use Rattle.rules.proofs.memory.Put.{PutKept}
@@ -34,7 +34,7 @@ pub record Grown (M M′ : Memory) (New Re : ℕ → Type 0) : Type 0 where
 -- ---- what it gives
 module _ {M M′ : Memory} {New Re : ℕ → Type 0} (g : Grown M M′ New Re) where
   grown-shape : {u : ℕ} → Start M u → word M′ u shapeAt ≡ word M u shapeAt
-  grown-shape {u} t = g .same t 0 (omega (arith, size-3 M u)) (omega arith)
+  grown-shape {u} t = g .same t shapeAt (omega (arith, size-least M u)) (omega arith)
 
   pub grown-refs : {u : ℕ} → Start M u → refs M′ u ≡ refs M u
   grown-refs {u} t = refs-same M M′ u (grown-shape t)
@@ -47,7 +47,7 @@ module _ {M M′ : Memory} {New Re : ℕ → Type 0} (g : Grown M M′ New Re) w
 
   pub grown-colour : {u : ℕ} → Start M u → colour M′ u ≡ colour M u
   unfolding colour
-  grown-colour {u} t = g .same t 1 (omega (arith, size-3 M u)) (omega arith)
+  grown-colour {u} t = g .same t colourAt (omega (arith, size-least M u)) (omega arith)
 
   pub grown-field : {u : ℕ} → Start M u → (i : ℕ) → i < refs M u → field M′ u i ≡ field M u i
   grown-field {u} t i l = g .same t (header + i) (ref-inside M u i l) (omega arith)
@@ -81,7 +81,7 @@ append-grown {M} {M′} {h} {w} {c} {v} {n} a = record {
   split = a .split;
   made = λ e. rw e (a .made);
   same = λ t j l d. a .same t j l;
-  same-replica = λ {u} t. inl (a .same t 2 (omega (arith, size-3 M u)));
+  same-replica = λ {u} t. inl (a .same t replicaAt (omega (arith, size-least M u)));
   blank = λ e i l. rw e (a .new-field i (let z = a .new-size in let q : header + i < size M′ (nextReference M h) = rw (← e) l in omega arith));
   above = next-above M h (a .before .side);
   filled = a .filled;
@@ -98,7 +98,7 @@ replica-grown {M} {M′} {v} {x} k = record {
   split = λ t. inl (k .back t);
   made = λ n. absurd n;
   same = λ t j l d. k .same t j l (inr d);
-  same-replica = λ {u} t. eq-or u v (λ e. inr e) (λ d. inl (k .same t 2 (omega (arith, size-3 M u)) (inl d)));
+  same-replica = λ {u} t. eq-or u v (λ e. inr e) (λ d. inl (k .same t replicaAt (omega (arith, size-least M u)) (inl d)));
   blank = λ n i l. absurd n;
   above = λ n h side. absurd n;
   filled = k .filled;

@@ -11,7 +11,7 @@ use Rattle.rules.specs.Free.{Free, Record}
 use Rattle.rules.proofs.invariant.Turns.{atAllocate}
 use Rattle.rules.proofs.memory.Cases.{either}
 use Rattle.rules.proofs.memory.Encoding.{other-below-2, other-differs}
-use Rattle.rules.proofs.memory.Records.{Start, start-nonnull, size-fields, size-3}
+use Rattle.rules.proofs.memory.Records.{Start, start-nonnull, size-fields, size-least}
 use Rattle.rules.proofs.memory.Next.{next-half, next-nonnull, next-fresh}
 use Rattle.rules.proofs.memory.Put.{PutKept}
 use Rattle.rules.proofs.memory.Append.{Appended}
@@ -122,7 +122,7 @@ module _ {K : ℕ → Type 0} {m : ℕ → ℕ} {s : Store} {f : Free} (h : Sim 
   placing = record {
     none = tracked-none (m v) m M M₂;
     old = tracked-old (m v) m M M₂;
-    new = λ n. rw (is-y n) (tracked-new (m v) m M M₂ other other-two (omega (arith, front-other, size-3 M v)));
+    new = λ n. rw (is-y n) (tracked-new (m v) m M M₂ other other-two (omega (arith, front-other, size-least M v)));
     low = h .identity .low v (this .start);
     high = h .identity .high v (this .start);
     nrefs = λ n. rw (is-y n, refs-y) (h .identity .nrefs v (this .start));

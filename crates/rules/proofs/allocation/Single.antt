@@ -6,7 +6,7 @@ use mathlib.Core.List.{List, [], _∷_, _++_}
 use native.Mathlib.Nat.{le-refl}
 use native.Mathlib.Omega.{arith}
 use lib.ListN.{length, length-replicate}
-use Rattle.rules.specs.Memory.{Memory, frontier, null, halfOf, shapeWord, white, grey, black, colour, replica, nextReference}
+use Rattle.rules.specs.Memory.{Memory, frontier, null, halfOf, shapeWord, white, grey, black, colour, replica, nextReference, mostCount}
 use Rattle.rules.specs.Control.{Store, withMemory}
 use Rattle.rules.specs.Phases.{otherHalf}
 use Rattle.rules.specs.Free.{Free, Record}
@@ -29,7 +29,7 @@ use Rattle.rules.proofs.allocation.FreeRecords.{withRecords, blankRecor
 
 -- ---- the colours that it may have by phase
 pub record Tint (ph c : ℕ) : Type 0 where
-  pub small : c ≤ 2
+  pub small : c ≤ black
   pub at-rest : ph ≡ atRest → c ≡ white
   pub at-reclaim : ph ≡ atReclaim → c ≡ white
   pub none-black : ph ≡ atPreMark1 → c ≢ black
@@ -38,7 +38,7 @@ pub record Tint (ph c : ℕ) : Type 0 where
   pub phases : (ph ≤ atAllocate) ⊎ (ph ≡ atReclaim)
 
 -- M′ has it
-module _ {K : ℕ → Type 0} {m : ℕ → ℕ} {s : Store} {f : Free} (h : Sim K m s f) (r p : ℕ) (pb : p ≤ 255) {M′ : Memory} {c : ℕ} (tint : Tint (s .phase) c)
+module _ {K : ℕ → Type 0} {m : ℕ → ℕ} {s : Store} {f : Free} (h : Sim K m s f) (r p : ℕ) (pb : p ≤ mostCount) {M′ : Memory} {c : ℕ} (tint : Tint (s .phase) c)
     (kept : Appended (s .memory) M′ (s .current) (shapeWord r p) c null (r + p)) where
   abbrev M : Memory
   M = s .memory

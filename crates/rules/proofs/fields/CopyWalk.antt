@@ -4,7 +4,7 @@ use mathlib.Core.Path.{_≡_, refl, sym, _∙_}
 use mathlib.Core.Logic.{_≢_}
 use native.Mathlib.Omega.{arith}
 use Rattle.rules.specs.Memory.{Memory, null, wordOf, reference, frontier, replica, refs, plains, size}
-use Rattle.rules.specs.Control.{Store, withWalk, walkLimit}
+use Rattle.rules.specs.Control.{Store, withWalk, walkLimit, mostFields}
 use Rattle.rules.specs.Phases.{otherHalf}
 use Rattle.rules.specs.Collector.{walked}
 use Rattle.rules.specs.Free.{Free}
@@ -26,7 +26,7 @@ pub record FieldCopied (M : Memory) (cur v i : ℕ) : Type 0 where
 
 module _ {K : ℕ → Type 0} {m : ℕ → ℕ} {s : Store} {f : Free} (h : Sim K m s f) (e : s .phase ≡ atCopy) where
   -- the walk at k and i
-  copy-walk : (k i : ℕ) → k ≤ walkLimit (s .phase) (s .lengths .half0) → i ≤ 510 → Walk (s .memory) (s .current) k
+  copy-walk : (k i : ℕ) → k ≤ walkLimit (s .phase) (s .lengths .half0) → i ≤ mostFields → Walk (s .memory) (s .current) k
       → (k < frontier (s .memory) (s .current) → i ≤ refs (s .memory) (reference (s .current) k) + plains (s .memory) (reference (s .current) k))
       → (frontier (s .memory) (s .current) ≤ k → i ≡ 0)
       → Agreement (s .memory) (s .current) (s .phase) k i → Sim K m (withWalk s k i) f

@@ -9,7 +9,7 @@ use lib.ListN.{set}
 use borrow.Author.Tests.{leb-true, ne-eqb}
 use Rattle.rules.specs.Refusals.{passed}
 use Rattle.rules.specs.Memory.{null, inHalf, otherCopy}
-use Rattle.rules.specs.Control.{Store, withGlobals}
+use Rattle.rules.specs.Control.{Store, withGlobals, lastGlobal}
 use Rattle.rules.specs.Phases.{otherHalf}
 use Rattle.rules.specs.Barriers.{Heap, heapOf, shade, barrierShade, ownWord, putWrites}
 use Rattle.rules.specs.Calls as calls
@@ -69,7 +69,7 @@ pub record GlobalPut (K : ℕ → Type 0) (m : ℕ → ℕ) (s : Store) (f : Fre
   pub sim : Sim K m (withGlobals (shade s (writes .shade)) (set (s .globals) g (writes .own))) (withFreeGlobals f (set (f .globals) g p))
 
 module _ {K : ℕ → Type 0} {m : ℕ → ℕ} {s : Store} {f : Free} {x : Session} {l q p : ℕ} (h : Sim K m s f) (t : WordFits K m s x q p)
-    (a : Allowed (s .phase) l) (g : ℕ) (b : g ≤ 31) where
+    (a : Allowed (s .phase) l) (g : ℕ) (b : g ≤ lastGlobal) where
   -- levels 0 to 3: after shading
   placed-low : l ≤ 3 → GlobalPut K m s f l g q p
   placed-low c =

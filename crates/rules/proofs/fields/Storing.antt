@@ -8,7 +8,7 @@ use lib.Dec.{ltb}
 use borrow.Author.Tests.{ne-eqb, ltb-true}
 use Rattle.rules.specs.Refusals.{passed}
 use Rattle.rules.specs.Memory.{null, frontier, replica, refs, refField}
-use Rattle.rules.specs.Control.{Store, withMemory}
+use Rattle.rules.specs.Control.{Store, withMemory, lastLevel}
 use Rattle.rules.specs.Phases.{otherHalf}
 use Rattle.rules.specs.Barriers.{heapOf, to, shade, storeWrites, putBoth}
 use Rattle.rules.specs.Calls as calls
@@ -66,7 +66,7 @@ module _ {K : ℕ → Type 0} {m : ℕ → ℕ} {s : Store} {f : Free} {x : Sess
       }
 
   -- levels 4 to 6 in phases 6 to 11, the record in the current half
-  stored-from : 4 ≤ l → l ≤ 6 → atPreCopy ≤ s .phase → s .phase ≤ atStackFlip → In (s .memory) (s .current) v → replica (s .memory) v ≢ null → i < refs (s .memory) v
+  stored-from : 4 ≤ l → l ≤ lastLevel → atPreCopy ≤ s .phase → s .phase ≤ atStackFlip → In (s .memory) (s .current) v → replica (s .memory) v ≢ null → i < refs (s .memory) v
       → Stored K m s f l v i q p
   unfolding putBoth shade
   stored-from b c lo hi o n r =
@@ -79,7 +79,7 @@ module _ {K : ℕ → Type 0} {m : ℕ → ℕ} {s : Store} {f : Free} {x : Sess
       }
 
   -- the record in the other half
-  stored-to : 5 ≤ l → l ≤ 6 → atPreFlip2 ≤ s .phase → s .phase ≤ atStackFlip → In (s .memory) (otherHalf (s .current)) v → i < refs (s .memory) v → Stored K m s f l v i q p
+  stored-to : 5 ≤ l → l ≤ lastLevel → atPreFlip2 ≤ s .phase → s .phase ≤ atStackFlip → In (s .memory) (otherHalf (s .current)) v → i < refs (s .memory) v → Stored K m s f l v i q p
   unfolding putBoth shade
   stored-to b c lo hi o r =
       let w = to-words h t (omega arith) hi lo b c o in

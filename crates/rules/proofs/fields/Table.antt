@@ -5,7 +5,7 @@ use mathlib.Core.Logic.{_⊎_, inl, inr}
 use native.Mathlib.Omega.{arith}
 use Rattle.rules.specs.Refusals.{passed}
 use Rattle.rules.specs.Memory.{halfOf, replica}
-use Rattle.rules.specs.Control.{Store}
+use Rattle.rules.specs.Control.{Store, lastLevel}
 use Rattle.rules.specs.Phases.{otherHalf, fromspace}
 use Rattle.rules.specs.Barriers.{heapOf, to, ownWord, replicaWord}
 use Rattle.rules.specs.Free.{Free}
@@ -102,7 +102,7 @@ module _ {K : ℕ → Type 0} {m : ℕ → ℕ} {s : Store} {f : Free} {x : Sess
   to-is = ap otherHalf from-is
 
   -- the record worked on in the current half
-  pub from-words : {l v : ℕ} → Allowed (s .phase) l → 4 ≤ l → l ≤ 6 → In (s .memory) (s .current) v → FromWords K m s l v q p
+  pub from-words : {l v : ℕ} → Allowed (s .phase) l → 4 ≤ l → l ≤ lastLevel → In (s .memory) (s .current) v → FromWords K m s l v q p
   from-words {l} {v} a b c o =
       lt-or l 5
       (λ g. record {
@@ -126,7 +126,7 @@ module _ {K : ℕ → Type 0} {m : ℕ → ℕ} {s : Store} {f : Free} {x : Sess
       }))
 
   -- in the other one, from phase 9 on
-  pub to-words : {l v : ℕ} → atPreFlip2 ≤ s .phase → 5 ≤ l → l ≤ 6 → In (s .memory) away v → ToWords K m s l v q p
+  pub to-words : {l v : ℕ} → atPreFlip2 ≤ s .phase → 5 ≤ l → l ≤ lastLevel → In (s .memory) away v → ToWords K m s l v q p
   to-words {l} {v} n b c o =
       lt-or l 6
       (λ g. let e : l ≡ 5 = omega arith in

@@ -5,7 +5,7 @@ use mathlib.Core.Logic.{_⊎_, inl, inr}
 use native.Mathlib.Omega.{arith}
 use Rattle.rules.specs.Memory.{Memory, word, refs, plains, size, shapeAt}
 use Rattle.rules.proofs.memory.Cases.{eq-or}
-use Rattle.rules.proofs.memory.Records.{Start, Filled, refs-same, plains-same, size-same, size-3}
+use Rattle.rules.proofs.memory.Records.{Start, Filled, refs-same, plains-same, size-same, size-least}
 use Rattle.rules.proofs.memory.Put.{PutKept}
 use Rattle.rules.proofs.memory.Total.{total-kept}
 use Rattle.rules.proofs.frames.Frame.{Frame, One}
@@ -43,7 +43,7 @@ frame-none f = record {
 -- ---- shapes stay
 module _ {M M′ : Memory} {Q : ℕ → ℕ → Type 0} (F : Frame M M′ Q) {v : ℕ} (t : Start M v) where
   shape-kept : word M′ v shapeAt ≡ word M v shapeAt
-  shape-kept = F .same t shapeAt (omega (arith, size-3 M v)) (F .shapes v)
+  shape-kept = F .same t shapeAt (omega (arith, size-least M v)) (F .shapes v)
 
   pub refs-kept : refs M′ v ≡ refs M v
   refs-kept = refs-same M M′ v shape-kept

@@ -3,7 +3,7 @@ use Prim.Native.Nat.{ℕ, _≤_, _<_}
 use mathlib.Core.Path.{_≡_}
 use native.Mathlib.Omega.{arith}
 use Rattle.rules.specs.Memory.{Memory, colour, replica, refs, plains, header, colourAt, replicaAt, refField, plainField}
-use Rattle.rules.proofs.memory.Records.{Start, size-3, ref-inside, plain-inside}
+use Rattle.rules.proofs.memory.Records.{Start, size-least, ref-inside, plain-inside}
 use Rattle.rules.proofs.invariant.Words.{In, Ok, Clean, field, plainOf, fwd}
 use Rattle.rules.proofs.invariant.Carried.{in-carried, ok-carried, fwd-carried, clean-carried}
 use Rattle.rules.proofs.frames.Frame.{Frame}
@@ -36,11 +36,11 @@ module _ {M M′ : Memory} {Q : ℕ → ℕ → Type 0} (F : Frame M M′ Q) whe
   -- ---- words
   pub colour-kept : {v : ℕ} → Start M v → ¬ Q v colourAt → colour M′ v ≡ colour M v
   unfolding colour
-  colour-kept {v} t n = F .same t colourAt (omega (arith, size-3 M v)) n
+  colour-kept {v} t n = F .same t colourAt (omega (arith, size-least M v)) n
 
   pub replica-kept : {v : ℕ} → Start M v → ¬ Q v replicaAt → replica M′ v ≡ replica M v
   unfolding replica
-  replica-kept {v} t n = F .same t replicaAt (omega (arith, size-3 M v)) n
+  replica-kept {v} t n = F .same t replicaAt (omega (arith, size-least M v)) n
 
   pub field-kept : {v : ℕ} → Start M v → (i : ℕ) → i < refs M v → ¬ Q v (refField i) → field M′ v i ≡ field M v i
   field-kept {v} t i l n = F .same t (refField i) (ref-inside M v i l) n

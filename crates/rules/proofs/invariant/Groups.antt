@@ -7,6 +7,7 @@ use mathlib.Core.Bool.{true, false}
 use mathlib.Core.List.{List, [], _∷_}
 use lib.ListN.{getD, length}
 use Rattle.rules.specs.Memory.{Memory, null, halfOf, wordOf, refs, plains, replica, frontier}
+use Rattle.rules.specs.Control.{globalCount, sessionCount, registerCount}
 use Rattle.rules.specs.Phases.{otherHalf, levelOf, absent}
 use Rattle.rules.specs.Free.{Record, FreeSession, freeAbsent}
 use Rattle.rules.specs.declared.Session.{Session}
@@ -32,12 +33,12 @@ pub record Values (M : Memory) (m : ℕ → ℕ) (cur : ℕ) (rs : List Record) 
 
 -- ---- roots: sessions xs and globals gs of the store, ys and fgs of the collector-free one
 pub record Roots (M : Memory) (m : ℕ → ℕ) (xs : List Session) (ys : List FreeSession) (gs fgs : List ℕ) : Type 0 where
-  pub sessions : length xs ≡ 16
-  pub free-sessions : length ys ≡ 16
-  pub registers : (n : ℕ) → n < 16 → length (getD xs n absent .registers) ≡ 8
-  pub free-registers : (n : ℕ) → n < 16 → length (getD ys n freeAbsent .registers) ≡ 8
-  pub globals : length gs ≡ 32
-  pub free-globals : length fgs ≡ 32
+  pub sessions : length xs ≡ sessionCount
+  pub free-sessions : length ys ≡ sessionCount
+  pub registers : (n : ℕ) → n < sessionCount → length (getD xs n absent .registers) ≡ registerCount
+  pub free-registers : (n : ℕ) → n < sessionCount → length (getD ys n freeAbsent .registers) ≡ registerCount
+  pub globals : length gs ≡ globalCount
+  pub free-globals : length fgs ≡ globalCount
   pub attached : (n : ℕ) → getD ys n freeAbsent .attached ≡ getD xs n absent .attached
   pub idle : (n k : ℕ) → getD xs n absent .attached ≡ false → reg xs n k ≡ null
   pub reg-ok : (n k : ℕ) → Ok M (reg xs n k)

@@ -8,7 +8,7 @@ use lib.Dec.{eqb, leb, leb→le}
 use lib.ListN.{length, getD}
 use borrow.Author.Tests.{ne-eqb}
 use Rattle.rules.specs.Memory.{Memory, half, frontier}
-use Rattle.rules.specs.Control.{Store, Walk, Grey, withMemory, withWalk, withList, withGlobals, withSessions, withCurrent, walkLimit}
+use Rattle.rules.specs.Control.{Store, Walk, Grey, withMemory, withWalk, withList, withGlobals, withSessions, withCurrent, walkLimit, lastLevel, mostFields}
 use Rattle.rules.specs.Phases.{nextPhase, sessionAt, absent, moveOn}
 use Rattle.rules.specs.declared.Session.{Session}
 use Rattle.rules.proofs.invariant.Turns.{atReclaim, atRootFlip, atRootMark}
@@ -48,11 +48,11 @@ record Numbers (s : Store) (cur ph : ℕ) (w : Walk) (l : Grey) (xs : List Sessi
   half : cur ≤ 1
   phases : ph ≤ atReclaim
   places : w .place ≤ walkLimit ph (s .lengths .half0)
-  fields : w .field ≤ 510
+  fields : w .field ≤ mostFields
   same : length (l .words) ≡ length (s .list .words)
   begins : l .head ≤ l .tail
   ends : l .tail ≤ s .lengths .list
-  levels : (n : ℕ) → getD xs n absent .level ≤ 6
+  levels : (n : ℕ) → getD xs n absent .level ≤ lastLevel
 
 module _ {s : Store} (k : InRange s) where
   -- another memory, filled, with halves as long as before
@@ -101,8 +101,8 @@ module _ {s : Store} (k : InRange s) where
   }
 
   -- another walk, list and sessions
-  pub range-with : {p i : ℕ} {ws : List ℕ} {head tail : ℕ} {xs : List Session} → p ≤ walkLimit (s .phase) (s .lengths .half0) → i ≤ 510
-      → length ws ≡ length (s .list .words) → head ≤ tail → tail ≤ length (s .list .words) → ((n : ℕ) → getD xs n absent .level ≤ 6)
+  pub range-with : {p i : ℕ} {ws : List ℕ} {head tail : ℕ} {xs : List Session} → p ≤ walkLimit (s .phase) (s .lengths .half0) → i ≤ mostFields
+      → length ws ≡ length (s .list .words) → head ≤ tail → tail ≤ length (s .list .words) → ((n : ℕ) → getD xs n absent .level ≤ lastLevel)
       → InRange (withSessions (withList (withWalk s p i) ws head tail) xs)
   range-with a b c d e g = range-control (s .globals) (record {
     half = k .half;
@@ -115,7 +115,7 @@ module _ {s : Store} (k : InRange s) where
     levels = g;
   })
 
-  own-levels : (n : ℕ) → getD (s .sessions) n absent .level ≤ 6
+  own-levels : (n : ℕ) → getD (s .sessions) n absent .level ≤ lastLevel
   unfolding sessionAt
   own-levels = k .levels
 
@@ -123,13 +123,13 @@ module _ {s : Store} (k : InRange s) where
   own-ends = omega (arith, k .ends, k .lent2)
 
   -- one of them
-  pub range-walk : (p i : ℕ) → p ≤ walkLimit (s .phase) (s .lengths .half0) → i ≤ 510 → InRange (withWalk s p i)
+  pub range-walk : (p i : ℕ) → p ≤ walkLimit (s .phase) (s .lengths .half0) → i ≤ mostFields → InRange (withWalk s p i)
   range-walk p i a b = range-with a b refl (k .begins) own-ends own-levels
 
   pub range-emptied : InRange (withList s (s .list .words) 0 0)
   range-emptied = range-with (k .places) (k .fields) refl zero-le zero-le own-levels
 
-  pub range-sessions : (xs : List Session) → ((n : ℕ) → getD xs n absent .level ≤ 6) → InRange (withSessions s xs)
+  pub range-sessions : (xs : List Session) → ((n : ℕ) → getD xs n absent .level ≤ lastLevel) → InRange (withSessions s xs)
   range-sessions xs g = range-with (k .places) (k .fields) refl (k .begins) own-ends g
 
   -- other globals, another current half, the next phase

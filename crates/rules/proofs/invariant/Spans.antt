@@ -9,6 +9,7 @@ use native.Mathlib.Nat.{not-suc-le-zero}
 use lib.Dec.{T, leb, eqb, leb→le, eqb→eq}
 use lib.ListN.{getD}
 use borrow.Author.Tests.{le-leb}
+use Rattle.rules.specs.Control.{lastLevel}
 use Rattle.rules.specs.Phases.{levelOf, nextPhase}
 use Rattle.rules.proofs.memory.Cases.{lt-or, either}
 use Rattle.rules.proofs.invariant.Groups.{levelBefore, NoFlip}
@@ -49,9 +50,9 @@ each-allowed : (f : ℕ → ℕ → Bool) → T (upTo 13 (λ ph. f ph (levelOf p
 each-allowed f t u ph l b (inl e) = rw e (at-each 13 (λ ph. f ph (levelOf ph)) t ph (omega arith))
 each-allowed f t u ph l b (inr e) = rw e (at-each 13 (λ ph. f ph (levelBefore ph)) u ph (omega arith))
 
-pub level-most : (ph l : ℕ) → ph ≤ 12 → Allowed ph l → l ≤ 6
+pub level-most : (ph l : ℕ) → ph ≤ 12 → Allowed ph l → l ≤ lastLevel
 unfolding levelOf levelBefore
-level-most ph l b a = leb→le _ _ (each-allowed (λ ph l. leb l 6) tt tt ph l b a)
+level-most ph l b a = leb→le _ _ (each-allowed (λ ph l. leb l lastLevel) tt tt ph l b a)
 
 -- the first phase of the levels from k on; the last of those from 1 to k, which have no phase after it; level 0 comes in phase 12 again
 abbrev first : ℕ → ℕ
@@ -60,26 +61,26 @@ first k = getD (0 ∷ 1 ∷ 2 ∷ 5 ∷ 6 ∷ 8 ∷ 9 ∷ []) k 0
 abbrev last : ℕ → ℕ
 last k = getD (1 ∷ 2 ∷ 5 ∷ 6 ∷ 8 ∷ 9 ∷ 12 ∷ []) k 0
 
-module _ (k : ℕ) (small : k < 7) {ph l : ℕ} (b : ph ≤ 12) (a : Allowed ph l) where
+module _ (k : ℕ) (small : k < suc lastLevel) {ph l : ℕ} (b : ph ≤ 12) (a : Allowed ph l) where
   pub level-from : k ≤ l → first k ≤ ph
   unfolding levelOf levelBefore
   level-from g =
-      let t = each-allowed (λ ph l. upTo 7 (λ k. not (leb k l) || leb (first k) ph)) tt tt ph l b a in
-      leb→le (first k) ph (given (leb k l) _ (le-leb k l g) (at-each 7 (λ k. not (leb k l) || leb (first k) ph) t k small))
+      let t = each-allowed (λ ph l. upTo (suc lastLevel) (λ k. not (leb k l) || leb (first k) ph)) tt tt ph l b a in
+      leb→le (first k) ph (given (leb k l) _ (le-leb k l g) (at-each (suc lastLevel) (λ k. not (leb k l) || leb (first k) ph) t k small))
 
   pub level-to : 1 ≤ l → l ≤ k → ph ≤ last k
   unfolding levelOf levelBefore
   level-to g d =
-      let t = each-allowed (λ ph l. upTo 7 (λ k. not (leb 1 l) || (not (leb l k) || leb ph (last k)))) tt tt ph l b a in
+      let t = each-allowed (λ ph l. upTo (suc lastLevel) (λ k. not (leb 1 l) || (not (leb l k) || leb ph (last k)))) tt tt ph l b a in
       leb→le ph (last k) (given (leb l k) _ (le-leb l k d)
-      (given (leb 1 l) _ (le-leb 1 l g) (at-each 7 (λ k. not (leb 1 l) || (not (leb l k) || leb ph (last k))) t k small)))
+      (given (leb 1 l) _ (le-leb 1 l g) (at-each (suc lastLevel) (λ k. not (leb 1 l) || (not (leb l k) || leb ph (last k))) t k small)))
 
   pub level-low : l ≤ k → (ph ≤ last k) ⊎ (ph ≡ 12)
   unfolding levelOf levelBefore
   level-low d =
-      let t = each-allowed (λ ph l. upTo 7 (λ k. not (leb l k) || (leb ph (last k) || eqb ph 12))) tt tt ph l b a in
+      let t = each-allowed (λ ph l. upTo (suc lastLevel) (λ k. not (leb l k) || (leb ph (last k) || eqb ph 12))) tt tt ph l b a in
       either (or-true (leb ph (last k)) (eqb ph 12)
-      (given (leb l k) _ (le-leb l k d) (at-each 7 (λ k. not (leb l k) || (leb ph (last k) || eqb ph 12)) t k small)))
+      (given (leb l k) _ (le-leb l k d) (at-each (suc lastLevel) (λ k. not (leb l k) || (leb ph (last k) || eqb ph 12)) t k small)))
       (λ z. inl (leb→le ph (last k) z)) (λ z. inr (eqb→eq ph 12 z))
 
 -- at levels 0 to 4 every word names the current half

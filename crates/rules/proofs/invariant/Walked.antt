@@ -5,7 +5,7 @@ use mathlib.Core.Logic.{_≢_}
 use native.Mathlib.Omega.{arith}
 use lib.ListN.{getD}
 use Rattle.rules.specs.Memory.{null, white, wordOf, frontier, colour, replica, refs, size}
-use Rattle.rules.specs.Control.{Store, withWalk, walkLimit}
+use Rattle.rules.specs.Control.{Store, withWalk, walkLimit, mostFields}
 use Rattle.rules.specs.Phases.{otherHalf}
 use Rattle.rules.specs.Collector.{walked}
 use Rattle.rules.specs.Free.{Free}
@@ -39,7 +39,7 @@ module _ {K : ℕ → Type 0} {m : ℕ → ℕ} {s : Store} {f : Free} (h : Sim 
 -- ---- the walk at place k and field i: what each phase asks of it
 pub record WalkFits (s : Store) (k i : ℕ) : Type 0 where
   pub places : k ≤ walkLimit (s .phase) (s .lengths .half0)
-  pub fields : i ≤ 510
+  pub fields : i ≤ mostFields
   -- RootMark, HeapMark
   pub globals-below : s .phase ≡ atRootMark → (g : ℕ) → g < k → Clean (s .memory) (s .current) (getD (s .globals) g null)
   pub scanning : s .phase ≡ atHeapMark → s .list .head < s .list .tail → (j : ℕ) → j < i

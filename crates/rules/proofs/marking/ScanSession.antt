@@ -10,7 +10,7 @@ use lib.ListN.{getD, length}
 use borrow.Author.Tests.{le-leb}
 use Rattle.rules.specs.Refusals.{passed}
 use Rattle.rules.specs.Memory.{null}
-use Rattle.rules.specs.Control.{Store}
+use Rattle.rules.specs.Control.{Store, lastSession}
 use Rattle.rules.specs.Phases.{sessionAt, withMark, withSession, absent}
 use Rattle.rules.specs.Barriers.{listRoom}
 use Rattle.rules.specs.Collector.{shadeAll, toShadeAll, scanSession}
@@ -27,7 +27,7 @@ use Rattle.rules.proofs.marking.Whites.{Whites, one-white, Found, found
 use Rattle.rules.proofs.marking.ShadeAll.{ShadedAll, shade-all}
 
 module _ {K : ℕ → Type 0} {m : ℕ → ℕ} {s : Store} {f : Free} (h : Sim K m s f) (is : s .phase ≡ atHeapMark) (done : s .list .head ≡ s .list .tail)
-    (n : ℕ) (l : n ≤ 15) where
+    (n : ℕ) (l : n ≤ lastSession) where
   -- registers without a white record: the session may be marked
   scanned-fits : ((k : ℕ) → Clean (s .memory) (s .current) (getD (sessionAt s n .registers) k null))
       → SessionFits K m s (withMark (sessionAt s n) true) (freeSession f n)

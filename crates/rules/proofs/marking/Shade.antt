@@ -38,7 +38,7 @@ shaded s v =
 
 module _ {K : ℕ → Type 0} {m : ℕ → ℕ} {s : Store} {f : Free} (h : Sim K m s f) (lo : atPreMark1 ≤ s .phase) (hi : s .phase ≤ atHeapMark)
     {v : ℕ} (t : In (s .memory) (s .current) v) (e : colour (s .memory) v ≡ white) where
-  -- fewer records are marked than there are, and each takes 3 words at least
+  -- fewer records are marked than there are, and each takes a header at least
   pub shade-room : s .list .tail + 1 ≤ length (s .list .words)
   shade-room =
       let M = s .memory in

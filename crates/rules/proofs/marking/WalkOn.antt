@@ -3,8 +3,8 @@ use Prim.Native.Nat.{ℕ, _+_, _≤_, _<_}
 use mathlib.Core.Path.{_≡_, sym}
 use native.Mathlib.Omega.{arith}
 use lib.ListN.{getD}
-use Rattle.rules.specs.Memory.{null, refs}
-use Rattle.rules.specs.Control.{Store, withWalk, walkLimit}
+use Rattle.rules.specs.Memory.{null, refs, mostCount}
+use Rattle.rules.specs.Control.{Store, withWalk, walkLimit, globalCount}
 use Rattle.rules.specs.Free.{Free}
 use Rattle.rules.proofs.invariant.Turns.{atHeapMark, atRootMark}
 use Rattle.rules.proofs.memory.Cases.{lt-or}
@@ -16,7 +16,7 @@ use Rattle.rules.proofs.invariant.Walked.{walk-sim}
 
 module _ {K : ℕ → Type 0} {m : ℕ → ℕ} {s : Store} {f : Free} (h : Sim K m s f) where
   -- RootMark: the global at the walk place is clean
-  pub past-global : s .phase ≡ atRootMark → (k i : ℕ) → s .walk .place ≡ k → s .walk .field ≡ i → k < 32
+  pub past-global : s .phase ≡ atRootMark → (k i : ℕ) → s .walk .place ≡ k → s .walk .field ≡ i → k < globalCount
       → Clean (s .memory) (s .current) (getD (s .globals) k null) → Sim K m (withWalk s (k + 1) i) f
   unfolding walkLimit
   past-global e k i a b l c = walk-sim h (record {
@@ -39,7 +39,7 @@ module _ {K : ℕ → Type 0} {m : ℕ → ℕ} {s : Store} {f : Free} (h : Sim 
       → Clean (s .memory) (s .current) (field (s .memory) v i) → Sim K m (withWalk s k (i + 1)) f
   past-field e k i v a b l o n c = walk-sim h (record {
     places = rw (sym a) (h .range .places);
-    fields = let small : refs (s .memory) v ≤ 255 = rw o at (start-refs (h .filled) (h .grey-list .listed (omega arith) (omega arith) (s .list .head) l .start)) in
+    fields = let small : refs (s .memory) v ≤ mostCount = rw o at (start-refs (h .filled) (h .grey-list .listed (omega arith) (omega arith) (s .list .head) l .start)) in
         omega arith;
     globals-below = λ z. absurd (omega arith);
     scanning = λ z y j x. lt-or j i

@@ -3,7 +3,7 @@ use Prim.Native.Nat.{ℕ, _+_, _≤_, _<_}
 use mathlib.Core.Path.{_≡_, refl}
 use native.Mathlib.Omega.{arith}
 use lib.ListN.{length}
-use Rattle.rules.specs.Memory.{Memory, half, frontier, shapeWord, refsOf, plainsOf, sizeOf, word, append, refs, plains, size, white, shapeAt}
+use Rattle.rules.specs.Memory.{Memory, half, frontier, shapeWord, refsOf, plainsOf, sizeOf, word, append, refs, plains, size, white, shapeAt, mostCount, black}
 use Rattle.rules.specs.Barriers.{placed}
 use Rattle.rules.specs.Collector.{shellOf}
 use Rattle.rules.proofs.memory.Encoding.{refs-shape, plains-shape, shape-bound}
@@ -16,9 +16,9 @@ use Rattle.rules.proofs.memory.Append.{Appendable, Appended, append-kep
 pub record Placeable (M : Memory) (h r p c : ℕ) : Type 0 where
   pub filled : Filled M
   pub side : h < 2
-  pub few-refs : r ≤ 255
-  pub few-plains : p ≤ 255
-  pub tint : c ≤ 2
+  pub few-refs : r ≤ mostCount
+  pub few-plains : p ≤ mostCount
+  pub tint : c ≤ black
   pub room : frontier M h + sizeOf r p ≤ length (half M h)
 
 module _ {M : Memory} {h r p c : ℕ} (a : Placeable M h r p c) where

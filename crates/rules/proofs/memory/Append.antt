@@ -8,14 +8,14 @@ use native.Mathlib.Nat.{le-refl}
 use native.Mathlib.Omega.{arith}
 use lib.Dec.{eqb}
 use lib.ListN.{length, getD, length-replicate, getD-replicate}
-use lib.Seq.{sets, length-sets}
+use lib.Seq.{sets, length-sets, getD-drop}
 use borrow.Author.Tests.{eq-eqb, ne-eqb}
-use Rattle.rules.specs.Memory.{Memory, half, frontier, withHalf, reference, halfOf, wordOf, refsOf, plainsOf, newRecord, word, append, nextReference, colour, replica, refs, plains, size, header, shapeAt}
+use Rattle.rules.specs.Memory.{Memory, half, frontier, withHalf, reference, halfOf, wordOf, refsOf, plainsOf, newRecord, word, append, nextReference, colour, replica, refs, plains, size, header, shapeAt, mostShape, colourAt, replicaAt, black}
 use Rattle.rules.proofs.memory.Cases.{lt-or, eq-or, either}
 use Rattle.rules.proofs.memory.Encoding.{half-reference, word-reference, half-below-2, reference-again}
 use Rattle.rules.proofs.memory.Chain.{pos, sizeAt, pos-suc, pos-lt, lt-of-pos, le-of-pos, sets-before, sets-in, pos-sets}
 use Rattle.rules.proofs.memory.Halves.{half-same, half-other, frontier-half, half-frontier, frontier-same, frontier-other, length-half}
-use Rattle.rules.proofs.memory.Records.{Start, Filled, start-at, size-number, size-fields, size-3, start-whole}
+use Rattle.rules.proofs.memory.Records.{Start, Filled, start-at, size-number, size-fields, size-least, start-whole}
 use Rattle.rules.proofs.memory.Walk.{Walk}
 use Rattle.rules.proofs.memory.Same.{SameStarts, start-kept, start-back, walk-kept}
 
@@ -50,17 +50,17 @@ length-record w c v n = rw length-replicate (omega arith)
 
 record-zero : (w c v n i : ℕ) → i < n → getD (newRecord w c v n) (header + i) 0 ≡ 0
 unfolding newRecord
-record-zero w c v n i l = let e : header + i ≡ suc (suc (suc i)) = omega arith in rw e (getD-replicate n i 0 0 l)
+record-zero w c v n i l = sym (getD-drop header (newRecord w c v n) i 0) ∙ getD-replicate n i 0 0 l
 
-record-shape : (w c v n : ℕ) → getD (newRecord w c v n) 0 0 ≡ w
+record-shape : (w c v n : ℕ) → getD (newRecord w c v n) shapeAt 0 ≡ w
 unfolding newRecord
 record-shape w c v n = refl
 
-record-colour : (w c v n : ℕ) → getD (newRecord w c v n) 1 0 ≡ c
+record-colour : (w c v n : ℕ) → getD (newRecord w c v n) colourAt 0 ≡ c
 unfolding newRecord
 record-colour w c v n = refl
 
-record-replica : (w c v n : ℕ) → getD (newRecord w c v n) 2 0 ≡ v
+record-replica : (w c v n : ℕ) → getD (newRecord w c v n) replicaAt 0 ≡ v
 unfolding newRecord
 record-replica w c v n = refl
 
@@ -68,8 +68,8 @@ record-replica w c v n = refl
 pub record Appendable (M : Memory) (h w c n : ℕ) : Type 0 where
   pub filled : Filled M
   pub side : h < 2
-  pub shape : w ≤ 65535
-  pub tint : c ≤ 2
+  pub shape : w ≤ mostShape
+  pub tint : c ≤ black
   pub fields : n ≡ refsOf w + plainsOf w
   pub room : frontier M h + (header + n) ≤ length (half M h)
 
@@ -146,22 +146,22 @@ module _ {M : Memory} {h w c n : ℕ} (a : Appendable M h w c n) (v : ℕ) where
       (λ d. rw (append-there M h vs (halfOf u) (a .side) (half-below-2 u) d))
 
   shape-old : {u : ℕ} → Start M u → word M′ u shapeAt ≡ word M u shapeAt
-  shape-old {u} s = word-old s 0 (omega (arith, size-3 M u))
+  shape-old {u} s = word-old s shapeAt (omega (arith, size-least M u))
 
   colour-old : {u : ℕ} → Start M u → colour M′ u ≡ colour M u
   unfolding colour
-  colour-old {u} s = word-old s 1 (omega (arith, size-3 M u))
+  colour-old {u} s = word-old s colourAt (omega (arith, size-least M u))
 
   shape-new : word M′ (nextReference M h) shapeAt ≡ w
-  shape-new = word-new 0 (omega arith) ∙ record-shape w c v n
+  shape-new = word-new shapeAt (omega arith) ∙ record-shape w c v n
 
   colour-new : colour M′ (nextReference M h) ≡ c
   unfolding colour
-  colour-new = word-new 1 (omega arith) ∙ record-colour w c v n
+  colour-new = word-new colourAt (omega arith) ∙ record-colour w c v n
 
   replica-new : replica M′ (nextReference M h) ≡ v
   unfolding replica
-  replica-new = word-new 2 (omega arith) ∙ record-replica w c v n
+  replica-new = word-new replicaAt (omega arith) ∙ record-replica w c v n
 
   refs-new : refs M′ (nextReference M h) ≡ refsOf w
   unfolding refs

@@ -7,16 +7,16 @@ use native.Mathlib.Nat.{le-refl, add-zero, not-suc-le-zero}
 use native.Mathlib.Omega.{arith}
 use lib.ListN.{length, getD, set, length-set}
 use lib.Seq.{sets, getD-set-same, getD-set-other}
-use Rattle.rules.specs.Memory.{sizeOf, refsOf, plainsOf}
+use Rattle.rules.specs.Memory.{header, sizeOf, refsOf, plainsOf}
 use Rattle.rules.proofs.memory.Cases.{lt-or, eq-or}
 
 -- the size of a record by its word 0
 unfoldable pub wordSize : ℕ → ℕ
 wordSize w = sizeOf (refsOf w) (plainsOf w)
 
-word-size-3 : (w : ℕ) → 3 ≤ wordSize w
+word-size-least : (w : ℕ) → header ≤ wordSize w
 unfolding wordSize
-word-size-3 w = omega arith
+word-size-least w = omega arith
 
 -- where record n starts: each begins where the one before ends
 unfoldable pub pos : List ℕ → ℕ → ℕ
@@ -35,9 +35,9 @@ pub pos-suc : (ws : List ℕ) (n : ℕ) → pos ws (suc n) ≡ pos ws n + sizeAt
 unfolding pos sizeAt
 pos-suc ws n = refl
 
-size-at-3 : (ws : List ℕ) (n : ℕ) → 3 ≤ sizeAt ws n
+size-at-least : (ws : List ℕ) (n : ℕ) → header ≤ sizeAt ws n
 unfolding sizeAt
-size-at-3 ws n = word-size-3 (getD ws (pos ws n) 0)
+size-at-least ws n = word-size-least (getD ws (pos ws n) 0)
 
 -- ---- order
 
@@ -49,7 +49,7 @@ pos-whole ws n (suc m) h =
     (λ l. let e : n ≡ m = omega arith in rw (e, pos-suc) (le-refl _))
 
 pub pos-lt : (ws : List ℕ) (n m : ℕ) → n < m → pos ws n < pos ws m
-pos-lt ws n m l = omega (arith, pos-whole ws n m l, size-at-3 ws n)
+pos-lt ws n m l = omega (arith, pos-whole ws n m l, size-at-least ws n)
 
 pub pos-le : (ws : List ℕ) (n m : ℕ) → n ≤ m → pos ws n ≤ pos ws m
 pos-le ws n m l = lt-or n m (λ g. omega (arith, pos-lt ws n m g)) (λ g. let e : n ≡ m = omega arith in rw e (le-refl _))
@@ -63,10 +63,10 @@ le-of-pos ws n m l = lt-or m n (λ g. absurd (omega (arith, pos-lt ws m n g))) (
 pub pos-injective : (ws : List ℕ) (n m : ℕ) → pos ws n ≡ pos ws m → n ≡ m
 pos-injective ws n m e = omega (arith, le-of-pos ws n m (rw e (le-refl _)), le-of-pos ws m n (rw e (le-refl _)))
 
--- 3 words a record at least
-pub pos-3 : (ws : List ℕ) (n : ℕ) → n * 3 ≤ pos ws n
-pos-3 ws zero = zero-le
-pos-3 ws (suc n) = let q = pos-3 ws n in omega (arith, pos-suc ws n, size-at-3 ws n)
+-- the words of a header for each record at least
+pub pos-least : (ws : List ℕ) (n : ℕ) → n * header ≤ pos ws n
+pos-least ws zero = zero-le
+pos-least ws (suc n) = let q = pos-least ws n in omega (arith, pos-suc ws n, size-at-least ws n)
 
 -- words of two records are apart
 pub apart : (ws : List ℕ) (n i m j : ℕ) → n ≢ m → i < sizeAt ws n → j < sizeAt ws m → pos ws n + i ≢ pos ws m + j
@@ -80,7 +80,7 @@ not-start : (ws : List ℕ) (n j m : ℕ) → j < sizeAt ws n → 0 < j → pos 
 not-start ws n j m h z e =
     eq-or m n
     (λ q. let r : pos ws m ≡ pos ws n = rw q in omega arith)
-    (λ d. apart ws m 0 n j d (omega (arith, size-at-3 ws m)) h (rw add-zero e))
+    (λ d. apart ws m 0 n j d (omega (arith, size-at-least ws m)) h (rw add-zero e))
 
 -- ---- what keeps the starts
 

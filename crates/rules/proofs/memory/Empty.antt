@@ -7,7 +7,7 @@ use native.Mathlib.Nat.{not-suc-le-zero}
 use lib.Dec.{eqb}
 use lib.ListN.{length}
 use borrow.Author.Tests.{eq-eqb, ne-eqb}
-use Rattle.rules.specs.Memory.{Memory, half, frontier, withFrontier, halfOf, word, colour, refs, plains, shapeAt}
+use Rattle.rules.specs.Memory.{Memory, half, frontier, withFrontier, halfOf, word, colour, refs, plains, shapeAt, colourAt}
 use Rattle.rules.proofs.memory.Cases.{eq-or}
 use Rattle.rules.proofs.memory.Encoding.{half-below-2}
 use Rattle.rules.proofs.memory.Chain.{pos-zero}
@@ -38,7 +38,7 @@ module _ {M : Memory} (f : Filled M) (h : ℕ) (two : h < 2) where
 
   empty-colour : (u : ℕ) → colour M′ u ≡ colour M u
   unfolding colour
-  empty-colour u = empty-same u 1
+  empty-colour u = empty-same u colourAt
 
   empty-starts : (g : ℕ) → g < 2 → g ≢ h → SameStarts M M′ g
   empty-starts g l d = record { chain = λ k. rw (half-frontier M h 0 g); front = frontier-other M h 0 g two l d }

@@ -3,7 +3,7 @@ use Prim.Native.Nat.{ℕ, _≤_, _<_}
 use mathlib.Core.Path.{_≡_}
 use mathlib.Core.Logic.{_≢_}
 use native.Mathlib.Omega.{arith}
-use Rattle.rules.specs.Memory.{reference, halfOf, wordOf, shapeWord, refsOf, plainsOf}
+use Rattle.rules.specs.Memory.{reference, halfOf, wordOf, shapeWord, refsOf, plainsOf, mostCount, mostShape}
 use Rattle.rules.specs.Phases.{otherHalf}
 
 -- ---- references
@@ -39,23 +39,23 @@ reference-same v w l l′ e e′ = omega arith
 
 -- ---- shape words
 
-pub refs-shape : (r p : ℕ) → p ≤ 255 → refsOf (shapeWord r p) ≡ r
+pub refs-shape : (r p : ℕ) → p ≤ mostCount → refsOf (shapeWord r p) ≡ r
 unfolding refsOf shapeWord
 refs-shape r p l = omega arith
 
-pub plains-shape : (r p : ℕ) → p ≤ 255 → plainsOf (shapeWord r p) ≡ p
+pub plains-shape : (r p : ℕ) → p ≤ mostCount → plainsOf (shapeWord r p) ≡ p
 unfolding plainsOf shapeWord
 plains-shape r p l = omega arith
 
-pub shape-bound : (r p : ℕ) → r ≤ 255 → p ≤ 255 → shapeWord r p ≤ 65535
+pub shape-bound : (r p : ℕ) → r ≤ mostCount → p ≤ mostCount → shapeWord r p ≤ mostShape
 unfolding shapeWord
 shape-bound r p l l′ = omega arith
 
-pub refs-bound : (w : ℕ) → w ≤ 65535 → refsOf w ≤ 255
+pub refs-bound : (w : ℕ) → w ≤ mostShape → refsOf w ≤ mostCount
 unfolding refsOf
 refs-bound w l = omega arith
 
-pub plains-bound : (w : ℕ) → plainsOf w ≤ 255
+pub plains-bound : (w : ℕ) → plainsOf w ≤ mostCount
 unfolding plainsOf
 plains-bound w = omega arith
 

@@ -11,7 +11,7 @@ use Rattle.rules.specs.Free.{Free, recordAt}
 use Rattle.rules.specs.Tracking.{recordsFrom, recordsOf, wordsAt}
 use Rattle.rules.proofs.memory.Cases.{either}
 use Rattle.rules.proofs.memory.Encoding.{half-reference, reference-injective}
-use Rattle.rules.proofs.memory.Chain.{pos, pos-suc, pos-lt, pos-3, pos-injective}
+use Rattle.rules.proofs.memory.Chain.{pos, pos-suc, pos-lt, pos-least, pos-injective}
 use Rattle.rules.proofs.memory.Records.{Start, Filled, start-at, size-number}
 use Rattle.rules.proofs.memory.Sum.{sum, sum-zero, sum-suc}
 use Rattle.rules.proofs.memory.Total.{total, total-equal, total-numbers, total-size}
@@ -70,7 +70,7 @@ module _ {M : Memory} (k : Filled M) {h : ℕ} (two : h < 2) where
 
   records-numbered : recordsOf M h ≡ numbered (half M h) h 0 (k .count h)
   unfolding recordsOf pos
-  records-numbered = listed (frontier M h) (k .count h) 0 (omega arith) (omega (arith, k .full h two, pos-3 (half M h) (k .count h)))
+  records-numbered = listed (frontier M h) (k .count h) 0 (omega arith) (omega (arith, k .full h two, pos-least (half M h) (k .count h)))
 
   number-start : (i : ℕ) → i < k .count h → Start M (reference h (pos (half M h) i))
   number-start i l = start-at M h i two (rw (k .full h two) at (pos-lt (half M h) i (k .count h) l))

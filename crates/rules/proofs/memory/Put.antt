@@ -5,12 +5,12 @@ use mathlib.Core.Logic.{_≢_, _⊎_, inl, inr}
 use native.Mathlib.Omega.{arith}
 use lib.ListN.{length, set, length-set}
 use lib.Seq.{getD-set-same, getD-set-other}
-use Rattle.rules.specs.Memory.{Memory, half, frontier, halfOf, wordOf, word, put, colour, refs, plains, size, header, shapeAt, colourAt, replicaAt}
+use Rattle.rules.specs.Memory.{Memory, half, frontier, halfOf, wordOf, word, put, colour, refs, plains, size, header, shapeAt, colourAt, replicaAt, black}
 use Rattle.rules.proofs.memory.Cases.{eq-or}
 use Rattle.rules.proofs.memory.Encoding.{half-below-2}
 use Rattle.rules.proofs.memory.Chain.{pos, pos-set}
 use Rattle.rules.proofs.memory.Halves.{half-same, half-other, frontier-half, length-half}
-use Rattle.rules.proofs.memory.Records.{Start, Filled, refs-same, plains-same, size-at, size-3, start-inside, starts-apart}
+use Rattle.rules.proofs.memory.Records.{Start, Filled, refs-same, plains-same, size-at, size-least, start-inside, starts-apart}
 use Rattle.rules.proofs.memory.Walk.{Walk}
 use Rattle.rules.proofs.memory.Same.{SameStarts, start-kept, start-back, walk-kept}
 
@@ -48,7 +48,7 @@ unfolding put
 put-there M v j x h two d = half-other M (halfOf v) h (set (half M (halfOf v)) (wordOf v + j) x) (half-below-2 v) two d
 
 -- ---- a write of word j of the record v, past the first
-module _ {M : Memory} (f : Filled M) {v : ℕ} (s : Start M v) (j x : ℕ) (past : 0 < j) (inside : j < size M v) where
+module _ {M : Memory} (f : Filled M) {v : ℕ} (s : Start M v) (j x : ℕ) (past : shapeAt < j) (inside : j < size M v) where
   put-starts : (h : ℕ) → h < 2 → SameStarts M (put M v j x) h
   put-starts h two = record { chain = chain; front = frontier-put M v j x h }
     where
@@ -71,19 +71,19 @@ module _ {M : Memory} (f : Filled M) {v : ℕ} (s : Start M v) (j x : ℕ) (past
       (λ e. rw (put-there M v j x (halfOf w) (half-below-2 w) e))
 
   put-shape : {w : ℕ} → Start M w → word (put M v j x) w shapeAt ≡ word M w shapeAt
-  put-shape {w} t = put-same t 0 (omega (arith, size-3 M w)) (inr (omega arith))
+  put-shape {w} t = put-same t shapeAt (omega (arith, size-least M w)) (inr (omega arith))
 
-  put-colour-bound : (j ≡ colourAt → x ≤ 2) → {w : ℕ} → Start M w → colour (put M v j x) w ≤ 2
+  put-colour-bound : (j ≡ colourAt → x ≤ black) → {w : ℕ} → Start M w → colour (put M v j x) w ≤ black
   unfolding colour
   put-colour-bound small {w} t =
-      let keep : w ≢ v ⊎ 1 ≢ j → word (put M v j x) w 1 ≤ 2 = λ d. rw (put-same t 1 (omega (arith, size-3 M w)) d) (f .colours t) in
+      let keep : w ≢ v ⊎ colourAt ≢ j → word (put M v j x) w colourAt ≤ black = λ d. rw (put-same t colourAt (omega (arith, size-least M w)) d) (f .colours t) in
       eq-or w v
-      (λ e. eq-or 1 j
-      (λ q. let n : word (put M v j x) v 1 ≡ x = ap (word (put M v j x) v) q ∙ put-new in rw (e, n) (small (sym q)))
+      (λ e. eq-or colourAt j
+      (λ q. let n : word (put M v j x) v colourAt ≡ x = ap (word (put M v j x) v) q ∙ put-new in rw (e, n) (small (sym q)))
       (λ q. keep (inr q)))
       (λ e. keep (inl e))
 
-  put-kept : (j ≡ colourAt → x ≤ 2) → PutKept M (put M v j x) v j x
+  put-kept : (j ≡ colourAt → x ≤ black) → PutKept M (put M v j x) v j x
   put-kept small = record {
     filled = record {
       count = f .count;
@@ -106,11 +106,11 @@ module _ {M : Memory} (f : Filled M) {v : ℕ} (s : Start M v) (j x : ℕ) (past
 
 -- the writes that there are: the colour, the replica word, a field
 module _ {M : Memory} (f : Filled M) {v : ℕ} (s : Start M v) where
-  pub put-colour : (c : ℕ) → c ≤ 2 → PutKept M (put M v colourAt c) v colourAt c
-  put-colour c l = put-kept f s colourAt c (omega arith) (omega (arith, size-3 M v)) (λ e. l)
+  pub put-colour : (c : ℕ) → c ≤ black → PutKept M (put M v colourAt c) v colourAt c
+  put-colour c l = put-kept f s colourAt c (omega arith) (omega (arith, size-least M v)) (λ e. l)
 
   pub put-replica : (x : ℕ) → PutKept M (put M v replicaAt x) v replicaAt x
-  put-replica x = put-kept f s replicaAt x (omega arith) (omega (arith, size-3 M v)) (λ e. absurd (omega arith))
+  put-replica x = put-kept f s replicaAt x (omega arith) (omega (arith, size-least M v)) (λ e. absurd (omega arith))
 
   pub put-field : (j x : ℕ) → header ≤ j → j < size M v → PutKept M (put M v j x) v j x
   put-field j x p l = put-kept f s j x (omega arith) l (λ e. absurd (omega arith))

@@ -7,7 +7,7 @@ use native.Mathlib.Nat.{add-zero}
 use native.Mathlib.Omega.{arith}
 use lib.ListN.{length}
 use borrow.Author.Tests.{le-leb}
-use Rattle.rules.specs.Memory.{Memory, half, frontier, reference, halfOf, wordOf, word, colour, refs, plains, size, sound, header, shapeAt}
+use Rattle.rules.specs.Memory.{Memory, half, frontier, reference, halfOf, wordOf, word, colour, refs, plains, size, sound, header, shapeAt, mostCount, mostShape, black}
 use Rattle.rules.proofs.memory.Cases.{eq-or}
 use Rattle.rules.proofs.memory.Encoding.{half-reference, word-reference, reference-again, reference-from-2, half-below-2, reference-same, refs-bound, plains-bound}
 use Rattle.rules.proofs.memory.Chain.{wordSize, pos, sizeAt, pos-whole, lt-of-pos, apart}
@@ -24,8 +24,8 @@ pub record Filled (M : Memory) : Type 0 where
   pub count : ℕ → ℕ
   pub full : (h : ℕ) → h < 2 → pos (half M h) (count h) ≡ frontier M h
   pub fits : (h : ℕ) → h < 2 → frontier M h ≤ length (half M h)
-  pub shapes : {v : ℕ} → Start M v → word M v shapeAt ≤ 65535
-  pub colours : {v : ℕ} → Start M v → colour M v ≤ 2
+  pub shapes : {v : ℕ} → Start M v → word M v shapeAt ≤ mostShape
+  pub colours : {v : ℕ} → Start M v → colour M v ≤ black
 
 -- ---- a start
 
@@ -63,8 +63,8 @@ pub size-fields : (M : Memory) (v : ℕ) → size M v ≡ header + refs M v + pl
 unfolding size
 size-fields M v = refl
 
-pub size-3 : (M : Memory) (v : ℕ) → 3 ≤ size M v
-size-3 M v = omega (arith, size-fields M v)
+pub size-least : (M : Memory) (v : ℕ) → header ≤ size M v
+size-least M v = omega (arith, size-fields M v)
 
 pub ref-inside : (M : Memory) (v i : ℕ) → i < refs M v → header + i < size M v
 ref-inside M v i l = omega (arith, size-fields M v)
@@ -100,18 +100,18 @@ module _ {M : Memory} (f : Filled M) {v : ℕ} (s : Start M v) where
   pub start-inside : (j : ℕ) → j < size M v → wordOf v + j < length (half M (halfOf v))
   start-inside j l = omega (arith, start-whole, f .fits (halfOf v) (half-below-2 v))
 
-  pub start-refs : refs M v ≤ 255
+  pub start-refs : refs M v ≤ mostCount
   unfolding refs
   start-refs = refs-bound (word M v shapeAt) (f .shapes s)
 
-  pub start-plains : plains M v ≤ 255
+  pub start-plains : plains M v ≤ mostCount
   unfolding plains
   start-plains = plains-bound (word M v shapeAt)
 
   pub start-sound : sound M v ≡ true
   unfolding sound
   start-sound =
-      rw (le-leb 2 v (s .named), le-leb (word M v shapeAt) 65535 (f .shapes s), le-leb (colour M v) 2 (f .colours s), le-leb (wordOf v + size M v) (frontier M (halfOf v)) start-whole)
+      rw (le-leb 2 v (s .named), le-leb (word M v shapeAt) mostShape (f .shapes s), le-leb (colour M v) black (f .colours s), le-leb (wordOf v + size M v) (frontier M (halfOf v)) start-whole)
 
 -- ---- two starts
 

@@ -10,7 +10,7 @@ use borrow.Author.Tests.{lt-ltb, le-ltb}
 use Rattle.rules.specs.Memory.{Memory, half, frontier, reference, halfOf, wordOf, size, nextReference, header}
 use Rattle.rules.proofs.memory.Cases.{lt-or}
 use Rattle.rules.proofs.memory.Encoding.{half-reference, reference-injective}
-use Rattle.rules.proofs.memory.Chain.{pos, sizeAt, pos-zero, pos-suc, pos-lt, pos-le, pos-3, pos-injective}
+use Rattle.rules.proofs.memory.Chain.{pos, sizeAt, pos-zero, pos-suc, pos-lt, pos-le, pos-least, pos-injective}
 use Rattle.rules.proofs.memory.Records.{Start, Filled, start-at, start-number, size-number}
 use Rattle.rules.proofs.memory.Same.{SameStarts}
 use Rattle.rules.proofs.memory.Append.{Appended}
@@ -38,7 +38,7 @@ module _ {M : Memory} {h v : ℕ} (s : Start M v) (side : halfOf v ≡ h) where
   below-front = let e : wordOf v ≡ pos (half M h) (s .num) = rw side at (s .place) in let b : wordOf v < frontier M h = rw side at (s .below) in omega arith
 
   number-below : s .num < frontier M h
-  number-below = omega (arith, below-front, pos-3 (half M h) (s .num))
+  number-below = omega (arith, below-front, pos-least (half M h) (s .num))
 
   weight-at : (f : ℕ → ℕ) → weight M h f (s .num) ≡ f v
   weight-at f = weight-in M h f (s .num) below-front ∙ ap f (start-number s side)
@@ -101,7 +101,7 @@ module _ {M : Memory} (k : Filled M) {h : ℕ} (two : h < 2) where
   unfolding total
   total-numbers f =
       let e = k .full h two in
-      sum-cut (weight M h f) (k .count h) (frontier M h) (omega (arith, e, pos-3 (half M h) (k .count h)))
+      sum-cut (weight M h f) (k .count h) (frontier M h) (omega (arith, e, pos-least (half M h) (k .count h)))
       (λ n l. weight-out M h f n (rw (← e) (pos-le (half M h) (k .count h) n l)))
       ∙ sum-same (weight M h f) (λ n. f (reference h (pos (half M h) n))) (k .count h)
       (λ n l. weight-in M h f n (rw (← e) (pos-lt (half M h) n (k .count h) l)))
@@ -114,9 +114,9 @@ module _ {M : Memory} (k : Filled M) {h : ℕ} (two : h < 2) where
       sizes zero = sum-zero _ ∙ sym (pos-zero (half M h))
       sizes (suc n) = sum-suc _ n ∙ rw (sizes n, size-number M h n two) (sym (pos-suc (half M h) n))
 
-  -- 3 words a record at least
-  pub total-count : total M h (λ v. 1) * 3 ≤ frontier M h
-  total-count = omega (arith, total-numbers (λ v. 1), sum-ones (k .count h), pos-3 (half M h) (k .count h), k .full h two)
+  -- the words of a header for each record at least
+  pub total-count : total M h (λ v. 1) * header ≤ frontier M h
+  total-count = omega (arith, total-numbers (λ v. 1), sum-ones (k .count h), pos-least (half M h) (k .count h), k .full h two)
 
 -- a weight that is 0 at every record of a half
 pub total-none : {M : Memory} → Filled M → {h : ℕ} → h < 2 → (w : ℕ → ℕ) → ((v : ℕ) → Start M v → halfOf v ≡ h → w v ≡ 0) → total M h w ≡ 0

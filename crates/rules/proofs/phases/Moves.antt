@@ -6,7 +6,7 @@ use mathlib.Core.Bool.{true}
 use native.Mathlib.Omega.{arith}
 use lib.ListN.{getD, length, List·getD-eq-default}
 use Rattle.rules.specs.Memory.{null, wordOf, frontier}
-use Rattle.rules.specs.Control.{Store, withList}
+use Rattle.rules.specs.Control.{Store, withList, globalCount}
 use Rattle.rules.specs.Phases.{levelOf, absent, moveOn, lowestUnmarked}
 use Rattle.rules.specs.Collector.{haveLevel}
 use Rattle.rules.specs.Free.{Free}
@@ -54,7 +54,7 @@ module _ {K : ℕ → Type 0} {m : ℕ → ℕ} {s : Store} {f : Free} (h : Sim 
   passed-all d v t = walk-done d (t .start) (t .side)
 
   -- a global of a number above 31 is null
-  past-globals : (g : ℕ) → 32 ≤ g → getD (s .globals) g null ≡ null
+  past-globals : (g : ℕ) → globalCount ≤ g → getD (s .globals) g null ≡ null
   past-globals g l = List·getD-eq-default (s .globals) null (omega (arith, h .roots .globals))
 
   -- ---- 0 Rest: the grey list emptied
@@ -108,13 +108,13 @@ module _ {K : ℕ → Type 0} {m : ℕ → ℕ} {s : Store} {f : Free} (h : Sim 
       (omega (arith, p .5))
 
   -- ---- 3 RootMark: every global has been shaded
-  pub root-mark-moves : s .phase ≡ atRootMark → 32 ≤ s .walk .place → Sim K m (moveOn s) f
+  pub root-mark-moves : s .phase ≡ atRootMark → globalCount ≤ s .walk .place → Sim K m (moveOn s) f
   unfolding levelOf levelBefore
   root-mark-moves e l = moves h
       (record {
         level = steady 3 e refl;
         emptied = λ o. absurd (omega arith);
-        globals = λ o g. lt-or g 32 (λ b. h .cleaned .globals-below e g (omega arith)) (λ b n. absurd (n (past-globals g b)));
+        globals = λ o g. lt-or g globalCount (λ b. h .cleaned .globals-below e g (omega arith)) (λ b n. absurd (n (past-globals g b)));
         none-grey = λ o. absurd (omega arith);
         registers = λ o. absurd (omega arith);
         shelled = λ o. absurd (omega arith);
@@ -176,7 +176,7 @@ module _ {K : ℕ → Type 0} {m : ℕ → ℕ} {s : Store} {f : Free} (h : Sim 
       (omega arith)
 
   -- ---- 10 RootFlip: every global has been forwarded
-  pub root-flip-moves : s .phase ≡ atRootFlip → 32 ≤ s .walk .place → Sim K m (moveOn s) f
+  pub root-flip-moves : s .phase ≡ atRootFlip → globalCount ≤ s .walk .place → Sim K m (moveOn s) f
   unfolding levelOf levelBefore
   root-flip-moves e l = moves h
       (record {
@@ -187,6 +187,6 @@ module _ {K : ℕ → Type 0} {m : ℕ → ℕ} {s : Store} {f : Free} (h : Sim 
         registers = λ o. absurd (omega arith);
         shelled = λ o. absurd (omega arith);
         copied = λ o. absurd (omega arith);
-        flipped = λ o g. lt-or g 32 (λ b. h .root-halves .flipping e g (omega arith)) (λ b n. absurd (n (past-globals g b)));
+        flipped = λ o g. lt-or g globalCount (λ b. h .root-halves .flipping e g (omega arith)) (λ b n. absurd (n (past-globals g b)));
       })
       (omega arith)

@@ -5,7 +5,7 @@ use mathlib.Core.Path.{_≡_, refl, sym, _∙_}
 use mathlib.Core.Logic.{inl}
 use mathlib.Core.Bool.{true}
 use native.Mathlib.Omega.{arith}
-use Rattle.rules.specs.Memory.{Memory, null, halfOf, withFrontier, colour, replica, refs, frontier}
+use Rattle.rules.specs.Memory.{Memory, null, halfOf, withFrontier, colour, replica, refs, frontier, colourAt, replicaAt}
 use Rattle.rules.specs.Control.{Store, withMemory}
 use Rattle.rules.specs.Phases.{otherHalf, levelOf, nextPhase, unmarked, moveOn}
 use Rattle.rules.specs.Collector.{haveLevel}
@@ -55,11 +55,11 @@ module _ {K : ℕ → Type 0} {m : ℕ → ℕ} {s : Store} {f : Free} (h : Sim 
 
   same-colour : (v : ℕ) → colour M′ v ≡ colour M v
   unfolding colour
-  same-colour v = gone .same v 1
+  same-colour v = gone .same v colourAt
 
   same-replica : (v : ℕ) → replica M′ v ≡ replica M v
   unfolding replica
-  same-replica v = gone .same v 2
+  same-replica v = gone .same v replicaAt
 
   same-field : (v i : ℕ) → field M′ v i ≡ field M v i
   same-field v i = gone .same v _

@@ -6,7 +6,7 @@ use lib.ListN.{getD}
 use lib.Seq.{getD-set-same}
 use borrow.Author.Tests.{lt-ltb, le-ltb}
 use Rattle.rules.specs.Memory.{null}
-use Rattle.rules.specs.Control.{Store, withWalk, walkLimit}
+use Rattle.rules.specs.Control.{Store, withWalk, walkLimit, globalCount}
 use Rattle.rules.specs.Phases.{otherHalf, moveOn}
 use Rattle.rules.specs.Collector.{rootFlip}
 use Rattle.rules.specs.Free.{Free}
@@ -23,7 +23,7 @@ use Rattle.rules.proofs.sessions.Session.{GlobalFits, global-sim-same}
 use Rattle.rules.proofs.phases.Moves.{root-flip-moves}
 
 -- ---- the walk over the globals goes on
-module _ {K : ℕ → Type 0} {m : ℕ → ℕ} {s : Store} {f : Free} (h : Sim K m s f) (e : s .phase ≡ atRootFlip) (l : s .walk .place < 32)
+module _ {K : ℕ → Type 0} {m : ℕ → ℕ} {s : Store} {f : Free} (h : Sim K m s f) (e : s .phase ≡ atRootFlip) (l : s .walk .place < globalCount)
     (here : Names (otherHalf (s .current)) (getD (s .globals) (s .walk .place) null)) where
   next-global : Sim K m (withWalk s (s .walk .place + 1) (s .walk .field)) f
   unfolding walkLimit
@@ -66,17 +66,17 @@ module _ {K : ℕ → Type 0} {m : ℕ → ℕ} {s : Store} {f : Free} (h : Sim 
     kept = h .kept .globals (s .walk .place);
   }
 
-  forwards : s .walk .place < 32 → Stepped K m s f (rootFlip s)
+  forwards : s .walk .place < globalCount → Stepped K m s f (rootFlip s)
   unfolding rootFlip
   forwards l = stepped-same
-      (rw (lt-ltb (s .walk .place) 32 l, to-other h (omega arith), forward-passed (other h) (h .filled) (h .roots .global-ok (s .walk .place))))
+      (rw (lt-ltb (s .walk .place) globalCount l, to-other h (omega arith), forward-passed (other h) (h .filled) (h .roots .global-ok (s .walk .place))))
       (next-global (global-sim-same h (s .walk .place) (omega arith) new-fits) e l
       (rw (getD-set-same (s .globals) (s .walk .place) new null (omega (arith, h .roots .globals))) new-names))
       refl
 
-  ends : 32 ≤ s .walk .place → Stepped K m s f (rootFlip s)
+  ends : globalCount ≤ s .walk .place → Stepped K m s f (rootFlip s)
   unfolding rootFlip moveOn
-  ends l = stepped-same (rw (le-ltb (s .walk .place) 32 l)) (root-flip-moves h e l) refl
+  ends l = stepped-same (rw (le-ltb (s .walk .place) globalCount l)) (root-flip-moves h e l) refl
 
   pub root-flip-stepped : Stepped K m s f (rootFlip s)
-  root-flip-stepped = lt-or (s .walk .place) 32 forwards ends
+  root-flip-stepped = lt-or (s .walk .place) globalCount forwards ends

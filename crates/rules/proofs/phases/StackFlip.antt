@@ -8,7 +8,7 @@ use lib.ListN.{getD, length, length-map, List·getD-map}
 use borrow.Author.Tests.{lt-ltb, le-ltb}
 use Rattle.rules.specs.Refusals.{passed}
 use Rattle.rules.specs.Memory.{Memory, null}
-use Rattle.rules.specs.Control.{Store}
+use Rattle.rules.specs.Control.{Store, lastSession}
 use Rattle.rules.specs.Phases.{sessionAt, withSession, withRegisters, withMark, lowestUnmarked, moveOn}
 use Rattle.rules.specs.Collector.{forwardAll, stackFlip}
 use Rattle.rules.specs.Free.{Free, freeSession}
@@ -34,7 +34,7 @@ forwarded-at M to vs k = rw (fwd-null M to) at (List·getD-map (fwd M to) vs k n
 
 module _ {K : ℕ → Type 0} {m : ℕ → ℕ} {s : Store} {f : Free} (h : Sim K m s f) (e : s .phase ≡ atStackFlip) where
   -- ---- one session
-  module _ (n : ℕ) (l : n ≤ 15) (a : sessionAt s n .attached ≡ true) where
+  module _ (n : ℕ) (l : n ≤ lastSession) (a : sessionAt s n .attached ≡ true) where
     abbrev regs : List ℕ
     regs = sessionAt s n .registers
 
@@ -83,7 +83,7 @@ module _ {K : ℕ → Type 0} {m : ℕ → ℕ} {s : Store} {f : Free} (h : Sim 
   forwards : low < length (s .sessions) → Stepped K m s f (stackFlip s)
   unfolding stackFlip withSession
   forwards l =
-      let b : low ≤ 15 = omega (arith, h .roots .sessions) in
+      let b : low ≤ lastSession = omega (arith, h .roots .sessions) in
       let a = low-attached l in
       stepped-same
       (rw (lt-ltb low (length (s .sessions)) l, to-other h (omega arith), forward-all-passed (other h) (h .filled) (regs low b a) (regs-ok low b a)))

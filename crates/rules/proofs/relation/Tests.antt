@@ -7,7 +7,7 @@ use lib.Dec.{leb, eqb}
 use borrow.Author.Tests.{leb-true, ne-eqb}
 use Rattle.rules.specs.Refusals.{Tested, passed, check, _>>=_, _>>_}
 use Rattle.rules.specs.Memory.{null, followed}
-use Rattle.rules.specs.Control.{Store}
+use Rattle.rules.specs.Control.{Store, lastSession}
 use Rattle.rules.specs.Phases.{sessionAt, register}
 use Rattle.rules.specs.Calls.{sessionOf, recordIn}
 use Rattle.rules.specs.Free.{Free, FreeSession, freeSession, freeRegister, freeSessionOf, freeRecordIn}
@@ -22,7 +22,7 @@ use Rattle.rules.proofs.relation.Alike.{Both, refused-both}
 
 -- the attached session of a call, after the tests 4, 5 and 6
 pub record Attached (s : Store) (n : ℕ) : Type 0 where
-  pub number : n ≤ 15
+  pub number : n ≤ lastSession
   pub attached : sessionAt s n .attached ≡ true
   pub allowed : Allowed (s .phase) (sessionAt s n .level)
 
@@ -41,7 +41,7 @@ module _ {K : ℕ → Type 0} {m : ℕ → ℕ} {s : Store} {f : Free} (h : Sim 
       → Both R (sessionOf s n >>= k) (freeSessionOf f n >>= k′)
   unfolding sessionOf freeSessionOf freeSession
   both-session {A} {B} {R} n k k′ c = rw (in-range-tested (h .range), same-attached n)
-      (go (leb n 15) (sessionAt s n .attached) (λ l a. c (record { number = leb-true n 15 l; attached = a; allowed = its-level n a })))
+      (go (leb n lastSession) (sessionAt s n .attached) (λ l a. c (record { number = leb-true n lastSession l; attached = a; allowed = its-level n a })))
     where
       go : (a b : Bool) → (a ≡ true → b ≡ true → Both R (k (sessionAt s n)) (k′ (freeSession f n)))
           → Both R (check a 5 >> (check b 6 >> passed (sessionAt s n)) >>= k) (check a 5 >> (check b 6 >> passed (freeSession f n)) >>= k′)

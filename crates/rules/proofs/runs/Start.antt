@@ -8,8 +8,8 @@ use lib.Dec.{leb, eqb}
 use lib.ListN.{getD, length, getD-replicate}
 use borrow.Author.Tests.{leb-true, eqb-true}
 use Rattle.rules.specs.Refusals.{Tested, refused, passed, check, answer}
-use Rattle.rules.specs.Memory.{null, frontier, halfOf}
-use Rattle.rules.specs.Control.{Store, Lengths, lengthsOf, newStore, nobody, halfAllowed, listAllowed, making, madeBy, make, walkLimit}
+use Rattle.rules.specs.Memory.{null, frontier, halfOf, header}
+use Rattle.rules.specs.Control.{Store, Lengths, lengthsOf, newStore, nobody, halfAllowed, listAllowed, making, madeBy, make, walkLimit, globalCount, sessionCount, registerCount, lastLevel, leastLength, mostLength}
 use Rattle.rules.specs.Phases.{otherHalf, sessionAt, absent}
 use Rattle.rules.specs.Free.{newFree, freeNobody, freeAbsent}
 use Rattle.rules.specs.Claims.{Made}
@@ -28,10 +28,10 @@ use Rattle.rules.proofs.invariant.Idle.{list-idle, cleaned-idle, walkin
 
 -- the lengths that making allows
 pub record Fit (h0 h1 ws : List ℕ) : Type 0 where
-  pub least : 16 ≤ length h0
-  pub most : length h0 ≤ 1048576
+  pub least : leastLength ≤ length h0
+  pub most : length h0 ≤ mostLength
   pub equal : length h0 ≡ length h1
-  pub enough : length h0 / 3 ≤ length ws
+  pub enough : length h0 / header ≤ length ws
 
 module _ (K : ℕ → Type 0) (to-come : (q : ℕ) → 0 < q → K q) (h0 h1 ws : List ℕ) (fit : Fit h0 h1 ws) where
   abbrev s : Store
@@ -72,35 +72,35 @@ module _ (K : ℕ → Type 0) (to-come : (q : ℕ) → 0 < q → K q) (h0 h1 ws 
     fields = omega arith;
     begins = omega arith;
     ends = omega arith;
-    levels = all-same (λ x. x .level ≤ 6) nobody absent (omega arith) (omega arith) 16;
+    levels = all-same (λ x. x .level ≤ lastLevel) nobody absent (omega arith) (omega arith) sessionCount;
   }
 
   no-register : (n k : ℕ) → reg (s .sessions) n k ≡ null
-  no-register n k = all-same (λ x. getD (x .registers) k null ≡ null) nobody absent (zeros 8 k) refl 16 n
+  no-register n k = all-same (λ x. getD (x .registers) k null ≡ null) nobody absent (zeros registerCount k) refl sessionCount n
 
   no-free-register : (n k : ℕ) → freg (newFree .sessions) n k ≡ null
   unfolding newFree
-  no-free-register n k = all-same (λ x. getD (x .registers) k null ≡ null) freeNobody freeAbsent (zeros 8 k) refl 16 n
+  no-free-register n k = all-same (λ x. getD (x .registers) k null ≡ null) freeNobody freeAbsent (zeros registerCount k) refl sessionCount n
 
   no-free-global : (g : ℕ) → getD (newFree .globals) g null ≡ null
   unfolding newFree
-  no-free-global g = zeros 32 g
+  no-free-global g = zeros globalCount g
 
   detached : (n : ℕ) → getD (s .sessions) n absent .attached ≡ false
-  detached n = all-same (λ x. x .attached ≡ false) nobody absent refl refl 16 n
+  detached n = all-same (λ x. x .attached ≡ false) nobody absent refl refl sessionCount n
 
   free-detached : (n : ℕ) → getD (newFree .sessions) n freeAbsent .attached ≡ false
   unfolding newFree
-  free-detached n = all-same (λ x. x .attached ≡ false) freeNobody freeAbsent refl refl 16 n
+  free-detached n = all-same (λ x. x .attached ≡ false) freeNobody freeAbsent refl refl sessionCount n
 
-  eight : (n : ℕ) → n < 16 → length (getD (s .sessions) n absent .registers) ≡ 8
-  eight n l = rw (getD-replicate 16 n nobody absent l)
+  registers-counted : (n : ℕ) → n < sessionCount → length (getD (s .sessions) n absent .registers) ≡ registerCount
+  registers-counted n l = rw (getD-replicate sessionCount n nobody absent l)
 
-  free-eight : (n : ℕ) → n < 16 → length (getD (newFree .sessions) n freeAbsent .registers) ≡ 8
+  free-registers-counted : (n : ℕ) → n < sessionCount → length (getD (newFree .sessions) n freeAbsent .registers) ≡ registerCount
   unfolding newFree
-  free-eight n l = rw (getD-replicate 16 n freeNobody freeAbsent l)
+  free-registers-counted n l = rw (getD-replicate sessionCount n freeNobody freeAbsent l)
 
-  counted : (length (newFree .sessions) ≡ 16) × (length (newFree .globals) ≡ 32)
+  counted : (length (newFree .sessions) ≡ sessionCount) × (length (newFree .globals) ≡ globalCount)
   unfolding newFree
   counted = (refl, refl)
 
@@ -108,15 +108,15 @@ module _ (K : ℕ → Type 0) (to-come : (q : ℕ) → 0 < q → K q) (h0 h1 ws 
   new-roots = record {
     sessions = refl;
     free-sessions = counted .0;
-    registers = eight;
-    free-registers = free-eight;
+    registers = registers-counted;
+    free-registers = free-registers-counted;
     globals = refl;
     free-globals = counted .1;
     attached = λ n. free-detached n ∙ sym (detached n);
     idle = λ n k e. no-register n k;
     reg-ok = λ n k. ok-null (no-register n k);
     reg-is = λ n k. no-free-register n k;
-    global-ok = λ g. ok-null (zeros 32 g);
+    global-ok = λ g. ok-null (zeros globalCount g);
     global-is = λ g. no-free-global g;
   }
 
@@ -142,7 +142,7 @@ module _ (K : ℕ → Type 0) (to-come : (q : ℕ) → 0 < q → K q) (h0 h1 ws 
     values = record { ok = λ v i t. absurd (none-in t); ref = λ v i t. absurd (none-in t); plain = λ v i t. absurd (none-in t) };
     roots = new-roots;
     levels = record { allowed = λ n e. absurd (never n e) };
-    root-halves = roots-home (omega arith) (λ n k z. absurd (z (no-register n k))) (λ g z. absurd (z (zeros 32 g)));
+    root-halves = roots-home (omega arith) (λ n k z. absurd (z (no-register n k))) (λ g z. absurd (z (zeros globalCount g)));
     field-halves = record {
       home = λ a v i t. absurd (none-in t);
       away = λ a v i t. absurd (none-in t);
@@ -196,7 +196,7 @@ fit-of h0 h1 ws e =
       least = leb-true _ _ (d .0);
       most = leb-true _ _ (d .1);
       equal = eqb-true _ _ (b .0);
-      enough = leb-true _ _ (last (leb (length h0 / 3) (length ws)) (b .1));
+      enough = leb-true _ _ (last (leb (length h0 / header) (length ws)) (b .1));
     }
 
 accepted : (t : Tested (Unit {0})) (n : Lengths) (h0 h1 ws : List ℕ) → madeBy t n h0 h1 ws .reply ≡ answer Done → t ≡ passed tt

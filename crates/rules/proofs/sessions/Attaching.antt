@@ -9,7 +9,7 @@ use lib.ListN.{replicate}
 use borrow.Author.Tests.{leb-true}
 use Rattle.rules.specs.Refusals.{_>>=_, done}
 use Rattle.rules.specs.Memory.{null}
-use Rattle.rules.specs.Control.{Store, registerCount}
+use Rattle.rules.specs.Control.{Store, registerCount, lastSession, lastLevel}
 use Rattle.rules.specs.Phases.{withLevel, attachedAt, detached, levelOf, sessionAt, withSession}
 use Rattle.rules.specs.Calls as calls
 use Rattle.rules.specs.Free.{Free, freeSession, freeNobody, freeSessionOf, freeAttach, freeDetach}
@@ -23,7 +23,7 @@ use Rattle.rules.proofs.relation.Tests.{same-attached, both-session}
 use Rattle.rules.proofs.sessions.Session.{SessionFits, session-sim, session-sim-same, session-fits, null-fits, refit}
 
 module _ {K : ℕ → Type 0} {m : ℕ → ℕ} {s : Store} {f : Free} (h : Sim K m s f) where
-  phase-level : levelOf (s .phase) ≤ 6
+  phase-level : levelOf (s .phase) ≤ lastLevel
   phase-level = level-most (s .phase) (levelOf (s .phase)) (h .range .phases) (inl refl)
 
   attached-fits : SessionFits K m s (attachedAt (levelOf (s .phase)))
@@ -36,7 +36,7 @@ module _ {K : ℕ → Type 0} {m : ℕ → ℕ} {s : Store} {f : Free} (h : Sim 
     allowed = λ e. inl refl;
     idle = λ e. absurd (true≢false e);
     done = λ p a e. absurd (true≢false (sym e));
-    words = λ e k. rw (zeros 8 k) (null-fits h _);
+    words = λ e k. rw (zeros registerCount k) (null-fits h _);
     free-idle = λ e. absurd (true≢false e);
   }
 
@@ -47,14 +47,14 @@ module _ {K : ℕ → Type 0} {m : ℕ → ℕ} {s : Store} {f : Free} (h : Sim 
     attached = refl;
     low = omega arith;
     allowed = λ e. absurd (true≢false (sym e));
-    idle = λ e k. zeros 8 k;
+    idle = λ e k. zeros registerCount k;
     done = λ p e. absurd (true≢false (sym e));
     words = λ e. absurd (true≢false (sym e));
-    free-idle = λ e k. zeros 8 k;
+    free-idle = λ e k. zeros registerCount k;
   }
 
   -- the session at the phase's level
-  safe-fits : (n : ℕ) → n ≤ 15
+  safe-fits : (n : ℕ) → n ≤ lastSession
       → SessionFits K m s (withLevel (sessionAt s n) (levelOf (s .phase))) (freeSession f n)
   safe-fits n l = let z = session-fits h n l in record {
     registers = z .registers;
@@ -70,9 +70,9 @@ module _ {K : ℕ → Type 0} {m : ℕ → ℕ} {s : Store} {f : Free} (h : Sim 
 
   pub attach-alike : (n q : ℕ) → Alike K q m s (calls.attach s n) (freeAttach f n)
   unfolding calls.attach freeAttach withSession
-  attach-alike n q = rw (in-range-tested (h .range), same-attached h n) (both-check (leb n 15) 5 tt
+  attach-alike n q = rw (in-range-tested (h .range), same-attached h n) (both-check (leb n lastSession) 5 tt
       (λ l. both-check (not (sessionAt s n .attached)) 7 tt
-      (λ e. alike-done (session-sim h n (leb-true n 15 l) attached-fits) refl refl refl)))
+      (λ e. alike-done (session-sim h n (leb-true n lastSession l) attached-fits) refl refl refl)))
 
   pub detach-alike : (n q : ℕ) → Alike K q m s (calls.detach s n) (freeDetach f n)
   unfolding calls.detach freeDetach withSession

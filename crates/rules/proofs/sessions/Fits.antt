@@ -6,7 +6,7 @@ use mathlib.Core.Bool.{true, false}
 use native.Mathlib.Omega.{arith}
 use lib.ListN.{getD, length}
 use Rattle.rules.specs.Memory.{null}
-use Rattle.rules.specs.Control.{Store}
+use Rattle.rules.specs.Control.{Store, registerCount, lastSession, lastLevel}
 use Rattle.rules.specs.Phases.{otherHalf, sessionAt}
 use Rattle.rules.specs.Free.{Free, FreeSession, freeSession}
 use Rattle.rules.specs.declared.Session.{Session}
@@ -41,10 +41,10 @@ refit z e t = record {
 
 -- a session x of the store beside y of the collector-free store
 pub record SessionFits (K : ℕ → Type 0) (m : ℕ → ℕ) (s : Store) (x : Session) (y : FreeSession) : Type 0 where
-  pub registers : length (x .registers) ≡ 8
-  pub free-registers : length (y .registers) ≡ 8
+  pub registers : length (x .registers) ≡ registerCount
+  pub free-registers : length (y .registers) ≡ registerCount
   pub attached : y .attached ≡ x .attached
-  pub low : x .level ≤ 6
+  pub low : x .level ≤ lastLevel
   pub allowed : x .attached ≡ true → Allowed (s .phase) (x .level)
   pub idle : x .attached ≡ false → (k : ℕ) → getD (x .registers) k null ≡ null
   -- HeapMark marks a session only while the list is done
@@ -129,7 +129,7 @@ module _ {K : ℕ → Type 0} {m : ℕ → ℕ} {s : Store} {f : Free} (h : Sim 
   unfolding sessionAt freeSession
   free-null n k a = h .roots .reg-is n k ∙ rw (h .roots .idle n k a) (h .identity .null-place)
 
-  pub session-fits : (n : ℕ) → n ≤ 15 → SessionFits K m s (sessionAt s n) (freeSession f n)
+  pub session-fits : (n : ℕ) → n ≤ lastSession → SessionFits K m s (sessionAt s n) (freeSession f n)
   unfolding sessionAt freeSession
   session-fits n l = record {
     registers = h .roots .registers n (omega arith);

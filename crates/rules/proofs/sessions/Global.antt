@@ -7,7 +7,7 @@ use native.Mathlib.Omega.{arith}
 use lib.ListN.{getD, set, length-set}
 use lib.Seq.{set-getD}
 use Rattle.rules.specs.Memory.{null}
-use Rattle.rules.specs.Control.{Store, withGlobals}
+use Rattle.rules.specs.Control.{Store, withGlobals, lastGlobal}
 use Rattle.rules.specs.Phases.{otherHalf}
 use Rattle.rules.specs.Free.{Free}
 use Rattle.rules.proofs.memory.Lists.{set-each}
@@ -23,7 +23,7 @@ withFreeGlobals f gs = record { sessions = f .sessions; globals = gs; records = 
 
 -- ---- the groups with global g changed
 
-module _ {K : ℕ → Type 0} {m : ℕ → ℕ} {s : Store} {f : Free} (h : Sim K m s f) (g : ℕ) (l : g ≤ 31) {v q : ℕ} (t : GlobalFits K m s g v q) where
+module _ {K : ℕ → Type 0} {m : ℕ → ℕ} {s : Store} {f : Free} (h : Sim K m s f) (g : ℕ) (l : g ≤ lastGlobal) {v q : ℕ} (t : GlobalFits K m s g v q) where
   each-global : (P : ℕ → ℕ → ℕ → Type 0) → P g v q
       → ((j : ℕ) → P j (getD (s .globals) j null) (getD (f .globals) j null))
       → (j : ℕ) → P j (getD (set (s .globals) g v) j null) (getD (set (f .globals) g q) j null)
@@ -79,7 +79,7 @@ module _ {K : ℕ → Type 0} {m : ℕ → ℕ} {s : Store} {f : Free} (h : Sim 
 
 module _ {K : ℕ → Type 0} {m : ℕ → ℕ} {s : Store} {f : Free} (h : Sim K m s f) where
   -- one global set
-  pub global-sim : (g : ℕ) → g ≤ 31 → {v q : ℕ} → GlobalFits K m s g v q
+  pub global-sim : (g : ℕ) → g ≤ lastGlobal → {v q : ℕ} → GlobalFits K m s g v q
       → Sim K m (withGlobals s (set (s .globals) g v)) (withFreeGlobals f (set (f .globals) g q))
   global-sim g l {v} {q} t = record {
     range = range-globals (h .range) (set (s .globals) g v);
@@ -100,6 +100,6 @@ module _ {K : ℕ → Type 0} {m : ℕ → ℕ} {s : Store} {f : Free} (h : Sim 
   }
 
   -- the collector-free global stays
-  pub global-sim-same : (g : ℕ) → g ≤ 31 → {v : ℕ} → GlobalFits K m s g v (getD (f .globals) g null)
+  pub global-sim-same : (g : ℕ) → g ≤ lastGlobal → {v : ℕ} → GlobalFits K m s g v (getD (f .globals) g null)
       → Sim K m (withGlobals s (set (s .globals) g v)) f
   global-sim-same g l t = rw (set-getD (f .globals) g null) at (global-sim g l t)

@@ -4,7 +4,7 @@ use mathlib.Core.Path.{_≡_, refl}
 use mathlib.Core.Bool.{true, _&&_}
 use borrow.Author.Tests.{leb-true}
 use Rattle.rules.specs.Refusals.{done}
-use Rattle.rules.specs.Control.{Store}
+use Rattle.rules.specs.Control.{Store, lastRegister}
 use Rattle.rules.specs.Phases.{sessionAt, withSession, register}
 use Rattle.rules.specs.Calls as calls
 use Rattle.rules.specs.Calls.{isRegister, isGlobal, withRegister}
@@ -16,8 +16,8 @@ use Rattle.rules.proofs.relation.Tests.{Attached, both-session}
 use Rattle.rules.proofs.sessions.Session.{WordFits, register-sim, register-fits, global-fits, null-fits}
 
 -- 8: a register's number
-is-register : (k : ℕ) → isRegister k ≡ true → k ≤ 7
-is-register k e = leb-true k 7 e
+is-register : (k : ℕ) → isRegister k ≡ true → k ≤ lastRegister
+is-register k e = leb-true k lastRegister e
 
 module _ {K : ℕ → Type 0} {m : ℕ → ℕ} {s : Store} {f : Free} (h : Sim K m s f) where
   -- a register of the call's session set to a word that fits ends the call alike

@@ -7,7 +7,7 @@ use native.Mathlib.Omega.{arith}
 use lib.ListN.{getD, set, length, length-set}
 use lib.Seq.{set-getD}
 use Rattle.rules.specs.Memory.{null}
-use Rattle.rules.specs.Control.{Store}
+use Rattle.rules.specs.Control.{Store, sessionCount, registerCount, lastSession, lastRegister, lastLevel}
 use Rattle.rules.specs.Phases.{otherHalf, sessionAt, withSession, withRegisters, absent}
 use Rattle.rules.specs.Calls.{withRegister}
 use Rattle.rules.specs.Free.{Free, FreeSession, freeSession, withFreeSession, withFreeRegister, freeAbsent}
@@ -27,7 +27,7 @@ pub use Rattle.rules.proofs.sessions.Global.{withFreeGlobals, global-si
 
 -- ---- the groups with session n changed
 
-module _ {K : ℕ → Type 0} {m : ℕ → ℕ} {s : Store} {f : Free} (h : Sim K m s f) (n : ℕ) (l : n ≤ 15) {x : Session} {y : FreeSession} (t : SessionFits K m s x y) where
+module _ {K : ℕ → Type 0} {m : ℕ → ℕ} {s : Store} {f : Free} (h : Sim K m s f) (n : ℕ) (l : n ≤ lastSession) {x : Session} {y : FreeSession} (t : SessionFits K m s x y) where
   each : (P : ℕ → Session → FreeSession → Type 0) → P n x y
       → ((j : ℕ) → P j (getD (s .sessions) j absent) (getD (f .sessions) j freeAbsent))
       → (j : ℕ) → P j (getD (set (s .sessions) n x) j absent) (getD (set (f .sessions) n y) j freeAbsent)
@@ -35,14 +35,14 @@ module _ {K : ℕ → Type 0} {m : ℕ → ℕ} {s : Store} {f : Free} (h : Sim 
 
   new-range : InRange (withSession s n x)
   unfolding withSession sessionAt
-  new-range = range-sessions (h .range) (set (s .sessions) n x) (each (λ j a b. a .level ≤ 6) (t .low) (h .range .levels))
+  new-range = range-sessions (h .range) (set (s .sessions) n x) (each (λ j a b. a .level ≤ lastLevel) (t .low) (h .range .levels))
 
   new-roots : Roots (s .memory) m (set (s .sessions) n x) (set (f .sessions) n y) (s .globals) (f .globals)
   new-roots = let r = h .roots in record {
     sessions = length-set (s .sessions) n x ∙ r .sessions;
     free-sessions = length-set (f .sessions) n y ∙ r .free-sessions;
-    registers = each (λ j a b. j < 16 → length (a .registers) ≡ 8) (λ z. t .registers) (r .registers);
-    free-registers = each (λ j a b. j < 16 → length (b .registers) ≡ 8) (λ z. t .free-registers) (r .free-registers);
+    registers = each (λ j a b. j < sessionCount → length (a .registers) ≡ registerCount) (λ z. t .registers) (r .registers);
+    free-registers = each (λ j a b. j < sessionCount → length (b .registers) ≡ registerCount) (λ z. t .free-registers) (r .free-registers);
     globals = r .globals;
     free-globals = r .free-globals;
     attached = each (λ j a b. b .attached ≡ a .attached) (t .attached) (r .attached);
@@ -93,7 +93,7 @@ module _ {K : ℕ → Type 0} {m : ℕ → ℕ} {s : Store} {f : Free} (h : Sim 
   }
 
 module _ {K : ℕ → Type 0} {m : ℕ → ℕ} {s : Store} {f : Free} (h : Sim K m s f) where
-  pub session-sim : (n : ℕ) → n ≤ 15 → {x : Session} {y : FreeSession} → SessionFits K m s x y
+  pub session-sim : (n : ℕ) → n ≤ lastSession → {x : Session} {y : FreeSession} → SessionFits K m s x y
       → Sim K m (withSession s n x) (withFreeSession f n y)
   unfolding withSession
   session-sim n l {x} {y} t = record {
@@ -115,12 +115,12 @@ module _ {K : ℕ → Type 0} {m : ℕ → ℕ} {s : Store} {f : Free} (h : Sim 
   }
 
   -- the collector-free session stays
-  pub session-sim-same : (n : ℕ) → n ≤ 15 → {x : Session} → SessionFits K m s x (freeSession f n) → Sim K m (withSession s n x) f
+  pub session-sim-same : (n : ℕ) → n ≤ lastSession → {x : Session} → SessionFits K m s x (freeSession f n) → Sim K m (withSession s n x) f
   unfolding freeSession
   session-sim-same n l t = rw (set-getD (f .sessions) n freeAbsent) at (session-sim n l t)
 
   -- one register of an attached session set
-  pub register-sim : (n k : ℕ) → n ≤ 15 → k ≤ 7 → sessionAt s n .attached ≡ true → {v q : ℕ} → WordFits K m s (sessionAt s n) v q
+  pub register-sim : (n k : ℕ) → n ≤ lastSession → k ≤ lastRegister → sessionAt s n .attached ≡ true → {v q : ℕ} → WordFits K m s (sessionAt s n) v q
       → Sim K m (withRegister s n k v) (withFreeRegister f n k q)
   unfolding withRegister withFreeRegister
   register-sim n k l j a {v} {q} t =
