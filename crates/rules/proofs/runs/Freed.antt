@@ -8,16 +8,17 @@ use native.Mathlib.Omega.{arith}
 use lib.ListN.{getD, length, List·getD-eq-default}
 use Rattle.rules.specs.Memory.{null, halfOf, size, sizeOf, refs, plains}
 use Rattle.rules.specs.Control.{withList}
+use Rattle.rules.specs.Cycle.{stage, atRest}
 use Rattle.rules.specs.Phases.{moveOn, nextPhase}
 use Rattle.rules.specs.Collector.{rest, step, walked, units, handshake}
 use Rattle.rules.specs.Runs.{Call, Step, apply, after}
 use Rattle.rules.specs.Free.{Free, Record, noRecord, recordAt, freeSession, freeRegister}
 use Rattle.rules.specs.Tracking.{Beside, track, besideCall, beside, Reached, by-register, by-global, by-field}
 use Rattle.rules.specs.Claims.{FreedBetween, leftIn}
-use Rattle.rules.proofs.invariant.Turns.{atPreMark1, atRest}
 use Rattle.rules.proofs.Ranges.{in-range-tested}
 use Rattle.rules.proofs.memory.Records.{Start, size-fields}
 use Rattle.rules.proofs.memory.Listing.{mapped-start, mapped-once, mapped-words}
+use Rattle.rules.proofs.invariant.Stages.{stPreMark1, stage-is}
 use Rattle.rules.proofs.invariant.Words.{recOf}
 use Rattle.rules.proofs.invariant.Marking.{Kept}
 use Rattle.rules.proofs.invariant.Laws.{cur-two}
@@ -37,7 +38,7 @@ begun b = record { store = moveOn (withList (b .store) (b .store .list .words) 0
 
 module _ {K : ℕ → Type 0} (b : Beside) (h : Holds K b) (z : b .store .phase ≡ atRest) where
   first-unit : getD units (b .store .phase) handshake (b .store) ≡ rest (b .store)
-  first-unit = ap (λ ph. getD units ph handshake (b .store)) z
+  first-unit = ap (λ st. getD units st handshake (b .store)) z
 
   begins : apply (b .store) Step .store ≡ begun b .store
   unfolding step rest
@@ -58,14 +59,14 @@ module _ {K : ℕ → Type 0} (b : Beside) (h : Holds K b) (z : b .store .phase 
   no-fields : (rs : List Record) (q i : ℕ) → length rs < q → getD (recOf rs q .refs) i null ≡ null
   no-fields rs q i l = rw (List·getD-eq-default rs noRecord {n = q - 1} (omega arith))
 
-  living : Kept (Living (b .free)) (b .store .memory) (b .place) (b .store .current) 1 (b .free .records) (b .free .sessions) (b .free .globals)
+  living : Kept (Living (b .free)) (b .store .memory) (b .place) (b .store .current) stPreMark1 (b .free .records) (b .free .sessions) (b .free .globals)
   unfolding freeSession freeRegister recordAt
   living = record {
     to-come = λ q l. inr l;
     registers = λ n k e. inl (by-register n k e);
     globals = λ g e. inl (by-global g e);
     fields = field;
-    marked = λ lo hi v t e. absurd (e (h .colours .at-rest z v t));
+    marked = λ lo hi v t e. absurd (e (h .colours .at-rest (stage-is z) v t));
     left-12 = λ e. absurd (omega arith);
     left-0 = λ e. absurd (omega arith);
   }
@@ -74,13 +75,13 @@ module _ {K : ℕ → Type 0} (b : Beside) (h : Holds K b) (z : b .store .phase 
       field q i (inl r) e = inl (by-field q i r e)
       field q i (inr l) e = absurd (e (no-fields (b .free .records) q i l))
 
-  phase-1 : begun b .store .phase ≡ atPreMark1
-  unfolding moveOn nextPhase
-  phase-1 = rw z
+  begun-stage : stage (begun b .store .phase) ≡ stPreMark1
+  unfolding moveOn nextPhase stage
+  begun-stage = rw z
 
-  begun-kept : Kept (Living (b .free)) (begun b .store .memory) (b .place) (begun b .store .current) (begun b .store .phase) (b .free .records) (b .free .sessions) (b .free .globals)
+  begun-kept : Kept (Living (b .free)) (begun b .store .memory) (b .place) (begun b .store .current) (stage (begun b .store .phase)) (b .free .records) (b .free .sessions) (b .free .globals)
   unfolding moveOn
-  begun-kept = rw (phase-1) living
+  begun-kept = rw begun-stage living
 
   living-holds : Holds (Living (b .free)) (begun b)
   living-holds = let k = begun-holds in record {
@@ -112,17 +113,17 @@ module _ {K : ℕ → Type 0} {e : Beside} (h : Holds K e) (z : e .store .phase 
   left-of : (q : ℕ) → List·Memᴰ q (leftIn e) → K q
   left-of q i =
       let l = mapped-start (h .filled) (cur-two h) (e .place) i in
-      rw (l .value) at (h .kept .left-0 z (l .named) (record { start = l .start; side = l .side }))
+      rw (l .value) at (h .kept .left-0 (stage-is z) (l .named) (record { start = l .start; side = l .side }))
 
   ended : (b : Beside) → ((q : ℕ) → K q → Living (b .free) q) → FreedBetween b e (leftIn e)
   ended b k = record {
     kept = λ q i. k q (left-of q i);
     once = mapped-once (h .filled) (cur-two h) (e .place) (λ u v t a w c. h .identity .apart u v t w (a ∙ sym c));
     used = sym (mapped-words (h .filled) (cur-two h) (e .place) (e .free) sizes);
-    emptied = h .pairs .empty (omega arith);
+    emptied = h .pairs .empty (omega (arith, stage-is z));
   }
 
-pub freed-between : {K : ℕ → Type 0} (b : Beside) → Holds K b → b .store .phase ≡ atRest → (ds : List Call) → after (b .store) (Step ∷ ds) .phase ≡ 0
+pub freed-between : {K : ℕ → Type 0} (b : Beside) → Holds K b → b .store .phase ≡ atRest → (ds : List Call) → after (b .store) (Step ∷ ds) .phase ≡ atRest
     → FreedBetween b (beside b (Step ∷ ds)) (leftIn (beside b (Step ∷ ds)))
 freed-between b h z ds back =
     let k : Holds (Living (b .free)) (beside (besideCall b Step) ds) = rw (first-step b h z) (run-holds (begun b) (living-holds b h z) ds) in
