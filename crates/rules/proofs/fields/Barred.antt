@@ -11,7 +11,7 @@ use Rattle.rules.specs.Barriers.{heapOf, shadesAt, barrierShade, shade}
 use Rattle.rules.specs.Free.{Free}
 use Rattle.rules.specs.declared.Session.{Session}
 use Rattle.rules.proofs.memory.Cases.{lt-or, either}
-use Rattle.rules.proofs.invariant.Stages.{stPreMark1, stAllocate, stStackFlip, stReclaim}
+use Rattle.rules.proofs.invariant.Stages.{stPreMark1, stHeapMark, stPreCopy, stStackFlip, stReclaim}
 use Rattle.rules.proofs.invariant.Words.{Names, Clean}
 use Rattle.rules.proofs.invariant.Sim.{Sim}
 use Rattle.rules.proofs.invariant.Alive.{alive}
@@ -54,10 +54,10 @@ module _ {K : ℕ → Type 0} {m : ℕ → ℕ} {s : Store} {f : Free} (h : Sim 
   pub barred : {x : Session} {p : ℕ} → Allowed (s .phase) l → l ≤ 3 → WordFits K m s x q p → Barred K m s f l q
   barred a b t = lt-or l 1
       (λ z. barred-none (omega arith) (level-low 0 (omega arith) (h .range .phases) a (omega arith)))
-      (λ z. let lo = level-from 1 (omega arith) (h .range .phases) a z in
-      let hi = level-to 3 (omega arith) (h .range .phases) a z b in
+      (λ z. let lo : stPreMark1 ≤ stage (s .phase) = level-from 1 (omega arith) (h .range .phases) a z in
+      let hi : stage (s .phase) ≤ stPreCopy = level-to 3 (omega arith) (h .range .phases) a z b in
       let side : Names (s .current) q = t .names (omega arith) in
       barred-shaded z b
-      (lt-or (stage (s .phase)) stAllocate
-      (λ y. shading-marks h lo (omega arith) (t .ok) side (λ n. alive h (t .ok) n (t .is) (t .kept)))
-      (λ y. shading-clean h (t .ok) side (t .clean y (omega arith)))))
+      (lt-or stHeapMark (stage (s .phase))
+      (λ y. shading-clean h (t .ok) side (t .clean y (omega arith)))
+      (λ y. shading-marks h (omega arith) y (t .ok) side (λ n. alive h (t .ok) n (t .is) (t .kept)))))
