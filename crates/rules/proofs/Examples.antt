@@ -5,6 +5,7 @@ use mathlib.Core.List.{List, [], _∷_, _++_}
 use lib.ListN.{replicate, drop}
 use Rattle.rules.specs.Memory.{half, frontier, withHalf, withFrontier, reference, halfOf, wordOf, inHalf, shapeWord, refsOf, plainsOf, newRecord, word, put, colour, replica, refs, plains, size, append, nextReference, sound, followed, copyOf, otherCopy, forward}
 use Rattle.rules.specs.Control.{halfAllowed, listAllowed, lengthsAllowed, sameLengths, walkLimit, inRange, making, Store}
+use Rattle.rules.specs.Cycle.{atRest, atReclaim}
 use Rattle.rules.specs.Phases.{levelOf, nextPhase, otherHalf, fromspace, tospace, sessionAt, withSession, register, unmarked, moveOn}
 use Rattle.rules.specs.Barriers.{toShade, listRoom, shading, shade, shadesAt, copiesAt, barrierShade, replicaFor, ownWord, replicaWord, storeWrites, putBoth, sameAt, roomIn, allocationRoom, placed, allocated, allocatedReference}
 use Rattle.rules.specs.Calls as calls
@@ -49,17 +50,17 @@ steps (suc n) = SafePoint 0 ∷ Step ∷ steps n
 seen : Store → List ℕ
 seen s = s .phase ∷ s .memory .frontier0 ∷ s .memory .frontier1 ∷ []
 
-begun : seen (after small before) ≡ 0 ∷ 13 ∷ 0 ∷ []
+begun : seen (after small before) ≡ atRest ∷ 13 ∷ 0 ∷ []
 unfolding rules before seen
 begun = refl
 
 -- 93 steps later the collector has one step to go: both halves are full
-last : seen (after small (before ++ steps 93)) ≡ 12 ∷ 13 ∷ 9 ∷ []
+last : seen (after small (before ++ steps 93)) ≡ atReclaim ∷ 13 ∷ 9 ∷ []
 unfolding rules before steps seen
 last = refl
 
 -- what nothing named is gone, and the rest is still there
-collected : seen (after small (before ++ steps 94)) ≡ 0 ∷ 0 ∷ 9 ∷ []
+collected : seen (after small (before ++ steps 94)) ≡ atRest ∷ 0 ∷ 9 ∷ []
 unfolding rules before steps seen
 collected = refl
 

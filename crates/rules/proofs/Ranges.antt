@@ -10,6 +10,7 @@ use borrow.Author.Tests.{leb-true, eqb-true, le-leb, eq-eqb}
 use Rattle.rules.specs.Memory.{header}
 use Rattle.rules.specs.Refusals.{Tested, refused, passed, check, refusalOf, _>>_}
 use Rattle.rules.specs.Control.{Store, inRange, sameLengths, lengthsAllowed, halfAllowed, listAllowed, walkLimit, levelsInRange, globalCount, lastSession, lastLevel, mostFields, leastLength, mostLength}
+use Rattle.rules.specs.Cycle.{lastPhase, atRootMark, atRootFlip}
 use Rattle.rules.specs.Phases.{sessionAt, absent}
 use Rattle.rules.specs.Calls.{sessionOf}
 use Rattle.rules.specs.declared.Session.{Session}
@@ -28,7 +29,7 @@ pub record InRange (s : Store) : Type 0 where
   pub half : s .current ≤ 1
   pub front0 : s .memory .frontier0 ≤ s .lengths .half0
   pub front1 : s .memory .frontier1 ≤ s .lengths .half0
-  pub phases : s .phase ≤ 12
+  pub phases : s .phase ≤ lastPhase
   pub places : s .walk .place ≤ walkLimit (s .phase) (s .lengths .half0)
   pub fields : s .walk .field ≤ mostFields
   pub begins : s .list .head ≤ s .list .tail
@@ -109,7 +110,7 @@ limit-small false n l m = m
 
 pub place-small : {s : Store} → InRange s → s .walk .place ≤ mostLength
 unfolding walkLimit
-place-small {s} k = let l = limit-small (eqb (s .phase) 3 || eqb (s .phase) 10) _ (k .least) (k .most) in omega arith
+place-small {s} k = let l = limit-small (eqb (s .phase) atRootMark || eqb (s .phase) atRootFlip) _ (k .least) (k .most) in omega arith
 
 -- the frontiers are within the lent halves
 pub fronts : {s : Store} → InRange s

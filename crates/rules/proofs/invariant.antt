@@ -1,7 +1,7 @@
 -- The invariant of a run, in groups by what they read, and what it gives at once. It rests on memory.
 
--- the phases by name
-pub mod Turns
+-- the stages of the phases
+pub mod Stages
 -- words that name records; the groups on values, and those on marking
 pub mod Words
 pub mod Groups

@@ -7,6 +7,7 @@ use mathlib.Core.List.{List, _∷_, map, List·Memᴰ}
 use lib.ListN.{getD, length}
 use Rattle.rules.specs.Refusals.{answer}
 use Rattle.rules.specs.Memory.{Memory, frontier, reference, size, sound}
+use Rattle.rules.specs.Cycle.{atRest}
 use Rattle.rules.specs.Control.{Store, make, inRange}
 use Rattle.rules.specs.Phases.{otherHalf}
 use Rattle.rules.specs.Runs.{Call, Step, apply, after, sessionCalls, sessionRun, feeds}
@@ -87,7 +88,7 @@ leftIn e = placesIn e (e .store .current)
 unfoldable pub Freed : Type 0
 Freed =
     (s : Store) → Made s → (cs ds : List Call)
-    → after s cs .phase ≡ 0 → after (after s cs) (Step ∷ ds) .phase ≡ 0
+    → after s cs .phase ≡ atRest → after (after s cs) (Step ∷ ds) .phase ≡ atRest
     → FreedBetween (beside (newBeside s) cs) (beside (beside (newBeside s) cs) (Step ∷ ds))
     (leftIn (beside (beside (newBeside s) cs) (Step ∷ ds)))
 

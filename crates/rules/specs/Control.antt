@@ -5,6 +5,7 @@ use mathlib.Core.List.{List, [], _∷_}
 use lib.Dec.{leb, eqb}
 use lib.ListN.{replicate, length}
 use Rattle.rules.specs.Memory.{Memory, null, header, mostCount}
+use Rattle.rules.specs.Cycle.{atRest, atRootMark, atRootFlip, lastPhase}
 use Rattle.rules.specs.Refusals.{Tested, refused, passed, check, _>>_, Outcome, answer}
 use Rattle.rules.specs.declared.Session.{Session}
 use Rattle.rules.specs.declared.Answer.the-variants.{Refused, Done}
@@ -119,9 +120,6 @@ withCurrent s h =
 
 -- ---- ranges
 
-abbrev pub phaseCount : ℕ
-phaseCount = 13
-
 -- "32 global references"
 abbrev pub globalCount : ℕ
 globalCount = 32
@@ -179,7 +177,7 @@ sameLengths a b = eqb (a .half0) (b .half0) && eqb (a .half1) (b .half1) && eqb 
 
 -- "walk place at most the half length, in phases 3 and 10 at most 32"
 unfoldable pub walkLimit : ℕ → ℕ → ℕ
-walkLimit phase n = cond (eqb phase 3 || eqb phase 10) globalCount n
+walkLimit phase n = cond (eqb phase atRootMark || eqb phase atRootFlip) globalCount n
 
 -- "level at most 6"
 abbrev pub levelsInRange : List Session → Bool
@@ -192,7 +190,7 @@ inRange s =
     sameLengths (s .lengths) (lent s) && lengthsAllowed (s .lengths)
     && leb (s .current) 1
     && leb (s .memory .frontier0) (s .lengths .half0) && leb (s .memory .frontier1) (s .lengths .half0)
-    && leb (s .phase) 12
+    && leb (s .phase) lastPhase
     && leb (s .walk .place) (walkLimit (s .phase) (s .lengths .half0)) && leb (s .walk .field) mostFields
     && leb (s .list .head) (s .list .tail) && leb (s .list .tail) (s .lengths .list)
     && levelsInRange (s .sessions)
@@ -210,7 +208,7 @@ newStore n h0 h1 ws =
       lengths = n;
       memory = record { half0 = h0; half1 = h1; frontier0 = 0; frontier1 = 0 };
       current = 0;
-      phase = 0;
+      phase = atRest;
       walk = record { place = 0; field = 0 };
       list = record { words = ws; head = 0; tail = 0 };
       globals = replicate globalCount null;

@@ -6,6 +6,7 @@ pub mod Control
 -- Session calls
 pub mod Calls
 -- Phases and levels
+pub mod Cycle
 pub mod Phases
 pub mod Barriers
 pub mod Collector

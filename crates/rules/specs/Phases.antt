@@ -1,26 +1,14 @@
--- Phases and levels: the two tables, fromspace and tospace, sessions by number, and moving on to the next phase.
+-- Phases and levels: fromspace and tospace, sessions by number, and moving on to the next phase.
 use Prim.Native.Nat.{ℕ, suc, _-_}
 use mathlib.Core.Bool.{Bool, true, false, cond, not, _&&_, _||_}
 use mathlib.Core.List.{List, [], _∷_, map}
 use lib.Dec.{eqb}
 use lib.ListN.{getD, set, replicate}
 use Rattle.rules.specs.Memory.{null}
+use Rattle.rules.specs.Cycle.{atReclaim}
+unfoldable pub use Rattle.rules.specs.Cycle.{levelOf, nextPhase}
 use Rattle.rules.specs.Control.{Store, withSessions, registerCount}
 use Rattle.rules.specs.declared.Session.{Session}
-
--- "The level of each phase is a fixed table"
-abbrev pub levels : List ℕ
-levels = 0 ∷ 1 ∷ 2 ∷ 2 ∷ 2 ∷ 3 ∷ 4 ∷ 4 ∷ 5 ∷ 6 ∷ 6 ∷ 6 ∷ 0 ∷ []
-
-unfoldable pub levelOf : ℕ → ℕ
-levelOf phase = getD levels phase 0
-
--- the phase after each: "it moves to the next phase (12 to 0)"
-abbrev pub followers : List ℕ
-followers = 1 ∷ 2 ∷ 3 ∷ 4 ∷ 5 ∷ 6 ∷ 7 ∷ 8 ∷ 9 ∷ 10 ∷ 11 ∷ 12 ∷ 0 ∷ []
-
-unfoldable pub nextPhase : ℕ → ℕ
-nextPhase phase = getD followers phase 0
 
 -- ---- fromspace and tospace
 
@@ -29,7 +17,7 @@ otherHalf h = 1 - h
 
 -- "Fromspace is the current half and tospace the other until phase 12; in phase 12 tospace is the current half"
 unfoldable pub fromspace : Store → ℕ
-fromspace s = cond (eqb (s .phase) 12) (otherHalf (s .current)) (s .current)
+fromspace s = cond (eqb (s .phase) atReclaim) (otherHalf (s .current)) (s .current)
 
 unfoldable pub tospace : Store → ℕ
 tospace s = otherHalf (fromspace s)

@@ -10,10 +10,10 @@ use borrow.Author.Tests.{eq-eqb, ne-eqb, eqb-true, not-true, le-leb, lt-ltb, le-
 use Rattle.rules.specs.Refusals.{passed, check, _>>_}
 use Rattle.rules.specs.Memory.{Memory, half, frontier, null, shapeAt, replicaAt, white, word, put, colour, replica, refs, plains, size, append, nextReference, followed}
 use Rattle.rules.specs.Control.{Store, withMemory}
+use Rattle.rules.specs.Cycle.{stage}
 use Rattle.rules.specs.Phases.{otherHalf}
 use Rattle.rules.specs.Collector.{walked, below, pastRecord, needsShell, shellOf, withShell, allocateShells}
 use Rattle.rules.specs.Free.{Free}
-use Rattle.rules.proofs.invariant.Turns.{atAllocate}
 use Rattle.rules.proofs.Ranges.{both}
 use Rattle.rules.proofs.memory.Cases.{lt-or, bool-or}
 use Rattle.rules.proofs.memory.Encoding.{other-below-2, other-differs}
@@ -21,6 +21,7 @@ use Rattle.rules.proofs.memory.Put.{PutKept, put-replica}
 use Rattle.rules.proofs.memory.Append.{Appended}
 use Rattle.rules.proofs.memory.Allocation.{shell-kept}
 use Rattle.rules.proofs.memory.Total.{total-room, total-size}
+use Rattle.rules.proofs.invariant.Stages.{stAllocate}
 use Rattle.rules.proofs.invariant.Words.{In, copied}
 use Rattle.rules.proofs.invariant.Sim.{Sim}
 use Rattle.rules.proofs.invariant.Laws.{cur-two, followed-start}
@@ -50,7 +51,7 @@ needs-not : (M : Memory) (v : ℕ) → needsShell M v ≡ false → colour M v �
 unfolding needsShell
 needs-not M v e d o = true≢false (rw (ne-eqb (colour M v) white d, eq-eqb (replica M v) null o) at e)
 
-module _ {K : ℕ → Type 0} {m : ℕ → ℕ} {s : Store} {f : Free} (h : Sim K m s f) (at-5 : s .phase ≡ atAllocate) where
+module _ {K : ℕ → Type 0} {m : ℕ → ℕ} {s : Store} {f : Free} (h : Sim K m s f) (at-5 : stage (s .phase) ≡ stAllocate) where
   abbrev M : Memory
   M = s .memory
 

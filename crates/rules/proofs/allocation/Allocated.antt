@@ -9,17 +9,18 @@ use lib.ListN.{length}
 use borrow.Author.Tests.{leb-true, le-leb, lt-leb}
 use Rattle.rules.specs.Memory.{Memory, half, frontier, null, shapeWord, sizeOf, white, black, nextReference, mostCount}
 use Rattle.rules.specs.Control.{Store, withMemory}
+use Rattle.rules.specs.Cycle.{stage}
 use Rattle.rules.specs.Phases.{otherHalf, fromspace, tospace}
 use Rattle.rules.specs.Barriers.{roomIn, allocationRoom, placed, allocated, allocatedReference}
 use Rattle.rules.specs.Free.{Free}
 use Rattle.rules.specs.declared.Session.{Session}
-use Rattle.rules.proofs.invariant.Turns.{atAllocate, atPreFlip2, atPreMark2, atReclaim}
 use Rattle.rules.proofs.Ranges.{both}
 use Rattle.rules.proofs.memory.Cases.{lt-or, eq-or, either}
 use Rattle.rules.proofs.memory.Encoding.{other-below-2, other-differs}
 use Rattle.rules.proofs.memory.Records.{Filled}
 use Rattle.rules.proofs.memory.Append.{Appended}
 use Rattle.rules.proofs.memory.Allocation.{Placeable, placed-kept}
+use Rattle.rules.proofs.invariant.Stages.{stPreMark2, stAllocate, stPreFlip2, stReclaim}
 use Rattle.rules.proofs.invariant.Sim.{Sim}
 use Rattle.rules.proofs.invariant.Laws.{cur-two, from-current, from-two, to-current}
 use Rattle.rules.proofs.invariant.Spans.{Allowed, level-most, level-from, level-to, level-low}
@@ -31,8 +32,8 @@ use Rattle.rules.proofs.allocation.Double.{Sides, double-sim, from-fits
 
 -- ---- the colours of one record by level
 
-white-tint : (ph : ℕ) → (ph ≤ atPreMark2) ⊎ (ph ≡ atReclaim) → Tint ph white
-white-tint ph w = record {
+white-tint : (st : ℕ) → (st ≤ stPreMark2) ⊎ (st ≡ stReclaim) → Tint st white
+white-tint st w = record {
   small = omega arith;
   at-rest = λ e. refl;
   at-reclaim = λ e. refl;
@@ -42,8 +43,8 @@ white-tint ph w = record {
   phases = either w (λ x. inl (omega arith)) (λ x. inr x);
 }
 
-black-tint : (ph : ℕ) → atPreMark2 ≤ ph → ph ≤ atAllocate → Tint ph black
-black-tint ph a b = record {
+black-tint : (st : ℕ) → stPreMark2 ≤ st → st ≤ stAllocate → Tint st black
+black-tint st a b = record {
   small = omega arith;
   at-rest = λ e. absurd (omega arith);
   at-reclaim = λ e. absurd (omega arith);
@@ -76,7 +77,7 @@ module _ {K : ℕ → Type 0} {m : ℕ → ℕ} {s : Store} {f : Free} (h : Sim 
   unfolding allocationRoom
   room-one i = room-known M (s .current) r p (rw (le-leb l 2 i) at room)
 
-  one-half : (c : ℕ) → l ≤ 2 → Tint (s .phase) c → Allocation K m s f r p (placed M (s .current) r p c null) (nextReference M (s .current))
+  one-half : (c : ℕ) → l ≤ 2 → Tint (stage (s .phase)) c → Allocation K m s f r p (placed M (s .current) r p c null) (nextReference M (s .current))
   one-half c i t =
       let k = placed-kept (placeable (h .filled) (cur-two h) (t .small) (room-one i)) null in
       record { sim = single-sim h r p pb t k; fits = single-fits h r p pb t k }
@@ -88,7 +89,7 @@ module _ {K : ℕ → Type 0} {m : ℕ → ℕ} {s : Store} {f : Free} (h : Sim 
   room-both i (suc zero) two = room-known M 1 r p (both (roomIn M 0 r p) (roomIn M 1 r p) (rw (lt-leb l 2 i) at room) .1)
   room-both i (suc (suc g)) two = absurd (omega arith)
 
-  sides : atAllocate ≤ s .phase → Sides (s .current) (s .phase) (fromspace s)
+  sides : stAllocate ≤ stage (s .phase) → Sides (s .current) (stage (s .phase)) (fromspace s)
   unfolding tospace
   sides late = record {
     two = from-two h;
@@ -97,7 +98,7 @@ module _ {K : ℕ → Type 0} {m : ℕ → ℕ} {s : Store} {f : Free} (h : Sim 
     flipped = λ e. to-current h e;
   }
 
-  module _ (i : 3 ≤ l) (late : atAllocate ≤ s .phase) where
+  module _ (i : 3 ≤ l) (late : stAllocate ≤ stage (s .phase)) where
     abbrev from : ℕ
     from = fromspace s
 
@@ -115,10 +116,10 @@ module _ {K : ℕ → Type 0} {m : ℕ → ℕ} {s : Store} {f : Free} (h : Sim 
         let e = first .front-other (otherHalf from) (other-below-2 from) (other-differs from (sides late .two)) in
         placed-kept (placeable (first .filled) (other-below-2 from) (omega arith) (rw (e, first .lengths (otherHalf from)) (room-both i (otherHalf from) (other-below-2 from)))) (nextReference M from)
 
-    both-from : s .phase ≤ atPreFlip2 → Allocation K m s f r p M₂ (nextReference M from)
+    both-from : stage (s .phase) ≤ stPreFlip2 → Allocation K m s f r p M₂ (nextReference M from)
     both-from hi = record { sim = double-sim h r p pb (sides late) first second; fits = from-fits h r p pb (sides late) first second hi }
 
-    both-to : atPreFlip2 ≤ s .phase → Allocation K m s f r p M₂ (nextReference M (otherHalf from))
+    both-to : stPreFlip2 ≤ stage (s .phase) → Allocation K m s f r p M₂ (nextReference M (otherHalf from))
     both-to lo = record { sim = double-sim h r p pb (sides late) first second; fits = to-fits h r p pb (sides late) first second lo }
 
   -- ---- all levels
@@ -128,12 +129,12 @@ module _ {K : ℕ → Type 0} {m : ℕ → ℕ} {s : Store} {f : Free} (h : Sim 
   at-0 : l ≤ 1 → Goal
   unfolding allocated allocatedReference
   at-0 i = rw (le-leb l 1 i, le-leb l 2 (omega arith))
-      (one-half white (omega arith) (white-tint (s .phase) (level-low 1 (omega arith) (h .range .phases) allow i)))
+      (one-half white (omega arith) (white-tint (stage (s .phase)) (level-low 1 (omega arith) (h .range .phases) allow i)))
 
   at-2 : l ≡ 2 → Goal
   unfolding allocated allocatedReference
   at-2 e =
-      rw (lt-leb l 1 (omega arith), le-leb l 2 (omega arith)) (one-half black (omega arith) (black-tint (s .phase)
+      rw (lt-leb l 1 (omega arith), le-leb l 2 (omega arith)) (one-half black (omega arith) (black-tint (stage (s .phase))
       (level-from 2 (omega arith) (h .range .phases) allow (omega arith)) (level-to 2 (omega arith) (h .range .phases) allow (omega arith) (omega arith))))
 
   at-3 : 3 ≤ l → l ≤ 5 → Goal
@@ -145,7 +146,7 @@ module _ {K : ℕ → Type 0} {m : ℕ → ℕ} {s : Store} {f : Free} (h : Sim 
   at-6 : l ≡ 6 → Goal
   unfolding allocated allocatedReference tospace
   at-6 e =
-      let q : atPreFlip2 ≤ s .phase = level-from 6 (omega arith) (h .range .phases) allow (omega arith) in
+      let q : stPreFlip2 ≤ stage (s .phase) = level-from 6 (omega arith) (h .range .phases) allow (omega arith) in
       rw (lt-leb l 1 (omega arith), lt-leb l 2 (omega arith), lt-leb l 5 (omega arith)) (both-to (omega arith) (omega arith) q)
 
   pub allocation : Allocation K m s f r p (allocated s l r p) (allocatedReference s l)

@@ -8,16 +8,17 @@ use native.Mathlib.Omega.{arith}
 use lib.ListN.{length, length-replicate}
 use Rattle.rules.specs.Memory.{Memory, frontier, null, halfOf, header, shapeWord, white, black, colour, replica, refs, plains, nextReference, mostCount}
 use Rattle.rules.specs.Control.{Store, withMemory}
+use Rattle.rules.specs.Cycle.{stage}
 use Rattle.rules.specs.Phases.{otherHalf}
 use Rattle.rules.specs.Free.{Free, Record}
 use Rattle.rules.specs.declared.Session.{Session}
-use Rattle.rules.proofs.invariant.Turns.{atAllocate, atPreFlip2, atReclaim, atStackFlip}
 use Rattle.rules.proofs.memory.Cases.{either}
 use Rattle.rules.proofs.memory.Encoding.{other-below-2, other-differs, refs-shape, plains-shape}
 use Rattle.rules.proofs.memory.Records.{Start}
 use Rattle.rules.proofs.memory.Next.{next-half, next-nonnull, next-same}
 use Rattle.rules.proofs.memory.Append.{Appended}
 use Rattle.rules.proofs.memory.Total.{total, total-equal, total-kept, total-append}
+use Rattle.rules.proofs.invariant.Stages.{stAllocate, stPreFlip2, stStackFlip, stReclaim, in-stage}
 use Rattle.rules.proofs.invariant.Words.{ok-start, copied}
 use Rattle.rules.proofs.invariant.Groups.{Pair}
 use Rattle.rules.proofs.invariant.Sim.{Sim}
@@ -31,15 +32,15 @@ use Rattle.rules.proofs.allocation.GrowSim.{grown-sim}
 use Rattle.rules.proofs.allocation.FreeRecords.{withRecords, blankRecord, longer-by, new-place, new-high}
 
 -- where fromspace is: the current half but in Reclaim
-pub record Sides (cur ph from : ℕ) : Type 0 where
+pub record Sides (cur st from : ℕ) : Type 0 where
   pub two : from < 2
-  pub late : atAllocate ≤ ph
-  pub flips : ph ≤ atStackFlip → from ≡ cur
-  pub flipped : ph ≡ atReclaim → otherHalf from ≡ cur
+  pub late : stAllocate ≤ st
+  pub flips : st ≤ stStackFlip → from ≡ cur
+  pub flipped : st ≡ stReclaim → otherHalf from ≡ cur
 
 -- the two records, one after the other: M₁ has the first, M₂ both
 module _ {K : ℕ → Type 0} {m : ℕ → ℕ} {s : Store} {f : Free} (h : Sim K m s f) {M₁ M₂ : Memory} {from : ℕ} (r p : ℕ) (pb : p ≤ mostCount)
-    (sides : Sides (s .current) (s .phase) from)
+    (sides : Sides (s .current) (stage (s .phase)) from)
     (one : Appended (s .memory) M₁ from (shapeWord r p) black (nextReference (s .memory) (otherHalf from)) (r + p))
     (more : Appended M₁ M₂ (otherHalf from) (shapeWord r p) white (nextReference (s .memory) from) (r + p)) where
   abbrev M : Memory
@@ -188,7 +189,7 @@ module _ {K : ℕ → Type 0} {m : ℕ → ℕ} {s : Store} {f : Free} (h : Sim 
       (λ v t side. copied-same M M₂ v (either (grown .same-replica t) (λ e. e) (λ n. either n (λ n. absurd n) (λ n. absurd n))) (grown-size grown t)) in
       omega arith
 
-  spent-after : s .phase ≤ atStackFlip → frontier M₂ (otherHalf cur) ≡ total M₂ cur (copied M₂)
+  spent-after : stage (s .phase) ≤ stStackFlip → frontier M₂ (otherHalf cur) ≡ total M₂ cur (copied M₂)
   spent-after l =
       let k = h .pairs .spent l in
       let k′ : frontier M to ≡ total M from (copied M) = rw (sides .flips l) k in
@@ -197,7 +198,7 @@ module _ {K : ℕ → Type 0} {m : ℕ → ℕ} {s : Store} {f : Free} (h : Sim 
   no-re : {C : Type 0} → ⊥ ⊎ ⊥ → C
   no-re n = absurd (either n (λ z. z) (λ z. z))
 
-  joining : Joined M M₂ New Re m′ cur (s .phase)
+  joining : Joined M M₂ New Re m′ cur (stage (s .phase))
   joining = record {
     before = λ n. no-re n;
     after = λ n. no-re n;
@@ -212,16 +213,16 @@ module _ {K : ℕ → Type 0} {m : ℕ → ℕ} {s : Store} {f : Free} (h : Sim 
   }
 
   -- the fromspace copy is in the current half but in Reclaim, the tospace copy in Reclaim alone
-  a-other : {C : Type 0} → s .phase ≡ atReclaim → halfOf a ≡ cur → C
+  a-other : {C : Type 0} → stage (s .phase) ≡ stReclaim → halfOf a ≡ cur → C
   a-other l e = absurd (from-differs (sym half-a ∙ e ∙ sym (sides .flipped l)))
 
-  b-current : {C : Type 0} → s .phase ≤ atStackFlip → halfOf b ≡ cur → C
+  b-current : {C : Type 0} → stage (s .phase) ≤ stStackFlip → halfOf b ≡ cur → C
   b-current l e = absurd (halves-differ (sym half-b ∙ e ∙ sym (sides .flips l)))
 
-  a-current : {C : Type 0} → s .phase ≤ atStackFlip → halfOf a ≡ otherHalf cur → C
+  a-current : {C : Type 0} → stage (s .phase) ≤ stStackFlip → halfOf a ≡ otherHalf cur → C
   a-current l e = absurd (other-differs cur (cur-two h) (sym e ∙ half-a ∙ sides .flips l))
 
-  tinting : Tinted M M₂ New cur (s .phase)
+  tinting : Tinted M M₂ New cur (stage (s .phase))
   tinting = record {
     at-rest = λ l n side. absurd (omega (arith, sides .late));
     at-reclaim = λ l n side. which n (λ e. a-other l (rw e at side)) (λ e. rw e colour-b);
@@ -237,7 +238,7 @@ module _ {K : ℕ → Type 0} {m : ℕ → ℕ} {s : Store} {f : Free} (h : Sim 
   double-sim = grown-sim h grown (longer-by rs r p) placing joining tinting
 
   -- up to level 5 the fromspace reference may be put in a register, at level 6 the tospace one
-  pub from-fits : s .phase ≤ atPreFlip2 → (y : Session) → WordFits K m′ (withMemory s M₂) y a (suc (length rs))
+  pub from-fits : stage (s .phase) ≤ stPreFlip2 → (y : Session) → WordFits K m′ (withMemory s M₂) y a (suc (length rs))
   from-fits l y = record {
     ok = ok-start start-a;
     is = sym (placing .new new-a);
@@ -248,11 +249,11 @@ module _ {K : ℕ → Type 0} {m : ℕ → ℕ} {s : Store} {f : Free} (h : Sim 
     kept = λ z. h .kept .to-come (suc (length rs)) (le-refl _);
   }
 
-  pub to-fits : atPreFlip2 ≤ s .phase → (y : Session) → WordFits K m′ (withMemory s M₂) y b (suc (length rs))
+  pub to-fits : stPreFlip2 ≤ stage (s .phase) → (y : Session) → WordFits K m′ (withMemory s M₂) y b (suc (length rs))
   to-fits l y = record {
     ok = ok-start start-b;
     is = sym (placing .new new-b);
-    names = λ d z. half-b ∙ sides .flipped (omega (arith, h .range .phases, d .0, d .1, d .2));
+    names = λ d z. half-b ∙ sides .flipped (omega (arith, in-stage (h .range), d l));
     marked = λ d e z. half-b ∙ ap otherHalf (sides .flips (omega arith));
     scanned = λ d. absurd (omega arith);
     clean = λ d e z side. b-current e side;

@@ -8,10 +8,10 @@ use lib.ListN.{getD}
 use Rattle.rules.specs.Memory.{Memory, null, frontier, halfOf, replica, refs}
 use Rattle.rules.specs.Free.{Record, FreeSession}
 use Rattle.rules.specs.declared.Session.{Session}
-use Rattle.rules.proofs.invariant.Turns.{atAllocate, atHeapMark}
 use Rattle.rules.proofs.memory.Cases.{either, lt-or}
 use Rattle.rules.proofs.memory.Records.{Start}
 use Rattle.rules.proofs.memory.Walk.{Walk, walk-start}
+use Rattle.rules.proofs.invariant.Stages.{stHeapMark, stAllocate}
 use Rattle.rules.proofs.invariant.Words.{In, Ok, Clean}
 use Rattle.rules.proofs.invariant.Groups.{Values, Roots}
 use Rattle.rules.proofs.invariant.Marking.{Colours, GreyList, Cleaned, Walking, Kept}
@@ -19,13 +19,13 @@ use Rattle.rules.proofs.invariant.Carried.{clean-carried}
 use Rattle.rules.proofs.allocation.Grown.{Grown, grown-refs, grown-plains, grown-colour, grown-field, new-ref, grown-in, old-or-new}
 use Rattle.rules.proofs.allocation.Growth.{Longer, Placed, Joined, Tinted}
 
-module _ {M M′ : Memory} {New Re : ℕ → Type 0} (g : Grown M M′ New Re) {m′ : ℕ → ℕ} {cur ph : ℕ}
-    (j : Joined M M′ New Re m′ cur ph) (c : Tinted M M′ New cur ph) where
+module _ {M M′ : Memory} {New Re : ℕ → Type 0} (g : Grown M M′ New Re) {m′ : ℕ → ℕ} {cur st : ℕ}
+    (j : Joined M M′ New Re m′ cur st) (c : Tinted M M′ New cur st) where
   -- a marked record that had a replica has one
   still-shelled : {v : ℕ} → Start M v → replica M v ≢ null → replica M′ v ≢ null
   still-shelled t d = either (g .same-replica t) (λ e z. d (sym e ∙ z)) (λ r. j .after r)
 
-  pub grown-colours : {place : ℕ} → (ph ≡ atAllocate → Walk M cur place) → Colours M cur ph place → Colours M′ cur ph place
+  pub grown-colours : {place : ℕ} → (st ≡ stAllocate → Walk M cur place) → Colours M cur st place → Colours M′ cur st place
   grown-colours w k = record {
     at-rest = λ a v t. old-or-new g t (λ o. rw (grown-colour g (o .start)) (k .at-rest a v o)) (λ n side. c .at-rest a n side);
     at-reclaim = λ a v t. old-or-new g t (λ o. rw (grown-colour g (o .start)) (k .at-reclaim a v o)) (λ n side. c .at-reclaim a n side);
@@ -43,7 +43,7 @@ module _ {M M′ : Memory} {New Re : ℕ → Type 0} (g : Grown M M′ New Re) {
         (λ n side. c .shelled a b n side d);
   }
 
-  pub grown-grey-list : {ws : List ℕ} {head tail : ℕ} → head ≤ tail → GreyList M cur ph ws head tail → GreyList M′ cur ph ws head tail
+  pub grown-grey-list : {ws : List ℕ} {head tail : ℕ} → head ≤ tail → GreyList M cur st ws head tail → GreyList M′ cur st ws head tail
   grown-grey-list order k = record {
     listed = λ a b i l. grown-in g (k .listed a b i l);
     finished = λ a b i l. rw (grown-colour g (k .listed a b i (omega arith) .start)) (k .finished a b i l);
@@ -60,10 +60,10 @@ module _ {M M′ : Memory} {New Re : ℕ → Type 0} (g : Grown M M′ New Re) w
   clean-kept : {h u : ℕ} → Ok M u → Clean M h u → Clean M′ h u
   clean-kept o k = clean-carried M′ (λ t n. rw (grown-colour g t) n) o k
 
-  pub grown-cleaned : {m : ℕ → ℕ} {cur ph place wf : ℕ} {rs : List Record} {ws : List ℕ} {head tail : ℕ} {xs : List Session} {ys : List FreeSession} {gs fgs : List ℕ}
-      → Values M m cur rs → Roots M m xs ys gs fgs → GreyList M cur ph ws head tail
-      → Cleaned M cur ph place wf ws head tail xs gs → Cleaned M′ cur ph place wf ws head tail xs gs
-  grown-cleaned {m} {cur} {ph} {place} {wf} {rs} {ws} {head} {tail} v r l k = record {
+  pub grown-cleaned : {m : ℕ → ℕ} {cur st place wf : ℕ} {rs : List Record} {ws : List ℕ} {head tail : ℕ} {xs : List Session} {ys : List FreeSession} {gs fgs : List ℕ}
+      → Values M m cur rs → Roots M m xs ys gs fgs → GreyList M cur st ws head tail
+      → Cleaned M cur st place wf ws head tail xs gs → Cleaned M′ cur st place wf ws head tail xs gs
+  grown-cleaned {m} {cur} {st} {place} {wf} {rs} {ws} {head} {tail} v r l k = record {
     fields = λ a b u i t e n. old-or-new g t
         (λ o. let n′ = rw (grown-refs g (o .start)) at n in
         rw (grown-field g (o .start) i n′) (clean-kept (v .ok u i o n′) (k .fields a b u i o (rw (grown-colour g (o .start)) at e) n′)))
@@ -80,12 +80,12 @@ module _ {M M′ : Memory} {New Re : ℕ → Type 0} (g : Grown M M′ New Re) w
     registers = λ a b n i. clean-kept (r .reg-ok n i) (k .registers a b n i);
   }
     where
-      first : ph ≡ atHeapMark → head < tail → In M cur (getD ws head null)
+      first : st ≡ stHeapMark → head < tail → In M cur (getD ws head null)
       first a b = l .listed (omega arith) (omega arith) head b
 
-  pub grown-walking : {m′ : ℕ → ℕ} {cur ph place wf head tail : ℕ} → cur < 2 → Joined M M′ New Re m′ cur ph
-      → Walking M cur ph place wf head tail → Walking M′ cur ph place wf head tail
-  grown-walking {m′} {cur} {ph} {place} {wf} two j k = record {
+  pub grown-walking : {m′ : ℕ → ℕ} {cur st place wf head tail : ℕ} → cur < 2 → Joined M M′ New Re m′ cur st
+      → Walking M cur st place wf head tail → Walking M′ cur st place wf head tail
+  grown-walking {m′} {cur} {st} {place} {wf} two j k = record {
     at-5 = λ a. g .walks two (k .at-5 a);
     at-7 = λ a. g .walks two (k .at-7 a);
     at-12 = λ a. g .walks two (k .at-12 a);
@@ -99,9 +99,9 @@ module _ {M M′ : Memory} {New Re : ℕ → Type 0} (g : Grown M M′ New Re) w
         (λ n side. absurd (omega (arith, l, g .above n cur side, k .at-12 a .within)));
   }
 
-  pub grown-kept : {K : ℕ → Type 0} {m m′ : ℕ → ℕ} {cur ph q : ℕ} {rs rs′ : List Record} {ys : List FreeSession} {fgs : List ℕ}
-      → Longer rs rs′ → Placed M M′ New m m′ cur q rs rs′ → Kept K M m cur ph rs ys fgs → Kept K M′ m′ cur ph rs′ ys fgs
-  grown-kept {K} {m} {m′} {cur} {ph} {q} l p k = record {
+  pub grown-kept : {K : ℕ → Type 0} {m m′ : ℕ → ℕ} {cur st q : ℕ} {rs rs′ : List Record} {ys : List FreeSession} {fgs : List ℕ}
+      → Longer rs rs′ → Placed M M′ New m m′ cur q rs rs′ → Kept K M m cur st rs ys fgs → Kept K M′ m′ cur st rs′ ys fgs
+  grown-kept {K} {m} {m′} {cur} {st} {q} l p k = record {
     to-come = λ n b. k .to-come n (omega (arith, l .more));
     registers = k .registers;
     globals = k .globals;

@@ -7,9 +7,9 @@ use native.Mathlib.Omega.{arith}
 use Rattle.rules.specs.Memory.{Memory, null, replica, refs, plains}
 use Rattle.rules.specs.Phases.{otherHalf}
 use Rattle.rules.specs.Free.{Record}
-use Rattle.rules.proofs.invariant.Turns.{atCopy, atStackFlip}
 use Rattle.rules.proofs.memory.Cases.{either}
 use Rattle.rules.proofs.memory.Records.{Start, start-nonnull}
+use Rattle.rules.proofs.invariant.Stages.{stCopy, stStackFlip}
 use Rattle.rules.proofs.invariant.Words.{In, Ok, field, plainOf, fwd}
 use Rattle.rules.proofs.invariant.Groups.{Identity, Values, Pair, Pairs, Copied, Agreement}
 use Rattle.rules.proofs.invariant.Laws.{fwd-null}
@@ -19,7 +19,7 @@ use Rattle.rules.proofs.allocation.Grown.{Grown, grown-refs, grown-plai
 use Rattle.rules.proofs.allocation.Growth.{Placed, Joined}
 
 module _ {M M′ : Memory} {New Re : ℕ → Type 0} (g : Grown M M′ New Re)
-    {m m′ : ℕ → ℕ} {cur ph q : ℕ} {rs rs′ : List Record} (p : Placed M M′ New m m′ cur q rs rs′) (j : Joined M M′ New Re m′ cur ph) where
+    {m m′ : ℕ → ℕ} {cur st q : ℕ} {rs rs′ : List Record} (p : Placed M M′ New m m′ cur q rs rs′) (j : Joined M M′ New Re m′ cur st) where
   -- a pair of old records stays one
   carry : {v w : ℕ} → Start M v → Pair M m v w → Pair M′ m′ v w
   carry {v} {w} t k = record {
@@ -29,7 +29,7 @@ module _ {M M′ : Memory} {New Re : ℕ → Type 0} (g : Grown M M′ New Re)
     same = p .old (k .start) ∙ k .same ∙ sym (p .old t);
   }
 
-  pub grown-pairs : Pairs M m cur ph → Pairs M′ m′ cur ph
+  pub grown-pairs : Pairs M m cur st → Pairs M′ m′ cur st
   grown-pairs k = record {
     pair = λ v t d. old-or-new g t
         (λ o. either (g .same-replica (o .start))
@@ -46,16 +46,16 @@ module _ {M M′ : Memory} {New Re : ℕ → Type 0} (g : Grown M M′ New Re)
   }
 
   -- the replica word of a record stays after Allocate
-  replica-kept : atCopy ≤ ph → {u : ℕ} → Start M u → replica M′ u ≡ replica M u
+  replica-kept : stCopy ≤ st → {u : ℕ} → Start M u → replica M′ u ≡ replica M u
   replica-kept a t = either (g .same-replica t) (λ e. e) (λ r. absurd (omega (arith, j .early r)))
 
-  fwd-kept : atCopy ≤ ph → (to : ℕ) {u : ℕ} → Ok M u → fwd M′ to u ≡ fwd M to u
+  fwd-kept : stCopy ≤ st → (to : ℕ) {u : ℕ} → Ok M u → fwd M′ to u ≡ fwd M to u
   fwd-kept a to o = fwd-carried M′ to (replica-kept a) o
 
-  pub grown-agreement : {place wf : ℕ} → Identity M m rs → Values M m cur rs → Pairs M m cur ph → Agreement M cur ph place wf → Agreement M′ cur ph place wf
+  pub grown-agreement : {place wf : ℕ} → Identity M m rs → Values M m cur rs → Pairs M m cur st → Agreement M cur st place wf → Agreement M′ cur st place wf
   grown-agreement {place} {wf} i k ps a = record { refs-agree = fields-agree; plains-agree = words-agree }
     where
-      fields-agree : atCopy ≤ ph → ph ≤ atStackFlip → (v n : ℕ) → In M′ cur v → replica M′ v ≢ null → n < refs M′ v → Copied ph place wf v n
+      fields-agree : stCopy ≤ st → st ≤ stStackFlip → (v n : ℕ) → In M′ cur v → replica M′ v ≢ null → n < refs M′ v → Copied st place wf v n
           → field M′ (replica M′ v) n ≡ fwd M′ (otherHalf cur) (field M′ v n)
       fields-agree lo hi v n t d b c = old-or-new g t
           (λ o.
@@ -70,7 +70,7 @@ module _ {M M′ : Memory} {New Re : ℕ → Type 0} (g : Grown M M′ New Re)
           let b′ : n < refs M′ (replica M′ v) = rw (← p .nrefs w′, p .nrefs w) b in
           rw (new-ref g w n b, new-ref g w′ n b′, fwd-null M′ (otherHalf cur)))
 
-      words-agree : atCopy ≤ ph → ph ≤ atStackFlip → (v n : ℕ) → In M′ cur v → replica M′ v ≢ null → n < plains M′ v → Copied ph place wf v (refs M′ v + n)
+      words-agree : stCopy ≤ st → st ≤ stStackFlip → (v n : ℕ) → In M′ cur v → replica M′ v ≢ null → n < plains M′ v → Copied st place wf v (refs M′ v + n)
           → plainOf M′ (replica M′ v) n ≡ plainOf M′ v n
       words-agree lo hi v n t d b c = old-or-new g t
           (λ o.

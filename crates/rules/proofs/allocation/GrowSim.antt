@@ -3,6 +3,7 @@ use Prim.Native.Nat.{ℕ}
 use mathlib.Core.List.{List}
 use Rattle.rules.specs.Memory.{Memory}
 use Rattle.rules.specs.Control.{Store, withMemory}
+use Rattle.rules.specs.Cycle.{stage}
 use Rattle.rules.specs.Free.{Free, Record}
 use Rattle.rules.proofs.invariant.Sim.{Sim}
 use Rattle.rules.proofs.invariant.Laws.{cur-two}
@@ -17,8 +18,8 @@ use Rattle.rules.proofs.allocation.FreeRecords.{withRecords}
 module _ {K : ℕ → Type 0} {m m′ : ℕ → ℕ} {s : Store} {f : Free} {M′ : Memory} {New Re : ℕ → Type 0} {q : ℕ} {rs′ : List Record} where
   pub grown-sim : Sim K m s f → Grown (s .memory) M′ New Re → Longer (f .records) rs′
       → Placed (s .memory) M′ New m m′ (s .current) q (f .records) rs′
-      → Joined (s .memory) M′ New Re m′ (s .current) (s .phase)
-      → Tinted (s .memory) M′ New (s .current) (s .phase)
+      → Joined (s .memory) M′ New Re m′ (s .current) (stage (s .phase))
+      → Tinted (s .memory) M′ New (s .current) (stage (s .phase))
       → Sim K m′ (withMemory s M′) (withRecords f rs′)
   grown-sim h g l p j c = record {
     range = range-memory (h .range) (g .filled) (g .lengths);

@@ -78,7 +78,7 @@ module _ {M M′ : Memory} {New Re : ℕ → Type 0} (g : Grown M M′ New Re) w
       (λ o. let b′ = rw (grown-refs g (o .start)) at b in rw (grown-field g (o .start) i b′) (k v i o b′))
       (λ n side. λ d. absurd (d (new-ref g n i b)))
 
-  pub grown-field-halves : {cur ph : ℕ} → FieldHalves M cur ph → FieldHalves M′ cur ph
+  pub grown-field-halves : {cur st : ℕ} → FieldHalves M cur st → FieldHalves M′ cur st
   grown-field-halves k = record {
     home = λ a. names-kept (k .home a);
     away = λ a. names-kept (k .away a);

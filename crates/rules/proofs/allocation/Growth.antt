@@ -7,9 +7,9 @@ use lib.ListN.{getD, length}
 use Rattle.rules.specs.Memory.{Memory, null, frontier, halfOf, white, grey, black, colour, replica, refs, plains}
 use Rattle.rules.specs.Phases.{otherHalf}
 use Rattle.rules.specs.Free.{Record}
-use Rattle.rules.proofs.invariant.Turns.{atCopy, atHeapMark, atPreCopy, atPreMark1, atReclaim, atRest, atStackFlip}
 use Rattle.rules.proofs.memory.Records.{Start}
 use Rattle.rules.proofs.memory.Total.{total}
+use Rattle.rules.proofs.invariant.Stages.{stRest, stPreMark1, stHeapMark, stAllocate, stCopy, stStackFlip, stReclaim}
 use Rattle.rules.proofs.invariant.Words.{marks, copied, recOf}
 use Rattle.rules.proofs.invariant.Groups.{Pair}
 
@@ -35,26 +35,26 @@ pub record Placed (M M′ : Memory) (New : ℕ → Type 0) (m m′ : ℕ → ℕ
   pub fresh : {u : ℕ} → New u → halfOf u ≡ cur → length rs < q
 
 -- replica words of new records, and of those that have got one
-pub record Joined (M M′ : Memory) (New Re : ℕ → Type 0) (m′ : ℕ → ℕ) (cur ph : ℕ) : Type 0 where
+pub record Joined (M M′ : Memory) (New Re : ℕ → Type 0) (m′ : ℕ → ℕ) (cur st : ℕ) : Type 0 where
   pub before : {u : ℕ} → Re u → replica M u ≡ null
   pub after : {u : ℕ} → Re u → replica M′ u ≢ null
   pub marked : {u : ℕ} → Re u → colour M u ≢ white
-  pub early : {u : ℕ} → Re u → ph ≤ atPreCopy
+  pub early : {u : ℕ} → Re u → st < stCopy
   pub old-pair : {u : ℕ} → Re u → Pair M′ m′ u (replica M′ u)
   pub new-pair : {u : ℕ} → New u → replica M′ u ≢ null → Pair M′ m′ u (replica M′ u)
-  pub home : ph ≤ atStackFlip → {u : ℕ} → New u → halfOf u ≡ otherHalf cur → replica M′ u ≢ null
-  pub closed : atCopy ≤ ph → {u : ℕ} → New u → replica M′ u ≢ null → New (replica M′ u)
-  pub empty : ph ≤ atHeapMark → frontier M′ (otherHalf cur) ≡ 0
-  pub spent : ph ≤ atStackFlip → frontier M′ (otherHalf cur) ≡ total M′ cur (copied M′)
+  pub home : st ≤ stStackFlip → {u : ℕ} → New u → halfOf u ≡ otherHalf cur → replica M′ u ≢ null
+  pub closed : stCopy ≤ st → {u : ℕ} → New u → replica M′ u ≢ null → New (replica M′ u)
+  pub empty : st < stAllocate → frontier M′ (otherHalf cur) ≡ 0
+  pub spent : st ≤ stStackFlip → frontier M′ (otherHalf cur) ≡ total M′ cur (copied M′)
 
 -- colours of new records
-pub record Tinted (M M′ : Memory) (New : ℕ → Type 0) (cur ph : ℕ) : Type 0 where
-  pub at-rest : ph ≡ atRest → {u : ℕ} → New u → halfOf u ≡ cur → colour M′ u ≡ white
-  pub at-reclaim : ph ≡ atReclaim → {u : ℕ} → New u → halfOf u ≡ cur → colour M′ u ≡ white
-  pub none-black : ph ≡ atPreMark1 → {u : ℕ} → New u → halfOf u ≡ cur → colour M′ u ≢ black
+pub record Tinted (M M′ : Memory) (New : ℕ → Type 0) (cur st : ℕ) : Type 0 where
+  pub at-rest : st ≡ stRest → {u : ℕ} → New u → halfOf u ≡ cur → colour M′ u ≡ white
+  pub at-reclaim : st ≡ stReclaim → {u : ℕ} → New u → halfOf u ≡ cur → colour M′ u ≡ white
+  pub none-black : st ≡ stPreMark1 → {u : ℕ} → New u → halfOf u ≡ cur → colour M′ u ≢ black
   pub none-grey : {u : ℕ} → New u → halfOf u ≡ cur → colour M′ u ≢ grey
-  pub white-away : ph ≤ atStackFlip → {u : ℕ} → New u → halfOf u ≡ otherHalf cur → colour M′ u ≡ white
-  pub paired : ph ≤ atStackFlip → {u : ℕ} → New u → halfOf u ≡ cur → replica M′ u ≢ null → colour M′ u ≢ white
-  pub shelled : atPreCopy ≤ ph → ph ≤ atStackFlip → {u : ℕ} → New u → halfOf u ≡ cur → colour M′ u ≢ white → replica M′ u ≢ null
+  pub white-away : st ≤ stStackFlip → {u : ℕ} → New u → halfOf u ≡ otherHalf cur → colour M′ u ≡ white
+  pub paired : st ≤ stStackFlip → {u : ℕ} → New u → halfOf u ≡ cur → replica M′ u ≢ null → colour M′ u ≢ white
+  pub shelled : stAllocate < st → st ≤ stStackFlip → {u : ℕ} → New u → halfOf u ≡ cur → colour M′ u ≢ white → replica M′ u ≢ null
   -- they leave the grey list its room
-  pub room : atPreMark1 ≤ ph → ph ≤ atHeapMark → total M cur (marks M) ≤ total M′ cur (marks M′)
+  pub room : stRest < st → st ≤ stHeapMark → total M cur (marks M) ≤ total M′ cur (marks M′)

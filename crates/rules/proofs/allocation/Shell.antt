@@ -6,9 +6,9 @@ use mathlib.Core.List.{List}
 use native.Mathlib.Omega.{arith}
 use Rattle.rules.specs.Memory.{Memory, frontier, null, halfOf, shapeAt, replicaAt, white, word, colour, replica, refs, plains, size, nextReference}
 use Rattle.rules.specs.Control.{Store, withMemory}
+use Rattle.rules.specs.Cycle.{stage}
 use Rattle.rules.specs.Phases.{otherHalf}
 use Rattle.rules.specs.Free.{Free, Record}
-use Rattle.rules.proofs.invariant.Turns.{atAllocate}
 use Rattle.rules.proofs.memory.Cases.{either}
 use Rattle.rules.proofs.memory.Encoding.{other-below-2, other-differs}
 use Rattle.rules.proofs.memory.Records.{Start, start-nonnull, size-fields, size-least}
@@ -16,6 +16,7 @@ use Rattle.rules.proofs.memory.Next.{next-half, next-nonnull, next-fres
 use Rattle.rules.proofs.memory.Put.{PutKept}
 use Rattle.rules.proofs.memory.Append.{Appended}
 use Rattle.rules.proofs.memory.Total.{total, total-bump, total-kept}
+use Rattle.rules.proofs.invariant.Stages.{stAllocate}
 use Rattle.rules.proofs.invariant.Words.{In, copied}
 use Rattle.rules.proofs.invariant.Groups.{Pair}
 use Rattle.rules.proofs.invariant.Sim.{Sim}
@@ -29,7 +30,7 @@ use Rattle.rules.proofs.allocation.GrowSim.{grown-sim}
 use Rattle.rules.proofs.allocation.FreeRecords.{longer-not}
 
 -- M₁ has the shell, M₂ also the replica word that names it
-module _ {K : ℕ → Type 0} {m : ℕ → ℕ} {s : Store} {f : Free} (h : Sim K m s f) {M₁ M₂ : Memory} {v : ℕ} (at-5 : s .phase ≡ atAllocate)
+module _ {K : ℕ → Type 0} {m : ℕ → ℕ} {s : Store} {f : Free} (h : Sim K m s f) {M₁ M₂ : Memory} {v : ℕ} (at-5 : stage (s .phase) ≡ stAllocate)
     (this : In (s .memory) (s .current) v) (marked : colour (s .memory) v ≢ white) (alone : replica (s .memory) v ≡ null)
     (one : Appended (s .memory) M₁ (otherHalf (s .current)) (word (s .memory) v shapeAt) white v (refs (s .memory) v + plains (s .memory) v))
     (more : PutKept M₁ M₂ v replicaAt (nextReference (s .memory) (otherHalf (s .current)))) where
@@ -164,7 +165,7 @@ module _ {K : ℕ → Type 0} {m : ℕ → ℕ} {s : Store} {f : Free} (h : Sim 
       (λ u t side d. copied-same M M₂ u (either (grown .same-replica t) (λ e. e) (λ n. absurd (d (is-v n)))) (grown-size grown t)) in
       a ∙ b ∙ c
 
-  joining : Joined M M₂ New Re m′ cur (s .phase)
+  joining : Joined M M₂ New Re m′ cur (stage (s .phase))
   joining = record {
     before = λ n. rw (is-v n) alone;
     after = λ n. rw (is-v n, replica-v) (next-nonnull M other);
@@ -178,7 +179,7 @@ module _ {K : ℕ → Type 0} {m : ℕ → ℕ} {s : Store} {f : Free} (h : Sim 
     spent = λ l. omega (arith, front-other, total-after, h .pairs .spent l);
   }
 
-  tinting : Tinted M M₂ New cur (s .phase)
+  tinting : Tinted M M₂ New cur (stage (s .phase))
   tinting = record {
     at-rest = λ l n side. none-here n side;
     at-reclaim = λ l n side. none-here n side;

@@ -1,5 +1,5 @@
 -- One new record in the current half, without replica (levels 0 to 2).
-use Prim.Native.Nat.{ℕ, suc, _+_, _≤_}
+use Prim.Native.Nat.{ℕ, suc, _+_, _≤_, _<_}
 use mathlib.Core.Path.{_≡_, refl, sym, _∙_}
 use mathlib.Core.Logic.{_≢_, _⊎_}
 use mathlib.Core.List.{List, [], _∷_, _++_}
@@ -8,14 +8,15 @@ use native.Mathlib.Omega.{arith}
 use lib.ListN.{length, length-replicate}
 use Rattle.rules.specs.Memory.{Memory, frontier, null, halfOf, shapeWord, white, grey, black, colour, replica, nextReference, mostCount}
 use Rattle.rules.specs.Control.{Store, withMemory}
+use Rattle.rules.specs.Cycle.{stage}
 use Rattle.rules.specs.Phases.{otherHalf}
 use Rattle.rules.specs.Free.{Free, Record}
 use Rattle.rules.specs.declared.Session.{Session}
-use Rattle.rules.proofs.invariant.Turns.{atAllocate, atPreMark1, atReclaim, atRest, atRootMark, atStackFlip}
 use Rattle.rules.proofs.memory.Cases.{either}
 use Rattle.rules.proofs.memory.Encoding.{other-below-2, other-differs, refs-shape, plains-shape}
 use Rattle.rules.proofs.memory.Append.{Appended}
 use Rattle.rules.proofs.memory.Total.{total, total-equal, total-append}
+use Rattle.rules.proofs.invariant.Stages.{stRest, stPreMark1, stPreMark2, stAllocate, stStackFlip, stReclaim}
 use Rattle.rules.proofs.invariant.Words.{ok-start, marks, copied}
 use Rattle.rules.proofs.invariant.Sim.{Sim}
 use Rattle.rules.proofs.invariant.Laws.{cur-two}
@@ -28,17 +29,17 @@ use Rattle.rules.proofs.allocation.GrowSim.{grown-sim}
 use Rattle.rules.proofs.allocation.FreeRecords.{withRecords, blankRecord, longer-by, new-place, new-high}
 
 -- ---- the colours that it may have by phase
-pub record Tint (ph c : ℕ) : Type 0 where
+pub record Tint (st c : ℕ) : Type 0 where
   pub small : c ≤ black
-  pub at-rest : ph ≡ atRest → c ≡ white
-  pub at-reclaim : ph ≡ atReclaim → c ≡ white
-  pub none-black : ph ≡ atPreMark1 → c ≢ black
+  pub at-rest : st ≡ stRest → c ≡ white
+  pub at-reclaim : st ≡ stReclaim → c ≡ white
+  pub none-black : st ≡ stPreMark1 → c ≢ black
   pub none-grey : c ≢ grey
-  pub marked : atRootMark ≤ ph → ph ≤ atStackFlip → c ≢ white
-  pub phases : (ph ≤ atAllocate) ⊎ (ph ≡ atReclaim)
+  pub marked : stPreMark2 < st → st ≤ stStackFlip → c ≢ white
+  pub phases : (st ≤ stAllocate) ⊎ (st ≡ stReclaim)
 
 -- M′ has it
-module _ {K : ℕ → Type 0} {m : ℕ → ℕ} {s : Store} {f : Free} (h : Sim K m s f) (r p : ℕ) (pb : p ≤ mostCount) {M′ : Memory} {c : ℕ} (tint : Tint (s .phase) c)
+module _ {K : ℕ → Type 0} {m : ℕ → ℕ} {s : Store} {f : Free} (h : Sim K m s f) (r p : ℕ) (pb : p ≤ mostCount) {M′ : Memory} {c : ℕ} (tint : Tint (stage (s .phase)) c)
     (kept : Appended (s .memory) M′ (s .current) (shapeWord r p) c null (r + p)) where
   abbrev M : Memory
   M = s .memory
@@ -106,7 +107,7 @@ module _ {K : ℕ → Type 0} {m : ℕ → ℕ} {s : Store} {f : Free} (h : Sim 
       let q = total-equal M (cur-two h) (marks M′) (marks M) (λ v t side. marks-same M M′ v (grown-colour grown t)) in
       omega arith
 
-  joining : Joined M M′ New Re m′ cur (s .phase)
+  joining : Joined M M′ New Re m′ cur (stage (s .phase))
   joining = record {
     before = λ n. absurd n;
     after = λ n. absurd n;
@@ -120,7 +121,7 @@ module _ {K : ℕ → Type 0} {m : ℕ → ℕ} {s : Store} {f : Free} (h : Sim 
     spent = λ a. away ∙ h .pairs .spent a ∙ sym total-copied;
   }
 
-  tinting : Tinted M M′ New cur (s .phase)
+  tinting : Tinted M M′ New cur (stage (s .phase))
   tinting = record {
     at-rest = λ a n side. coloured n ∙ tint .at-rest a;
     at-reclaim = λ a n side. coloured n ∙ tint .at-reclaim a;

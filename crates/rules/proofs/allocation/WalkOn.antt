@@ -5,17 +5,18 @@ use mathlib.Core.Logic.{_≢_}
 use native.Mathlib.Omega.{arith}
 use Rattle.rules.specs.Memory.{frontier, null, white, colour, replica, size}
 use Rattle.rules.specs.Control.{Store, withWalk}
+use Rattle.rules.specs.Cycle.{stage}
 use Rattle.rules.specs.Collector.{walked}
 use Rattle.rules.specs.Free.{Free}
-use Rattle.rules.proofs.invariant.Turns.{atAllocate}
 use Rattle.rules.proofs.memory.Cases.{either}
 use Rattle.rules.proofs.memory.Walk.{walk-split}
+use Rattle.rules.proofs.invariant.Stages.{stAllocate}
 use Rattle.rules.proofs.invariant.Sim.{Sim}
 use Rattle.rules.proofs.invariant.Laws.{cur-two}
 use Rattle.rules.proofs.invariant.Idle.{agreement-early}
 use Rattle.rules.proofs.invariant.Walked.{walked-next, walked-limit, walk-sim}
 
-module _ {K : ℕ → Type 0} {m : ℕ → ℕ} {s : Store} {f : Free} (h : Sim K m s f) (at-5 : s .phase ≡ atAllocate)
+module _ {K : ℕ → Type 0} {m : ℕ → ℕ} {s : Store} {f : Free} (h : Sim K m s f) (at-5 : stage (s .phase) ≡ stAllocate)
     (under : s .walk .place < frontier (s .memory) (s .current)) where
   pub walks-on : (colour (s .memory) (walked s) ≢ white → replica (s .memory) (walked s) ≢ null)
       → (k : ℕ) → k ≡ s .walk .place + size (s .memory) (walked s) → Sim K m (withWalk s k 0) f

@@ -5,14 +5,15 @@ use mathlib.Core.Logic.{_≢_}
 use native.Mathlib.Omega.{arith}
 use Rattle.rules.specs.Memory.{Memory, null, wordOf, reference, frontier, replica, refs, plains, size}
 use Rattle.rules.specs.Control.{Store, withWalk, walkLimit, mostFields}
+use Rattle.rules.specs.Cycle.{stage}
 use Rattle.rules.specs.Phases.{otherHalf}
 use Rattle.rules.specs.Collector.{walked}
 use Rattle.rules.specs.Free.{Free}
-use Rattle.rules.proofs.invariant.Turns.{atCopy}
 use Rattle.rules.proofs.memory.Cases.{lt-or, either}
 use Rattle.rules.proofs.memory.Encoding.{word-reference, reference-same}
 use Rattle.rules.proofs.memory.Records.{start-from-2, start-refs, start-plains}
 use Rattle.rules.proofs.memory.Walk.{Walk, walk-split}
+use Rattle.rules.proofs.invariant.Stages.{stCopy}
 use Rattle.rules.proofs.invariant.Words.{In, field, plainOf, fwd}
 use Rattle.rules.proofs.invariant.Groups.{Copied, over, earlier, here, Agreement}
 use Rattle.rules.proofs.invariant.Sim.{Sim}
@@ -24,12 +25,12 @@ pub record FieldCopied (M : Memory) (cur v i : ℕ) : Type 0 where
   pub refs-agree : replica M v ≢ null → i < refs M v → field M (replica M v) i ≡ fwd M (otherHalf cur) (field M v i)
   pub plains-agree : replica M v ≢ null → (k : ℕ) → refs M v + k ≡ i → k < plains M v → plainOf M (replica M v) k ≡ plainOf M v k
 
-module _ {K : ℕ → Type 0} {m : ℕ → ℕ} {s : Store} {f : Free} (h : Sim K m s f) (e : s .phase ≡ atCopy) where
+module _ {K : ℕ → Type 0} {m : ℕ → ℕ} {s : Store} {f : Free} (h : Sim K m s f) (e : stage (s .phase) ≡ stCopy) where
   -- the walk at k and i
   copy-walk : (k i : ℕ) → k ≤ walkLimit (s .phase) (s .lengths .half0) → i ≤ mostFields → Walk (s .memory) (s .current) k
       → (k < frontier (s .memory) (s .current) → i ≤ refs (s .memory) (reference (s .current) k) + plains (s .memory) (reference (s .current) k))
       → (frontier (s .memory) (s .current) ≤ k → i ≡ 0)
-      → Agreement (s .memory) (s .current) (s .phase) k i → Sim K m (withWalk s k i) f
+      → Agreement (s .memory) (s .current) (stage (s .phase)) k i → Sim K m (withWalk s k i) f
   copy-walk k i a b w c d g = walk-sim h (record {
     places = a;
     fields = b;
@@ -64,7 +65,7 @@ module _ {K : ℕ → Type 0} {m : ℕ → ℕ} {s : Store} {f : Free} (h : Sim 
 
     -- its next field has been copied
     next-agreement : FieldCopied (s .memory) (s .current) (walked s) (s .walk .field)
-        → Agreement (s .memory) (s .current) (s .phase) (s .walk .place) (s .walk .field + 1)
+        → Agreement (s .memory) (s .current) (stage (s .phase)) (s .walk .place) (s .walk .field + 1)
     next-agreement c = record {
       refs-agree = λ lo hi v i q n b d. old-or v i q d
           (λ z. h .agreement .refs-agree lo hi v i q n b z)
@@ -74,8 +75,8 @@ module _ {K : ℕ → Type 0} {m : ℕ → ℕ} {s : Store} {f : Free} (h : Sim 
           (λ z y. rw z (c .plains-agree (rw z at n) i (rw z at y) (rw z at b)));
     }
       where
-        old-or : (v i : ℕ) → In (s .memory) (s .current) v → Copied (s .phase) (s .walk .place) (s .walk .field + 1) v i → {C : Type 0}
-            → (Copied (s .phase) (s .walk .place) (s .walk .field) v i → C) → (v ≡ walked s → i ≡ s .walk .field → C) → C
+        old-or : (v i : ℕ) → In (s .memory) (s .current) v → Copied (stage (s .phase)) (s .walk .place) (s .walk .field + 1) v i → {C : Type 0}
+            → (Copied (stage (s .phase)) (s .walk .place) (s .walk .field) v i → C) → (v ≡ walked s → i ≡ s .walk .field → C) → C
         old-or v i q (over z) old new = old (over z)
         old-or v i q (earlier z) old new = old (earlier z)
         old-or v i q (here z b) old new = lt-or i (s .walk .field) (λ g. old (here z g)) (λ g. new (walked-only q z) (omega arith))
@@ -89,7 +90,7 @@ module _ {K : ℕ → Type 0} {m : ℕ → ℕ} {s : Store} {f : Free} (h : Sim 
 
     -- past the record: it has no replica, or all its fields have been copied
     past-agreement : (replica (s .memory) (walked s) ≢ null → refs (s .memory) (walked s) + plains (s .memory) (walked s) ≤ s .walk .field)
-        → Agreement (s .memory) (s .current) (s .phase) (s .walk .place + size (s .memory) (walked s)) 0
+        → Agreement (s .memory) (s .current) (stage (s .phase)) (s .walk .place + size (s .memory) (walked s)) 0
     unfolding walked
     past-agreement c = record {
       refs-agree = λ lo hi v i q n b d. h .agreement .refs-agree lo hi v i q n b
@@ -99,7 +100,7 @@ module _ {K : ℕ → Type 0} {m : ℕ → ℕ} {s : Store} {f : Free} (h : Sim 
     }
       where
         old : (v i : ℕ) → In (s .memory) (s .current) v → replica (s .memory) v ≢ null → i < refs (s .memory) v + plains (s .memory) v
-            → Copied (s .phase) (s .walk .place + size (s .memory) (walked s)) 0 v i → Copied (s .phase) (s .walk .place) (s .walk .field) v i
+            → Copied (stage (s .phase)) (s .walk .place + size (s .memory) (walked s)) 0 v i → Copied (stage (s .phase)) (s .walk .place) (s .walk .field) v i
         old v i q n b (over z) = over z
         old v i q n b (earlier z) = either (walk-split (cur-two h) (h .walking .at-7 e) (q .start) (q .side) z)
             (λ y. earlier y)

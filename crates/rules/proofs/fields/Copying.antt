@@ -11,12 +11,13 @@ use borrow.Author.Tests.{ne-eqb, eq-eqb, lt-ltb, le-ltb}
 use Rattle.rules.specs.Refusals.{passed}
 use Rattle.rules.specs.Memory.{Memory, null, frontier, put, replica, refs, plains, refField, plainField}
 use Rattle.rules.specs.Control.{Store, withMemory, withWalk}
+use Rattle.rules.specs.Cycle.{stage}
 use Rattle.rules.specs.Phases.{otherHalf, moveOn}
 use Rattle.rules.specs.Collector.{walked, below, pastRecord, copyRef, copyPlain, copyField, copy}
 use Rattle.rules.specs.Free.{Free, noRecord, recordAt, withRecord}
-use Rattle.rules.proofs.invariant.Turns.{atCopy, atPreCopy, atStackFlip}
 use Rattle.rules.proofs.memory.Cases.{eq-or, lt-or}
 use Rattle.rules.proofs.memory.Records.{ref-inside, plain-inside}
+use Rattle.rules.proofs.invariant.Stages.{stAllocate, stCopy, stStackFlip}
 use Rattle.rules.proofs.invariant.Words.{In, Ok, field, plainOf, fwd, recOf}
 use Rattle.rules.proofs.invariant.Sim.{Sim}
 use Rattle.rules.proofs.invariant.Laws.{followed-start, forward-passed, marked-black, replica-other, to-other}
@@ -41,7 +42,7 @@ unfolding withRecord recordAt
 same-plain f q i e = rw (← e, set-getD (recOf (f .records) q .plains) i 0, set-getD (f .records) (q - 1) noRecord)
 
 -- a field of v copied to its replica, at word j of both
-module _ {K : ℕ → Type 0} {m : ℕ → ℕ} {s : Store} {f : Free} (h : Sim K m s f) (lo : atPreCopy ≤ s .phase) (hi : s .phase ≤ atStackFlip)
+module _ {K : ℕ → Type 0} {m : ℕ → ℕ} {s : Store} {f : Free} (h : Sim K m s f) (lo : stAllocate < stage (s .phase)) (hi : stage (s .phase) ≤ stStackFlip)
     {v : ℕ} (q : In (s .memory) (s .current) v) (n : replica (s .memory) v ≢ null) where
   abbrev M : Memory
   M = s .memory
@@ -114,7 +115,7 @@ module _ {K : ℕ → Type 0} {m : ℕ → ℕ} {s : Store} {f : Free} (h : Sim 
         }
 
 -- ---- the unit
-module _ {K : ℕ → Type 0} {m : ℕ → ℕ} {s : Store} {f : Free} (h : Sim K m s f) (e : s .phase ≡ atCopy) where
+module _ {K : ℕ → Type 0} {m : ℕ → ℕ} {s : Store} {f : Free} (h : Sim K m s f) (e : stage (s .phase) ≡ stCopy) where
   -- at the frontier
   ends : frontier (s .memory) (s .current) ≤ s .walk .place → Stepped K m s f (copy s)
   unfolding copy below moveOn

@@ -7,10 +7,11 @@ use lib.ListN.{getD, length, set, length-set}
 use lib.Seq.{getD-set-same, getD-set-other}
 use Rattle.rules.specs.Memory.{Memory, null, replica, refs, plains, refField, plainField}
 use Rattle.rules.specs.Control.{Store, withMemory}
+use Rattle.rules.specs.Cycle.{stage}
 use Rattle.rules.specs.Phases.{otherHalf}
 use Rattle.rules.specs.Free.{Free, Record, recordAt, withRecord}
-use Rattle.rules.proofs.invariant.Turns.{atCopy, atStackFlip}
 use Rattle.rules.proofs.memory.Cases.{eq-or}
+use Rattle.rules.proofs.invariant.Stages.{stCopy, stStackFlip}
 use Rattle.rules.proofs.invariant.Words.{In, plainOf, recOf}
 use Rattle.rules.proofs.invariant.Sim.{Sim}
 use Rattle.rules.proofs.invariant.Pairs.{pair-shape, replica-shape}
@@ -39,7 +40,7 @@ module _ {K : ℕ → Type 0} {m : ℕ → ℕ} {s : Store} {f : Free} {M′ : M
   new : plainOf M′ v i ≡ a
   new = rw (refs-kept (w .frame) (w .here .start)) (w .new)
 
-  new-copy : atCopy ≤ s .phase → s .phase ≤ atStackFlip → replica (s .memory) v ≢ null → plainOf M′ (replica (s .memory) v) i ≡ a
+  new-copy : stCopy ≤ stage (s .phase) → stage (s .phase) ≤ stStackFlip → replica (s .memory) v ≢ null → plainOf M′ (replica (s .memory) v) i ≡ a
   new-copy lo hi n =
       rw (refs-kept (w .frame) (h .pairs .pair v (w .here) n .start), replica-shape h v (w .here) n .0) (w .copy lo hi n)
 
@@ -71,7 +72,7 @@ module _ {K : ℕ → Type 0} {m : ℕ → ℕ} {s : Store} {f : Free} {M′ : M
         plains-agree = λ lo hi c k q b. rw (number k q, new-copy lo hi c, new);
       }
     where
-      copy-refs : s .phase ≤ atStackFlip → In (s .memory) (otherHalf (s .current)) t → refs (s .memory) t ≡ refs (s .memory) v
+      copy-refs : stage (s .phase) ≤ stStackFlip → In (s .memory) (otherHalf (s .current)) t → refs (s .memory) t ≡ refs (s .memory) v
       copy-refs hi o = sym (rw (w .paired hi o) at (pair-shape (h .identity) (o .start) (h .pairs .home hi t o .1) .0))
 
   pub plain-write-sim : Sim K m (withMemory s M′) (withRecord f (m v) (withPlain (recordAt f (m v)) i a))

@@ -1,6 +1,6 @@
 -- The call put: a global takes a register's word.
 use Prim.Native.Nat.{ℕ, _≤_}
-use mathlib.Core.Path.{_≡_, refl, _∙_}
+use mathlib.Core.Path.{_≡_, refl, ap, _∙_}
 use mathlib.Core.Logic.{_≢_}
 use mathlib.Core.Bool.{Bool, true, false, cond, _&&_}
 use native.Mathlib.Omega.{arith}
@@ -10,6 +10,7 @@ use borrow.Author.Tests.{leb-true, ne-eqb}
 use Rattle.rules.specs.Refusals.{passed}
 use Rattle.rules.specs.Memory.{null, inHalf, otherCopy}
 use Rattle.rules.specs.Control.{Store, withGlobals, lastGlobal}
+use Rattle.rules.specs.Cycle.{stage}
 use Rattle.rules.specs.Phases.{otherHalf}
 use Rattle.rules.specs.Barriers.{Heap, heapOf, shade, barrierShade, ownWord, putWrites}
 use Rattle.rules.specs.Calls as calls
@@ -17,8 +18,8 @@ use Rattle.rules.specs.Calls.{isRegister, isGlobal}
 use Rattle.rules.specs.Free.{Free, freePut}
 use Rattle.rules.specs.declared.Session.{Session}
 use Rattle.rules.specs.declared.Writes.{Writes}
-use Rattle.rules.proofs.invariant.Turns.{atRootFlip, atStackFlip}
 use Rattle.rules.proofs.memory.Cases.{eq-or, lt-or, either}
+use Rattle.rules.proofs.invariant.Stages.{stRootFlip, stStackFlip, stReclaim, in-stage}
 use Rattle.rules.proofs.invariant.Words.{Names}
 use Rattle.rules.proofs.invariant.Sim.{Sim}
 use Rattle.rules.proofs.invariant.Laws.{from-current, from-two, in-half-null}
@@ -36,13 +37,13 @@ use Rattle.rules.proofs.fields.Table.{own-fits, forwarded-fits, forward
 
 -- what fits a field fits a global, where the flip has not passed it
 fits-global : {K : ℕ → Type 0} {m : ℕ → ℕ} {s : Store} {u p : ℕ} (g : ℕ) → Fits K m s u p
-    → (atRootFlip ≤ s .phase → s .phase ≤ atStackFlip → Names (otherHalf (s .current)) u) → GlobalFits K m s g u p
+    → (stRootFlip ≤ stage (s .phase) → stage (s .phase) ≤ stStackFlip → Names (otherHalf (s .current)) u) → GlobalFits K m s g u p
 fits-global g x flipped = record {
   ok = x .ok;
   is = x .is;
   names = x .side;
   flipping = λ e l. flipped (omega arith) (omega arith);
-  flipped = λ e. flipped (omega arith) (omega arith);
+  flipped = λ lo hi. flipped (omega arith) hi;
   below = λ e l. x .clean (omega arith) (omega arith);
   clean = λ lo hi. x .clean (omega arith) hi;
   kept = x .held;
@@ -80,12 +81,12 @@ module _ {K : ℕ → Type 0} {m : ℕ → ℕ} {s : Store} {f : Free} {x : Sess
         passes = put-writes (heapOf s) l q (w .passes) (own-global (heapOf s) (λ e. omega arith));
         sim = rw (k .globals) at (global-sim (w .sim) g b (fits-global g (shaded-fits h a c t w)
             (λ lo hi. absurd (either (level-low 3 (omega arith) (h .range .phases) a c)
-            (λ z. let e = k .phase in omega arith) (λ z. let e = k .phase in omega arith)))));
+            (λ z. omega (arith, ap stage (k .phase))) (λ z. omega (arith, ap stage (k .phase)))))));
       }
 
   -- levels 4 to 6: nothing is shaded
   placed-high : {u : ℕ} → 4 ≤ l → ownWord (heapOf s) l null q ≡ passed u → Fits K m s u p
-      → (atRootFlip ≤ s .phase → s .phase ≤ atStackFlip → Names (otherHalf (s .current)) u) → GlobalPut K m s f l g q p
+      → (stRootFlip ≤ stage (s .phase) → stage (s .phase) ≤ stStackFlip → Names (otherHalf (s .current)) u) → GlobalPut K m s f l g q p
   unfolding shade
   placed-high {u} c e y n = record {
     writes = record { shade = null; own = u; replica = null; copy = null };
@@ -96,9 +97,9 @@ module _ {K : ℕ → Type 0} {m : ℕ → ℕ} {s : Store} {f : Free} {x : Sess
   put-places : GlobalPut K m s f l g q p
   put-places = lt-or l 4 (λ c. placed-low (omega arith))
       (λ c. let lo = level-from 4 (omega arith) (h .range .phases) a c in
-      eq-or (s .phase) 12
+      eq-or (stage (s .phase)) stReclaim
       (λ e. placed-high c (reclaim-own h t e (level-last (h .range .phases) a c e) null) (reclaim-fits h t e) (λ y z. absurd (omega arith)))
-      (λ n. let hi : s .phase ≤ atStackFlip = omega (arith, h .range .phases) in
+      (λ n. let hi : stage (s .phase) ≤ stStackFlip = omega (arith, in-stage (h .range)) in
       lt-or l 6
       (λ d. placed-high c (own-global (heapOf s) (λ e. omega arith)) (own-fits h t lo hi) (λ y z. absurd (omega (arith, level-to 5 (omega arith) (h .range .phases) a (omega arith) (omega arith)))))
       (λ d. let e : l ≡ 6 = omega (arith, level-most (s .phase) l (h .range .phases) a) in

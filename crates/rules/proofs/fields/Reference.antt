@@ -7,10 +7,11 @@ use lib.ListN.{getD, length, set, length-set}
 use lib.Seq.{getD-set-same, getD-set-other}
 use Rattle.rules.specs.Memory.{Memory, null, replica, refs, plains, refField, plainField}
 use Rattle.rules.specs.Control.{Store, withMemory}
+use Rattle.rules.specs.Cycle.{stage}
 use Rattle.rules.specs.Phases.{otherHalf}
 use Rattle.rules.specs.Free.{Free, Record, recordAt, withRecord}
-use Rattle.rules.proofs.invariant.Turns.{atCopy, atPreMark2, atStackFlip}
 use Rattle.rules.proofs.memory.Cases.{eq-or}
+use Rattle.rules.proofs.invariant.Stages.{stPreMark1, stCopy, stStackFlip}
 use Rattle.rules.proofs.invariant.Words.{In, Ok, Names, Clean, fwd, recOf}
 use Rattle.rules.proofs.invariant.Groups.{NoFlip}
 use Rattle.rules.proofs.invariant.Sim.{Sim}
@@ -28,14 +29,14 @@ pub record Fits (K : ℕ → Type 0) (m : ℕ → ℕ) (s : Store) (u p : ℕ) :
   pub is : p ≡ m u
   pub held : p ≢ null → K p
   pub ok : Ok (s .memory) u
-  pub side : NoFlip (s .phase) → Names (s .current) u
-  pub clean : atPreMark2 ≤ s .phase → s .phase ≤ atStackFlip → Clean (s .memory) (s .current) u
+  pub side : NoFlip (stage (s .phase)) → Names (s .current) u
+  pub clean : stPreMark1 < stage (s .phase) → stage (s .phase) ≤ stStackFlip → Clean (s .memory) (s .current) u
 
 -- y may be written to the replica t of v beside it
 pub record FitsAway (s : Store) (v t u y : ℕ) : Type 0 where
-  pub ok : s .phase ≤ atStackFlip → In (s .memory) (otherHalf (s .current)) t → Ok (s .memory) y
-  pub side : s .phase ≤ atStackFlip → In (s .memory) (otherHalf (s .current)) t → Names (otherHalf (s .current)) y
-  pub agrees : atCopy ≤ s .phase → s .phase ≤ atStackFlip → replica (s .memory) v ≢ null → y ≡ fwd (s .memory) (otherHalf (s .current)) u
+  pub ok : stage (s .phase) ≤ stStackFlip → In (s .memory) (otherHalf (s .current)) t → Ok (s .memory) y
+  pub side : stage (s .phase) ≤ stStackFlip → In (s .memory) (otherHalf (s .current)) t → Names (otherHalf (s .current)) y
+  pub agrees : stCopy ≤ stage (s .phase) → stage (s .phase) ≤ stStackFlip → replica (s .memory) v ≢ null → y ≡ fwd (s .memory) (otherHalf (s .current)) u
 
 module _ {K : ℕ → Type 0} {m : ℕ → ℕ} {s : Store} {f : Free} {M′ : Memory} {v t i u y p : ℕ}
     (h : Sim K m s f) (w : Written s M′ v t (refField i) u y) (l : i < refs (s .memory) v) (x : Fits K m s u p) (z : FitsAway s v t u y) where

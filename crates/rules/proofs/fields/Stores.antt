@@ -5,13 +5,14 @@ use mathlib.Core.Logic.{_≢_, _⊎_, inl, inr}
 use native.Mathlib.Omega.{arith}
 use Rattle.rules.specs.Memory.{null, put, replica, refs, refField}
 use Rattle.rules.specs.Control.{Store, withMemory}
+use Rattle.rules.specs.Cycle.{stage}
 use Rattle.rules.specs.Phases.{otherHalf}
 use Rattle.rules.specs.Barriers.{shade}
 use Rattle.rules.specs.Free.{Free, recordAt, withRecord}
 use Rattle.rules.specs.declared.Session.{Session}
-use Rattle.rules.proofs.invariant.Turns.{atCopy, atPreCopy, atReclaim, atStackFlip}
 use Rattle.rules.proofs.memory.Cases.{either}
 use Rattle.rules.proofs.memory.Records.{ref-inside}
+use Rattle.rules.proofs.invariant.Stages.{stAllocate, stPreCopy, stCopy, stStackFlip, stReclaim}
 use Rattle.rules.proofs.invariant.Words.{In, fwd}
 use Rattle.rules.proofs.invariant.Sim.{Sim}
 use Rattle.rules.proofs.invariant.Laws.{in-nonnull, fwd-ok, fwd-names}
@@ -25,14 +26,14 @@ use Rattle.rules.proofs.fields.Barred.{Barred}
 
 -- ---- the record alone written
 pub alone-sim : {K : ℕ → Type 0} {m : ℕ → ℕ} {s : Store} {f : Free} {v i q p : ℕ} → Sim K m s f → In (s .memory) (s .current) v → i < refs (s .memory) v
-    → Fits K m s q p → (s .phase ≤ atPreCopy) ⊎ ((s .phase ≡ atReclaim) ⊎ (replica (s .memory) v ≡ null))
+    → Fits K m s q p → (stage (s .phase) ≤ stPreCopy) ⊎ ((stage (s .phase) ≡ stReclaim) ⊎ (replica (s .memory) v ≡ null))
     → Sim K m (withMemory s (put (s .memory) v (refField i) q)) (withRecord f (m v) (withRef (recordAt f (m v)) i p))
-alone-sim {s = s} {v = v} {i = i} {q = q} h o l x ph =
+alone-sim {s = s} {v = v} {i = i} {q = q} h o l x st =
     ref-write-sim h (written-alone h o (refField i) (omega arith) (ref-inside (s .memory) v i l) q null (λ lo hi n. none lo hi n)) l x
     (record { ok = λ hi z. absurd (in-nonnull z refl); side = λ hi z. absurd (in-nonnull z refl); agrees = λ lo hi n. absurd (none lo hi n) })
   where
-    none : atCopy ≤ s .phase → s .phase ≤ atStackFlip → replica (s .memory) v ≢ null → ⊥
-    none lo hi n = either ph (λ z. omega arith) (λ r. either r (λ z. omega arith) n)
+    none : stCopy ≤ stage (s .phase) → stage (s .phase) ≤ stStackFlip → replica (s .memory) v ≢ null → ⊥
+    none lo hi n = either st (λ z. omega arith) (λ r. either r (λ z. omega arith) n)
 
 -- ---- levels 0 to 3: after shading, the record alone
 module _ {K : ℕ → Type 0} {m : ℕ → ℕ} {s : Store} {f : Free} {x : Session} {l q p : ℕ}
@@ -58,7 +59,7 @@ module _ {K : ℕ → Type 0} {m : ℕ → ℕ} {s : Store} {f : Free} {x : Sess
       (rw (k .phase) (either (level-low 3 (omega arith) (h .range .phases) a b) (λ z. inl z) (λ z. inr (inl z))))
 
 -- ---- phases 6 to 11: the record and its replica, the replica with the forwarded word
-module _ {K : ℕ → Type 0} {m : ℕ → ℕ} {s : Store} {f : Free} {u p : ℕ} (h : Sim K m s f) (lo : atPreCopy ≤ s .phase) (hi : s .phase ≤ atStackFlip) (x : Fits K m s u p) where
+module _ {K : ℕ → Type 0} {m : ℕ → ℕ} {s : Store} {f : Free} {u p : ℕ} (h : Sim K m s f) (lo : stAllocate < stage (s .phase)) (hi : stage (s .phase) ≤ stStackFlip) (x : Fits K m s u p) where
   -- the forwarded word may be written to the replica
   pub forwarded-away : (v t : ℕ) → FitsAway s v t u (fwd (s .memory) (otherHalf (s .current)) u)
   forwarded-away v t = record {
@@ -84,7 +85,7 @@ module _ {K : ℕ → Type 0} {m : ℕ → ℕ} {s : Store} {f : Free} {u p : �
       (forwarded-away v (replica (s .memory) v))
 
 -- ---- phase 12: both copies, the contents of the other half are no longer read
-pub reclaim-sim : {K : ℕ → Type 0} {m : ℕ → ℕ} {s : Store} {f : Free} {v i u p : ℕ} → Sim K m s f → s .phase ≡ atReclaim → Fits K m s u p
+pub reclaim-sim : {K : ℕ → Type 0} {m : ℕ → ℕ} {s : Store} {f : Free} {v i u p : ℕ} → Sim K m s f → stage (s .phase) ≡ stReclaim → Fits K m s u p
     → In (s .memory) (s .current) v → i < refs (s .memory) v → replica (s .memory) v ≢ null → (y : ℕ)
     → Sim K m (withMemory s (put (put (s .memory) v (refField i) u) (replica (s .memory) v) (refField i) y)) (withRecord f (m v) (withRef (recordAt f (m v)) i p))
 reclaim-sim {s = s} {v = v} {i = i} {u = u} h e x o l n y =

@@ -9,6 +9,7 @@ use borrow.Author.Tests.{ne-eqb, ltb-true}
 use Rattle.rules.specs.Refusals.{passed}
 use Rattle.rules.specs.Memory.{null, frontier, replica, refs, refField}
 use Rattle.rules.specs.Control.{Store, withMemory, lastLevel}
+use Rattle.rules.specs.Cycle.{stage}
 use Rattle.rules.specs.Phases.{otherHalf}
 use Rattle.rules.specs.Barriers.{heapOf, to, shade, storeWrites, putBoth}
 use Rattle.rules.specs.Calls as calls
@@ -16,9 +17,9 @@ use Rattle.rules.specs.Calls.{isRegister}
 use Rattle.rules.specs.Free.{Free, recordAt, withRecord, freeStore}
 use Rattle.rules.specs.declared.Session.{Session}
 use Rattle.rules.specs.declared.Writes.{Writes}
-use Rattle.rules.proofs.invariant.Turns.{atPreCopy, atPreFlip2, atReclaim, atStackFlip}
 use Rattle.rules.proofs.memory.Cases.{eq-or, lt-or}
 use Rattle.rules.proofs.memory.Records.{Start, start-nonnull}
+use Rattle.rules.proofs.invariant.Stages.{stAllocate, stPreFlip2, stStackFlip, stReclaim, in-stage}
 use Rattle.rules.proofs.invariant.Words.{In, fwd}
 use Rattle.rules.proofs.invariant.Groups.{NoFlip}
 use Rattle.rules.proofs.invariant.Sim.{Sim}
@@ -66,7 +67,7 @@ module _ {K : ℕ → Type 0} {m : ℕ → ℕ} {s : Store} {f : Free} {x : Sess
       }
 
   -- levels 4 to 6 in phases 6 to 11, the record in the current half
-  stored-from : 4 ≤ l → l ≤ lastLevel → atPreCopy ≤ s .phase → s .phase ≤ atStackFlip → In (s .memory) (s .current) v → replica (s .memory) v ≢ null → i < refs (s .memory) v
+  stored-from : 4 ≤ l → l ≤ lastLevel → stAllocate < stage (s .phase) → stage (s .phase) ≤ stStackFlip → In (s .memory) (s .current) v → replica (s .memory) v ≢ null → i < refs (s .memory) v
       → Stored K m s f l v i q p
   unfolding putBoth shade
   stored-from b c lo hi o n r =
@@ -79,7 +80,7 @@ module _ {K : ℕ → Type 0} {m : ℕ → ℕ} {s : Store} {f : Free} {x : Sess
       }
 
   -- the record in the other half
-  stored-to : 5 ≤ l → l ≤ lastLevel → atPreFlip2 ≤ s .phase → s .phase ≤ atStackFlip → In (s .memory) (otherHalf (s .current)) v → i < refs (s .memory) v → Stored K m s f l v i q p
+  stored-to : 5 ≤ l → l ≤ lastLevel → stPreFlip2 ≤ stage (s .phase) → stage (s .phase) ≤ stStackFlip → In (s .memory) (otherHalf (s .current)) v → i < refs (s .memory) v → Stored K m s f l v i q p
   unfolding putBoth shade
   stored-to b c lo hi o r =
       let w = to-words h t (omega arith) hi lo b c o in
@@ -97,7 +98,7 @@ module _ {K : ℕ → Type 0} {m : ℕ → ℕ} {s : Store} {f : Free} {x : Sess
       }
 
   -- level 6 in phase 12: both are in the current half already
-  stored-reclaim : l ≡ 6 → s .phase ≡ atReclaim → In (s .memory) (s .current) v → i < refs (s .memory) v → Stored K m s f l v i q p
+  stored-reclaim : l ≡ 6 → stage (s .phase) ≡ stReclaim → In (s .memory) (s .current) v → i < refs (s .memory) v → Stored K m s f l v i q p
   unfolding putBoth shade
   stored-reclaim b e o r = eq-or (replica (s .memory) v) null
       (λ n. record {
@@ -116,16 +117,16 @@ module _ {K : ℕ → Type 0} {m : ℕ → ℕ} {s : Store} {f : Free} {x : Sess
   store-writes : {z : Session} {k : ℕ} → WordFits K m s z v k → Start (s .memory) v → i < refs (s .memory) v → Stored K m s f l v i q p
   store-writes r o n =
       let top = level-most (s .phase) l (h .range .phases) a in
-      let here : NoFlip (s .phase) → In (s .memory) (s .current) v = λ y. in-half (r .ok) (start-nonnull o) (r .names y) in
+      let here : NoFlip (stage (s .phase)) → In (s .memory) (s .current) v = λ y. in-half (r .ok) (start-nonnull o) (r .names y) in
       lt-or l 4
       (λ b. let z = level-home (h .range .phases) a (omega arith) in stored-low (omega arith) (here z) n)
       (λ b. let lo = level-from 4 (omega arith) (h .range .phases) a b in
-      eq-or (s .phase) 12
+      eq-or (stage (s .phase)) stReclaim
       (λ e. stored-reclaim (level-last (h .range .phases) a b e) e (here (omega arith)) n)
-      (λ e. let hi : s .phase ≤ atStackFlip = omega (arith, h .range .phases) in
+      (λ e. let hi : stage (s .phase) ≤ stStackFlip = omega (arith, in-stage (h .range)) in
       in-or (s .current) (cur-two h) o
       (λ c. stored-from b top lo hi c (has-replica h lo hi c (r .clean (omega arith) hi)) n)
-      (λ c. let late : atPreFlip2 ≤ s .phase = lt-or (s .phase) 9
+      (λ c. let late : stPreFlip2 ≤ stage (s .phase) = lt-or (stage (s .phase)) stPreFlip2
       (λ g. absurd (other-not h (sym (c .side) ∙ here (omega arith) .side))) (λ g. g) in
       stored-to (level-late (h .range .phases) a b late) top late hi c n)))
 

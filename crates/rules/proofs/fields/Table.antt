@@ -1,19 +1,20 @@
 -- Levels 4 to 6 in phases 6 to 11: the word u that the current half's copy of a record gets, and that its replica gets u forwarded.
-use Prim.Native.Nat.{ℕ, _≤_}
+use Prim.Native.Nat.{ℕ, _≤_, _<_}
 use mathlib.Core.Path.{_≡_, sym, ap, _∙_}
 use mathlib.Core.Logic.{_⊎_, inl, inr}
 use native.Mathlib.Omega.{arith}
 use Rattle.rules.specs.Refusals.{passed}
 use Rattle.rules.specs.Memory.{halfOf, replica}
 use Rattle.rules.specs.Control.{Store, lastLevel}
+use Rattle.rules.specs.Cycle.{stage}
 use Rattle.rules.specs.Phases.{otherHalf, fromspace}
 use Rattle.rules.specs.Barriers.{heapOf, to, ownWord, replicaWord}
 use Rattle.rules.specs.Free.{Free}
 use Rattle.rules.specs.declared.Session.{Session}
-use Rattle.rules.proofs.invariant.Turns.{atPreCopy, atPreFlip2, atReclaim, atStackFlip}
 use Rattle.rules.proofs.memory.Cases.{lt-or, either}
 use Rattle.rules.proofs.memory.Encoding.{other-other}
 use Rattle.rules.proofs.memory.Records.{start-nonnull}
+use Rattle.rules.proofs.invariant.Stages.{stAllocate, stPreFlip2, stStackFlip, stReclaim}
 use Rattle.rules.proofs.invariant.Words.{In, Ok, ok-null, ok-start, Names, fwd}
 use Rattle.rules.proofs.invariant.Groups.{Pair}
 use Rattle.rules.proofs.invariant.Sim.{Sim}
@@ -38,7 +39,7 @@ pub record ToWords (K : ℕ → Type 0) (m : ℕ → ℕ) (s : Store) (l v q p :
   pub copy : replicaWord (heapOf s) l v q ≡ passed word
 
 module _ {K : ℕ → Type 0} {m : ℕ → ℕ} {s : Store} {f : Free} {x : Session} {q p : ℕ} (h : Sim K m s f) (t : WordFits K m s x q p)
-    (lo : atPreCopy ≤ s .phase) (hi : s .phase ≤ atStackFlip) where
+    (lo : stAllocate < stage (s .phase)) (hi : stage (s .phase) ≤ stStackFlip) where
   abbrev away : ℕ
   away = otherHalf (s .current)
 
@@ -53,13 +54,13 @@ module _ {K : ℕ → Type 0} {m : ℕ → ℕ} {s : Store} {f : Free} {x : Sess
   pub forwarded-names : Names away forwarded
   forwarded-names = fwd-names h lo hi (t .ok) (t .clean (omega arith) hi)
 
-  -- from phase 9 on the forwarded word
-  pub forwarded-fits : atPreFlip2 ≤ s .phase → Fits K m s forwarded p
+  -- from PreFlip2 on the forwarded word
+  pub forwarded-fits : stPreFlip2 ≤ stage (s .phase) → Fits K m s forwarded p
   forwarded-fits b = record {
     is = t .is ∙ sym (fwd-place h (t .ok));
     held = t .kept;
     ok = fwd-ok h (t .ok);
-    side = λ y. absurd (omega (arith, y .0, y .1, y .2));
+    side = λ y. absurd (omega (arith, y b));
     clean = λ c d n e. absurd (other-not h (sym (forwarded-names n) ∙ e));
   }
 
@@ -126,7 +127,7 @@ module _ {K : ℕ → Type 0} {m : ℕ → ℕ} {s : Store} {f : Free} {x : Sess
       }))
 
   -- in the other one, from phase 9 on
-  pub to-words : {l v : ℕ} → atPreFlip2 ≤ s .phase → 5 ≤ l → l ≤ lastLevel → In (s .memory) away v → ToWords K m s l v q p
+  pub to-words : {l v : ℕ} → stPreFlip2 ≤ stage (s .phase) → 5 ≤ l → l ≤ lastLevel → In (s .memory) away v → ToWords K m s l v q p
   to-words {l} {v} n b c o =
       lt-or l 6
       (λ g. let e : l ≡ 5 = omega arith in
@@ -159,7 +160,7 @@ module _ {K : ℕ → Type 0} {m : ℕ → ℕ} {s : Store} {f : Free} {x : Sess
           (λ r. inl r)
 
 -- ---- phase 12, level 6: q names tospace, the current half, already
-module _ {K : ℕ → Type 0} {m : ℕ → ℕ} {s : Store} {f : Free} {x : Session} {q p : ℕ} (h : Sim K m s f) (t : WordFits K m s x q p) (e : s .phase ≡ atReclaim) where
+module _ {K : ℕ → Type 0} {m : ℕ → ℕ} {s : Store} {f : Free} {x : Session} {q p : ℕ} (h : Sim K m s f) (t : WordFits K m s x q p) (e : stage (s .phase) ≡ stReclaim) where
   there : Names (s .current) q
   there = t .names (omega arith)
 

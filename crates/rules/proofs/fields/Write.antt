@@ -8,11 +8,12 @@ use native.Mathlib.Omega.{arith}
 use lib.ListN.{getD, length, set}
 use Rattle.rules.specs.Memory.{Memory, null, replica, refs, plains, header, refField, plainField}
 use Rattle.rules.specs.Control.{Store}
+use Rattle.rules.specs.Cycle.{stage}
 use Rattle.rules.specs.Phases.{otherHalf}
 use Rattle.rules.specs.Free.{Free, Record}
-use Rattle.rules.proofs.invariant.Turns.{atCopy, atPreMark2, atStackFlip}
 use Rattle.rules.proofs.memory.Cases.{eq-or, either}
 use Rattle.rules.proofs.memory.Records.{Start}
+use Rattle.rules.proofs.invariant.Stages.{stPreMark1, stCopy, stStackFlip}
 use Rattle.rules.proofs.invariant.Words.{In, Ok, Names, Clean, field, plainOf, fwd, recOf}
 use Rattle.rules.proofs.invariant.Groups.{NoFlip}
 use Rattle.rules.proofs.invariant.Sim.{Sim}
@@ -33,7 +34,7 @@ pub record FieldWrite (K : ℕ → Type 0) (m : ℕ → ℕ) (s : Store) (f : Fr
   pub here : In (s .memory) (s .current) v
   pub past : header ≤ j
   pub apart : ¬ In (s .memory) (s .current) t
-  pub paired : s .phase ≤ atStackFlip → In (s .memory) (otherHalf (s .current)) t → replica (s .memory) t ≡ v
+  pub paired : stage (s .phase) ≤ stStackFlip → In (s .memory) (otherHalf (s .current)) t → replica (s .memory) t ≡ v
   -- the collector-free record
   pub refs-number : length (x .refs) ≡ refs (s .memory) v
   pub plains-number : length (x .plains) ≡ plains (s .memory) v
@@ -43,17 +44,17 @@ pub record FieldWrite (K : ℕ → Type 0) (m : ℕ → ℕ) (s : Store) (f : Fr
       → (getD (x .refs) k null ≡ getD (recOf (f .records) (m v) .refs) k null) ⊎ K (getD (x .refs) k null)
   -- the new word, where it is a reference field
   pub ok : (k : ℕ) → refField k ≡ j → k < refs (s .memory) v → Ok (s .memory) (field M′ v k)
-  pub side : NoFlip (s .phase)
+  pub side : NoFlip (stage (s .phase))
       → (k : ℕ) → refField k ≡ j → k < refs (s .memory) v → Names (s .current) (field M′ v k)
-  pub clean : atPreMark2 ≤ s .phase → s .phase ≤ atStackFlip
+  pub clean : stPreMark1 < stage (s .phase) → stage (s .phase) ≤ stStackFlip
       → (k : ℕ) → refField k ≡ j → k < refs (s .memory) v → Clean (s .memory) (s .current) (field M′ v k)
-  pub away : s .phase ≤ atStackFlip → In (s .memory) (otherHalf (s .current)) t
+  pub away : stage (s .phase) ≤ stStackFlip → In (s .memory) (otherHalf (s .current)) t
       → (k : ℕ) → refField k ≡ j → k < refs (s .memory) t → Names (otherHalf (s .current)) (field M′ t k) × Ok (s .memory) (field M′ t k)
   -- the replica's word agrees with it
-  pub refs-agree : atCopy ≤ s .phase → s .phase ≤ atStackFlip → replica (s .memory) v ≢ null
+  pub refs-agree : stCopy ≤ stage (s .phase) → stage (s .phase) ≤ stStackFlip → replica (s .memory) v ≢ null
       → (k : ℕ) → refField k ≡ j → k < refs (s .memory) v
       → field M′ (replica (s .memory) v) k ≡ fwd (s .memory) (otherHalf (s .current)) (field M′ v k)
-  pub plains-agree : atCopy ≤ s .phase → s .phase ≤ atStackFlip → replica (s .memory) v ≢ null
+  pub plains-agree : stCopy ≤ stage (s .phase) → stage (s .phase) ≤ stStackFlip → replica (s .memory) v ≢ null
       → (k : ℕ) → plainField (refs (s .memory) v) k ≡ j → k < plains (s .memory) v
       → plainOf M′ (replica (s .memory) v) k ≡ plainOf M′ v k
 
@@ -140,7 +141,7 @@ module _ {K : ℕ → Type 0} {m : ℕ → ℕ} {s : Store} {f : Free} {M′ : M
   away-plain {a} q k l d = plain-kept (w .frame) (q .start) k l (away-at q (plainField (refs M a) k) d)
 
   -- the replica of another record of the current half isn't t
-  pub other-pair : s .phase ≤ atStackFlip → {a : ℕ} → In M cur a → replica M a ≢ null → a ≢ v → replica M a ≢ t
+  pub other-pair : stage (s .phase) ≤ stStackFlip → {a : ℕ} → In M cur a → replica M a ≢ null → a ≢ v → replica M a ≢ t
   other-pair hi {a} q n d e =
       let o = pair-other (cur-two h) (h .pairs) q n in
       d (sym (h .pairs .pair a q n .back) ∙ rw e (w .paired hi (rw e at o)))

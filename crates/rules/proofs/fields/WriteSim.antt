@@ -7,10 +7,11 @@ use native.Mathlib.Omega.{arith}
 use lib.ListN.{getD, set, length-set}
 use Rattle.rules.specs.Memory.{Memory, null, black, colour, replica, refs, plains, refField, plainField}
 use Rattle.rules.specs.Control.{Store, withMemory}
+use Rattle.rules.specs.Cycle.{stage}
 use Rattle.rules.specs.Phases.{otherHalf}
 use Rattle.rules.specs.Free.{Free, Record, withRecord}
-use Rattle.rules.proofs.invariant.Turns.{atCopy, atStackFlip}
 use Rattle.rules.proofs.memory.Cases.{eq-or, either}
+use Rattle.rules.proofs.invariant.Stages.{stCopy, stStackFlip}
 use Rattle.rules.proofs.invariant.Words.{In, Ok, Names, Clean, field, plainOf, fwd, recOf}
 use Rattle.rules.proofs.invariant.Groups.{Identity, Values, FieldHalves, Copied, Agreement}
 use Rattle.rules.proofs.invariant.Marking.{Cleaned, Kept}
@@ -72,7 +73,7 @@ module _ {K : ℕ → Type 0} {m : ℕ → ℕ} {s : Store} {f : Free} {M′ : M
 
   -- ---- the other half
 
-  write-field-halves : FieldHalves M′ cur (s .phase)
+  write-field-halves : FieldHalves M′ cur (stage (s .phase))
   write-field-halves = record {
     home = λ y. each-ref h w (λ a k u. Names cur u) (h .field-halves .home y) (w .side y);
     away = λ hi. each-away (λ u. Names away-half u) (h .field-halves .away hi) (λ q k e l. w .away hi q k e l .0);
@@ -92,7 +93,7 @@ module _ {K : ℕ → Type 0} {m : ℕ → ℕ} {s : Store} {f : Free} {M′ : M
           (λ n. rw (away-kept h w q k l (inr n)) (old a k q l)))
           (λ n. rw (away-kept h w q k l (inl n)) (old a k q l))
 
-  write-agreement : Agreement M′ cur (s .phase) (s .walk .place) (s .walk .field)
+  write-agreement : Agreement M′ cur (stage (s .phase)) (s .walk .place) (s .walk .field)
   write-agreement = record {
     refs-agree = λ lo hi a k q′ n′ l′ c.
         let q = in-back (w .frame) q′ in
@@ -117,7 +118,7 @@ module _ {K : ℕ → Type 0} {m : ℕ → ℕ} {s : Store} {f : Free} {M′ : M
     plains-agree = λ lo hi a k q′ n′ l′ c′.
         let q = in-back (w .frame) q′ in
         let l : k < plains M a = rw (plains-kept (w .frame) (q .start)) at l′ in
-        let c : Copied (s .phase) (s .walk .place) (s .walk .field) a (refs M a + k) = rw (refs-kept (w .frame) (q .start)) at c′ in
+        let c : Copied (stage (s .phase)) (s .walk .place) (s .walk .field) a (refs M a + k) = rw (refs-kept (w .frame) (q .start)) at c′ in
         let r = changed h w .replicas-same a (q .start) in
         let n : replica M a ≢ null = λ e. n′ (r ∙ e) in
         let o = pair-other (cur-two h) (h .pairs) q n in
@@ -132,19 +133,19 @@ module _ {K : ℕ → Type 0} {m : ℕ → ℕ} {s : Store} {f : Free} {M′ : M
         (λ z. old (inl z));
   }
     where
-      new : atCopy ≤ s .phase → s .phase ≤ atStackFlip → {a k : ℕ} → a ≡ v → replica M a ≢ null → k < refs M a → refField k ≡ j → replica M′ a ≡ replica M a
+      new : stCopy ≤ stage (s .phase) → stage (s .phase) ≤ stStackFlip → {a k : ℕ} → a ≡ v → replica M a ≢ null → k < refs M a → refField k ≡ j → replica M′ a ≡ replica M a
           → field M′ (replica M′ a) k ≡ fwd M′ away-half (field M′ a k)
       new lo hi {a} {k} e n l i r =
           let b : k < refs M v = rw e at l in
           rw (r, e, fwd-kept (w .frame) (changed h w .replicas-same) away-half (w .ok k i b)) (w .refs-agree lo hi (rw e at n) k i b)
 
-      new-plain : atCopy ≤ s .phase → s .phase ≤ atStackFlip → {a k : ℕ} → a ≡ v → replica M a ≢ null → k < plains M a → plainField (refs M a) k ≡ j → replica M′ a ≡ replica M a
+      new-plain : stCopy ≤ stage (s .phase) → stage (s .phase) ≤ stStackFlip → {a k : ℕ} → a ≡ v → replica M a ≢ null → k < plains M a → plainField (refs M a) k ≡ j → replica M′ a ≡ replica M a
           → plainOf M′ (replica M′ a) k ≡ plainOf M′ a k
       new-plain lo hi {a} {k} e n l i r = rw (r, e) (w .plains-agree lo hi (rw e at n) k (rw e at i) (rw e at l))
 
   -- ---- marking
 
-  write-cleaned : Cleaned M′ cur (s .phase) (s .walk .place) (s .walk .field) (s .list .words) (s .list .head) (s .list .tail) (s .sessions) (s .globals)
+  write-cleaned : Cleaned M′ cur (stage (s .phase)) (s .walk .place) (s .walk .field) (s .list .words) (s .list .head) (s .list .tail) (s .sessions) (s .globals)
   write-cleaned =
       let F = w .frame in
       let c = changed h w .colours-same in
@@ -174,7 +175,7 @@ module _ {K : ℕ → Type 0} {m : ℕ → ℕ} {s : Store} {f : Free} {M′ : M
         registers = λ lo hi n k. clean-kept F c (rt .reg-ok n k) (g .registers lo hi n k);
       }
 
-  write-kept : Kept K M′ m cur (s .phase) after (f .sessions) (f .globals)
+  write-kept : Kept K M′ m cur (stage (s .phase)) after (f .sessions) (f .globals)
   write-kept =
       let g = kept-kept (w .frame) (changed h w .colours-same) (h .kept) in
       record {

@@ -8,15 +8,16 @@ use borrow.Author.Tests.{ne-eqb, ltb-true}
 use Rattle.rules.specs.Refusals.{passed}
 use Rattle.rules.specs.Memory.{null, replica, refs, plains, plainField}
 use Rattle.rules.specs.Control.{Store, withMemory}
+use Rattle.rules.specs.Cycle.{stage}
 use Rattle.rules.specs.Phases.{otherHalf}
 use Rattle.rules.specs.Barriers.{replicaFor, putBoth}
 use Rattle.rules.specs.Calls as calls
 use Rattle.rules.specs.Calls.{isRegister}
 use Rattle.rules.specs.Free.{Free, recordAt, withRecord, freeWrite}
 use Rattle.rules.specs.declared.Session.{Session}
-use Rattle.rules.proofs.invariant.Turns.{atCopy, atStackFlip}
 use Rattle.rules.proofs.memory.Cases.{eq-or, lt-or, either}
 use Rattle.rules.proofs.memory.Records.{Start, start-nonnull, plain-inside}
+use Rattle.rules.proofs.invariant.Stages.{stCopy, stStackFlip, stReclaim}
 use Rattle.rules.proofs.invariant.Words.{In}
 use Rattle.rules.proofs.invariant.Groups.{NoFlip}
 use Rattle.rules.proofs.invariant.Sim.{Sim}
@@ -45,7 +46,7 @@ pub record Rewritten (K : ℕ → Type 0) (m : ℕ → ℕ) (s : Store) (f : Fre
 
 module _ {K : ℕ → Type 0} {m : ℕ → ℕ} {s : Store} {f : Free} {l v i : ℕ} (h : Sim K m s f) (a : ℕ) (r : i < plains (s .memory) v) where
   -- the record alone
-  alone : In (s .memory) (s .current) v → (atCopy ≤ s .phase → s .phase ≤ atStackFlip → replica (s .memory) v ≢ null → ⊥)
+  alone : In (s .memory) (s .current) v → (stCopy ≤ stage (s .phase) → stage (s .phase) ≤ stStackFlip → replica (s .memory) v ≢ null → ⊥)
       → replicaFor (s .memory) plains l v i ≡ passed null → Rewritten K m s f l v i a
   unfolding putBoth
   alone o none e = record {
@@ -68,7 +69,7 @@ module _ {K : ℕ → Type 0} {m : ℕ → ℕ} {s : Store} {f : Free} {l v i : 
       }
 
   -- the record is the replica of one of the current half
-  to : 4 ≤ l → s .phase ≤ atStackFlip → In (s .memory) (otherHalf (s .current)) v → Rewritten K m s f l v i a
+  to : 4 ≤ l → stage (s .phase) ≤ stStackFlip → In (s .memory) (otherHalf (s .current)) v → Rewritten K m s f l v i a
   unfolding putBoth
   to b hi o =
       let home = h .pairs .home hi v o in
@@ -87,7 +88,7 @@ module _ {K : ℕ → Type 0} {m : ℕ → ℕ} {s : Store} {f : Free} {l v i : 
   -- every level; v is the record in a register
   plain-writes : {x : Session} {k : ℕ} → Allowed (s .phase) l → WordFits K m s x v k → Start (s .memory) v → Rewritten K m s f l v i a
   plain-writes c t o =
-      let here : NoFlip (s .phase) → In (s .memory) (s .current) v = λ y. in-half (t .ok) (start-nonnull o) (t .names y) in
+      let here : NoFlip (stage (s .phase)) → In (s .memory) (s .current) v = λ y. in-half (t .ok) (start-nonnull o) (t .names y) in
       lt-or l 4
       (λ b. let low = replica-low (s .memory) plains l v i (omega arith) in
       let z = level-home (h .range .phases) c (omega arith) in
@@ -96,7 +97,7 @@ module _ {K : ℕ → Type 0} {m : ℕ → ℕ} {s : Store} {f : Free} {l v i : 
       (λ q. eq-or (replica (s .memory) v) null
       (λ n. alone q (λ lo hi z. z n) (replica-none (s .memory) plains l v i b n))
       (λ n. from b q n))
-      (λ q. to b (lt-or (s .phase) 12 (λ g. omega arith)
+      (λ q. to b (lt-or (stage (s .phase)) stReclaim (λ g. omega arith)
       (λ g. absurd (other-not h (sym (q .side) ∙ here (omega arith) .side)))) q))
 
 -- ---- the call

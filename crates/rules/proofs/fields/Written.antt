@@ -5,12 +5,13 @@ use mathlib.Core.Logic.{_≢_, inl, inr}
 use native.Mathlib.Omega.{arith}
 use Rattle.rules.specs.Memory.{Memory, null, word, put, replica, size, header}
 use Rattle.rules.specs.Control.{Store}
+use Rattle.rules.specs.Cycle.{stage}
 use Rattle.rules.specs.Phases.{otherHalf}
 use Rattle.rules.specs.Free.{Free}
-use Rattle.rules.proofs.invariant.Turns.{atCopy, atStackFlip}
 use Rattle.rules.proofs.memory.Cases.{either}
 use Rattle.rules.proofs.memory.Records.{Start, Filled}
 use Rattle.rules.proofs.memory.Put.{put-field}
+use Rattle.rules.proofs.invariant.Stages.{stCopy, stStackFlip}
 use Rattle.rules.proofs.invariant.Words.{In}
 use Rattle.rules.proofs.invariant.Groups.{Pair}
 use Rattle.rules.proofs.invariant.Sim.{Sim}
@@ -56,15 +57,15 @@ pub record Written (s : Store) (M′ : Memory) (v t j u y : ℕ) : Type 0 where
   pub here : In (s .memory) (s .current) v
   pub past : header ≤ j
   pub apart : ¬ In (s .memory) (s .current) t
-  pub paired : s .phase ≤ atStackFlip → In (s .memory) (otherHalf (s .current)) t → replica (s .memory) t ≡ v
+  pub paired : stage (s .phase) ≤ stStackFlip → In (s .memory) (otherHalf (s .current)) t → replica (s .memory) t ≡ v
   pub new : word M′ v j ≡ u
-  pub away : s .phase ≤ atStackFlip → In (s .memory) (otherHalf (s .current)) t → word M′ t j ≡ y
-  pub copy : atCopy ≤ s .phase → s .phase ≤ atStackFlip → replica (s .memory) v ≢ null → word M′ (replica (s .memory) v) j ≡ y
+  pub away : stage (s .phase) ≤ stStackFlip → In (s .memory) (otherHalf (s .current)) t → word M′ t j ≡ y
+  pub copy : stCopy ≤ stage (s .phase) → stage (s .phase) ≤ stStackFlip → replica (s .memory) v ≢ null → word M′ (replica (s .memory) v) j ≡ y
 
 module _ {K : ℕ → Type 0} {m : ℕ → ℕ} {s : Store} {f : Free} (h : Sim K m s f) {v : ℕ} (q : In (s .memory) (s .current) v) (j : ℕ)
     (p : header ≤ j) (l : j < size (s .memory) v) where
   -- v alone: where it has no replica, or no field need agree
-  pub written-alone : (u y : ℕ) → (atCopy ≤ s .phase → s .phase ≤ atStackFlip → replica (s .memory) v ≢ null → ⊥) → Written s (put (s .memory) v j u) v null j u y
+  pub written-alone : (u y : ℕ) → (stCopy ≤ stage (s .phase) → stage (s .phase) ≤ stStackFlip → replica (s .memory) v ≢ null → ⊥) → Written s (put (s .memory) v j u) v null j u y
   written-alone u y none =
       let k = put-field (h .filled) (q .start) j u p l in
       record {

@@ -5,9 +5,9 @@ use mathlib.Core.List.{List}
 use native.Mathlib.Omega.{arith}
 use Rattle.rules.specs.Memory.{Memory, null, wordOf, replica, frontier}
 use Rattle.rules.specs.Free.{Record, FreeSession}
-use Rattle.rules.proofs.invariant.Turns.{atReclaim}
 use Rattle.rules.proofs.memory.Walk.{walk-start}
 use Rattle.rules.proofs.memory.Total.{total-equal}
+use Rattle.rules.proofs.invariant.Stages.{stReclaim}
 use Rattle.rules.proofs.invariant.Words.{In, marks}
 use Rattle.rules.proofs.invariant.Marking.{Colours, GreyList, Walking, Kept}
 use Rattle.rules.proofs.invariant.Carried.{kept-carried}
@@ -18,7 +18,7 @@ use Rattle.rules.proofs.frames.Kept.{ColoursSame, ReplicasSame, in-to, 
 
 module _ {M M′ : Memory} {Q : ℕ → ℕ → Type 0} (F : Frame M M′ Q) where
   -- colours and replica words
-  pub colours-group-kept : {cur ph place : ℕ} → ColoursSame M M′ → ReplicasSame M M′ → Colours M cur ph place → Colours M′ cur ph place
+  pub colours-group-kept : {cur st place : ℕ} → ColoursSame M M′ → ReplicasSame M M′ → Colours M cur st place → Colours M′ cur st place
   colours-group-kept {cur} c r g = record {
     at-rest = λ e v t. c v (F .back (t .start)) ∙ g .at-rest e v (in-back F t);
     at-reclaim = λ e v t. c v (F .back (t .start)) ∙ g .at-reclaim e v (in-back F t);
@@ -34,8 +34,8 @@ module _ {M M′ : Memory} {Q : ℕ → ℕ → Type 0} (F : Frame M M′ Q) whe
   }
 
   -- colours
-  pub grey-list-kept : {cur ph : ℕ} {ws : List ℕ} {head tail : ℕ} → cur < 2 → head ≤ tail → ColoursSame M M′
-      → GreyList M cur ph ws head tail → GreyList M′ cur ph ws head tail
+  pub grey-list-kept : {cur st : ℕ} {ws : List ℕ} {head tail : ℕ} → cur < 2 → head ≤ tail → ColoursSame M M′
+      → GreyList M cur st ws head tail → GreyList M′ cur st ws head tail
   grey-list-kept {cur} two le c g = record {
     listed = λ lo hi i l. in-to F (g .listed lo hi i l);
     finished = λ lo hi i l. c _ (g .listed lo hi i (omega arith) .start) ∙ g .finished lo hi i l;
@@ -46,10 +46,10 @@ module _ {M M′ : Memory} {Q : ℕ → ℕ → Type 0} (F : Frame M M′ Q) whe
   }
 
   -- the replica words of the current half in Reclaim
-  pub walking-kept : {cur ph place wf head tail : ℕ} → cur < 2
-      → (ph ≡ atReclaim → (v : ℕ) → In M cur v → wordOf v < place → replica M v ≡ null → replica M′ v ≡ null)
-      → Walking M cur ph place wf head tail → Walking M′ cur ph place wf head tail
-  walking-kept {cur} {ph} {place} two r g = record {
+  pub walking-kept : {cur st place wf head tail : ℕ} → cur < 2
+      → (st ≡ stReclaim → (v : ℕ) → In M cur v → wordOf v < place → replica M v ≡ null → replica M′ v ≡ null)
+      → Walking M cur st place wf head tail → Walking M′ cur st place wf head tail
+  walking-kept {cur} {st} {place} two r g = record {
     at-5 = λ e. F .walks two (g .at-5 e);
     at-7 = λ e. F .walks two (g .at-7 e);
     at-12 = λ e. F .walks two (g .at-12 e);
@@ -63,8 +63,8 @@ module _ {M M′ : Memory} {Q : ℕ → ℕ → Type 0} (F : Frame M M′ Q) whe
   }
 
   -- colours
-  pub kept-kept : {K : ℕ → Type 0} {m : ℕ → ℕ} {cur ph : ℕ} {rs : List Record} {ys : List FreeSession} {fgs : List ℕ}
-      → ColoursSame M M′ → Kept K M m cur ph rs ys fgs → Kept K M′ m cur ph rs ys fgs
+  pub kept-kept : {K : ℕ → Type 0} {m : ℕ → ℕ} {cur st : ℕ} {rs : List Record} {ys : List FreeSession} {fgs : List ℕ}
+      → ColoursSame M M′ → Kept K M m cur st rs ys fgs → Kept K M′ m cur st rs ys fgs
   kept-kept c g = kept-carried
       (λ lo hi v t n. g .marked lo hi v (in-back F t) (λ z. n (c v (F .back (t .start)) ∙ z)))
       (λ e v t. g .left-12 e v (in-back F t)) (λ e v t. g .left-0 e v (in-back F t)) g

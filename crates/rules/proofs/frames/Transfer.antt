@@ -7,8 +7,8 @@ use Rattle.rules.specs.Memory.{Memory, null, refs, plains, replica}
 use Rattle.rules.specs.Phases.{otherHalf}
 use Rattle.rules.specs.Free.{Record, FreeSession}
 use Rattle.rules.specs.declared.Session.{Session}
-use Rattle.rules.proofs.invariant.Turns.{atStackFlip}
 use Rattle.rules.proofs.memory.Total.{total-equal}
+use Rattle.rules.proofs.invariant.Stages.{stStackFlip}
 use Rattle.rules.proofs.invariant.Words.{In, copied}
 use Rattle.rules.proofs.invariant.Groups.{Identity, Values, Roots, FieldHalves, Pair, Pairs, Copied, Agreement}
 use Rattle.rules.proofs.invariant.Pairs.{pair-other}
@@ -35,7 +35,7 @@ module _ {M M′ : Memory} {Q : ℕ → ℕ → Type 0} (F : Frame M M′ Q) whe
   roots-kept g = roots-carried (λ n k. ok-to F (g .reg-ok n k)) (λ k. ok-to F (g .global-ok k)) (λ u o. refl) g
 
   -- reference fields, those of the other half up to StackFlip
-  pub field-halves-kept : {cur ph : ℕ} → RefsSame M M′ cur → (ph ≤ atStackFlip → RefsSame M M′ (otherHalf cur)) → FieldHalves M cur ph → FieldHalves M′ cur ph
+  pub field-halves-kept : {cur st : ℕ} → RefsSame M M′ cur → (st ≤ stStackFlip → RefsSame M M′ (otherHalf cur)) → FieldHalves M cur st → FieldHalves M′ cur st
   field-halves-kept same away g = record {
     home = λ a v i t l. let q = in-back F t in let z : i < refs M v = rw (refs-kept F (q .start)) at l in
         rw (same v i q z) (g .home a v i q z);
@@ -54,7 +54,7 @@ module _ {M M′ : Memory} {Q : ℕ → ℕ → Type 0} (F : Frame M M′ Q) whe
     same = p .same;
   }
 
-  pub pairs-kept : {m : ℕ → ℕ} {cur ph : ℕ} → cur < 2 → ReplicasSame M M′ → Pairs M m cur ph → Pairs M′ m cur ph
+  pub pairs-kept : {m : ℕ → ℕ} {cur st : ℕ} → cur < 2 → ReplicasSame M M′ → Pairs M m cur st → Pairs M′ m cur st
   pairs-kept {m} {cur} two r g = record {
     pair = λ v t n. let a = in-back F t in let e = r v (a .start) in
         rw e (pair-kept r (g .pair v a (λ z. n (e ∙ z))));
@@ -66,11 +66,11 @@ module _ {M M′ : Memory} {Q : ℕ → ℕ → Type 0} (F : Frame M M′ Q) whe
   }
 
   -- replica words, and fields in both halves
-  pub agreement-kept : {m : ℕ → ℕ} {rs : List Record} {cur ph place wf : ℕ} → cur < 2 → Values M m cur rs → Pairs M m cur ph → ReplicasSame M M′
+  pub agreement-kept : {m : ℕ → ℕ} {rs : List Record} {cur st place wf : ℕ} → cur < 2 → Values M m cur rs → Pairs M m cur st → ReplicasSame M M′
       → RefsSame M M′ cur → RefsSame M M′ (otherHalf cur) → PlainsSame M M′ cur → PlainsSame M M′ (otherHalf cur)
       → ((v : ℕ) → In M cur v → replica M v ≢ null → (refs M (replica M v) ≡ refs M v) × (plains M (replica M v) ≡ plains M v))
-      → Agreement M cur ph place wf → Agreement M′ cur ph place wf
-  agreement-kept {m} {rs} {cur} {ph} {place} {wf} two vs ps r here there plain plain-there shape g = record {
+      → Agreement M cur st place wf → Agreement M′ cur st place wf
+  agreement-kept {m} {rs} {cur} {st} {place} {wf} two vs ps r here there plain plain-there shape g = record {
     refs-agree = λ lo hi v i t n l c.
         let a = in-back F t in
         let e = r v (a .start) in
@@ -85,6 +85,6 @@ module _ {M M′ : Memory} {Q : ℕ → ℕ → Type 0} (F : Frame M M′ Q) whe
         let z : i < plains M v = rw (plains-kept F (a .start)) at l in
         let x : replica M v ≢ null = λ y. n (e ∙ y) in
         let o = pair-other two ps a x in
-        let d : Copied ph place wf v (refs M v + i) = rw (refs-kept F (a .start)) at c in
+        let d : Copied st place wf v (refs M v + i) = rw (refs-kept F (a .start)) at c in
         rw (e, plain-there (replica M v) i o (rw (shape v a x .1) z), plain v i a z) (g .plains-agree lo hi v i a x z d);
   }

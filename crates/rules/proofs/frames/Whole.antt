@@ -4,6 +4,7 @@ use mathlib.Core.Path.{_≡_, _∙_}
 use native.Mathlib.Omega.{arith}
 use Rattle.rules.specs.Memory.{Memory, header, colourAt, replicaAt}
 use Rattle.rules.specs.Control.{Store, withMemory}
+use Rattle.rules.specs.Cycle.{stage}
 use Rattle.rules.specs.Phases.{otherHalf}
 use Rattle.rules.specs.Free.{Free}
 use Rattle.rules.proofs.Ranges.{InRange}
@@ -26,10 +27,10 @@ pub record ColourChanged (m : ℕ → ℕ) (s : Store) (M′ : Memory) (f : Free
   pub identity : Identity M′ m (f .records)
   pub values : Values M′ m (s .current) (f .records)
   pub roots : Roots M′ m (s .sessions) (f .sessions) (s .globals) (f .globals)
-  pub field-halves : FieldHalves M′ (s .current) (s .phase)
-  pub pairs : Pairs M′ m (s .current) (s .phase)
-  pub agreement : Agreement M′ (s .current) (s .phase) (s .walk .place) (s .walk .field)
-  pub walking : Walking M′ (s .current) (s .phase) (s .walk .place) (s .walk .field) (s .list .head) (s .list .tail)
+  pub field-halves : FieldHalves M′ (s .current) (stage (s .phase))
+  pub pairs : Pairs M′ m (s .current) (stage (s .phase))
+  pub agreement : Agreement M′ (s .current) (stage (s .phase)) (s .walk .place) (s .walk .field)
+  pub walking : Walking M′ (s .current) (stage (s .phase)) (s .walk .place) (s .walk .field) (s .list .head) (s .list .tail)
 
 pub colour-changed : {K : ℕ → Type 0} {m : ℕ → ℕ} {s : Store} {f : Free} {M′ : Memory} {Q : ℕ → ℕ → Type 0} → Sim K m s f → Frame (s .memory) M′ Q
     → ((v j : ℕ) → Q v j → j ≡ colourAt) → ColourChanged m s M′ f
@@ -57,9 +58,9 @@ pub record ReplicaChanged (K : ℕ → Type 0) (m : ℕ → ℕ) (s : Store) (M�
   pub identity : Identity M′ m (f .records)
   pub values : Values M′ m (s .current) (f .records)
   pub roots : Roots M′ m (s .sessions) (f .sessions) (s .globals) (f .globals)
-  pub field-halves : FieldHalves M′ (s .current) (s .phase)
-  pub grey-list : GreyList M′ (s .current) (s .phase) (s .list .words) (s .list .head) (s .list .tail)
-  pub kept : Kept K M′ m (s .current) (s .phase) (f .records) (f .sessions) (f .globals)
+  pub field-halves : FieldHalves M′ (s .current) (stage (s .phase))
+  pub grey-list : GreyList M′ (s .current) (stage (s .phase)) (s .list .words) (s .list .head) (s .list .tail)
+  pub kept : Kept K M′ m (s .current) (stage (s .phase)) (f .records) (f .sessions) (f .globals)
   pub colours-same : ColoursSame (s .memory) M′
   pub refs-same : (h : ℕ) → RefsSame (s .memory) M′ h
   pub plains-same : (h : ℕ) → PlainsSame (s .memory) M′ h
@@ -90,10 +91,10 @@ pub record FieldChanged (m : ℕ → ℕ) (s : Store) (M′ : Memory) (f : Free)
   pub filled : Filled M′
   pub identity : Identity M′ m (f .records)
   pub roots : Roots M′ m (s .sessions) (f .sessions) (s .globals) (f .globals)
-  pub pairs : Pairs M′ m (s .current) (s .phase)
-  pub colours : Colours M′ (s .current) (s .phase) (s .walk .place)
-  pub grey-list : GreyList M′ (s .current) (s .phase) (s .list .words) (s .list .head) (s .list .tail)
-  pub walking : Walking M′ (s .current) (s .phase) (s .walk .place) (s .walk .field) (s .list .head) (s .list .tail)
+  pub pairs : Pairs M′ m (s .current) (stage (s .phase))
+  pub colours : Colours M′ (s .current) (stage (s .phase)) (s .walk .place)
+  pub grey-list : GreyList M′ (s .current) (stage (s .phase)) (s .list .words) (s .list .head) (s .list .tail)
+  pub walking : Walking M′ (s .current) (stage (s .phase)) (s .walk .place) (s .walk .field) (s .list .head) (s .list .tail)
   pub colours-same : ColoursSame (s .memory) M′
   pub replicas-same : ReplicasSame (s .memory) M′
 

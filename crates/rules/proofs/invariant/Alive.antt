@@ -6,8 +6,9 @@ use native.Mathlib.Omega.{arith}
 use lib.ListN.{getD}
 use Rattle.rules.specs.Memory.{null, white, colour, refs}
 use Rattle.rules.specs.Control.{Store}
+use Rattle.rules.specs.Cycle.{stage}
 use Rattle.rules.specs.Free.{Free}
-use Rattle.rules.proofs.invariant.Turns.{atPreMark1, atStackFlip}
+use Rattle.rules.proofs.invariant.Stages.{stRest, stStackFlip}
 use Rattle.rules.proofs.invariant.Words.{In, Ok, ok-null, ok-start, field, reg}
 use Rattle.rules.proofs.invariant.Sim.{Sim}
 
@@ -30,7 +31,7 @@ module _ {K : ℕ → Type 0} {m : ℕ → ℕ} {s : Store} {f : Free} (h : Sim 
   global-alive g d = alive (h .roots .global-ok g) d (h .roots .global-is g) (h .kept .globals g)
 
   -- a field of a marked record
-  pub field-alive : atPreMark1 ≤ s .phase → s .phase ≤ atStackFlip → {v : ℕ} → In (s .memory) (s .current) v → colour (s .memory) v ≢ white
+  pub field-alive : stRest < stage (s .phase) → stage (s .phase) ≤ stStackFlip → {v : ℕ} → In (s .memory) (s .current) v → colour (s .memory) v ≢ white
       → (i : ℕ) → i < refs (s .memory) v → field (s .memory) v i ≢ null → K (m (field (s .memory) v i))
   field-alive lo hi {v} t c i l d =
       alive (h .values .ok v i t l) d (h .values .ref v i t l) (h .kept .fields (m v) i (h .kept .marked lo hi v t c))

@@ -7,8 +7,8 @@ use lib.ListN.{getD}
 use Rattle.rules.specs.Memory.{Memory, null, white, refs, plains, colour, replica, copyOf}
 use Rattle.rules.specs.Free.{Record, FreeSession}
 use Rattle.rules.specs.declared.Session.{Session}
-use Rattle.rules.proofs.invariant.Turns.{atPreMark1}
 use Rattle.rules.proofs.memory.Records.{Start}
+use Rattle.rules.proofs.invariant.Stages.{stRest, stStackFlip, stReclaim}
 use Rattle.rules.proofs.invariant.Words.{In, Ok, ok-null, ok-start, Clean, field, plainOf, fwd, reg}
 use Rattle.rules.proofs.invariant.Groups.{Identity, Values, Roots}
 use Rattle.rules.proofs.invariant.Marking.{Kept}
@@ -80,9 +80,9 @@ roots-carried r g same k = record {
 }
 
 -- what is kept alive, where only what marking has met or a collection has left is asked anew
-pub kept-carried : {K : ℕ → Type 0} {M M′ : Memory} {m m′ : ℕ → ℕ} {cur cur′ ph ph′ : ℕ} {rs : List Record} {ys : List FreeSession} {fgs : List ℕ}
-    → (atPreMark1 ≤ ph′ → ph′ ≤ 11 → (v : ℕ) → In M′ cur′ v → colour M′ v ≢ white → K (m′ v)) → (ph′ ≡ 12 → (v : ℕ) → In M′ cur′ v → K (m′ v))
-    → (ph′ ≡ 0 → (v : ℕ) → In M′ cur′ v → K (m′ v)) → Kept K M m cur ph rs ys fgs → Kept K M′ m′ cur′ ph′ rs ys fgs
+pub kept-carried : {K : ℕ → Type 0} {M M′ : Memory} {m m′ : ℕ → ℕ} {cur cur′ st st′ : ℕ} {rs : List Record} {ys : List FreeSession} {fgs : List ℕ}
+    → (stRest < st′ → st′ ≤ stStackFlip → (v : ℕ) → In M′ cur′ v → colour M′ v ≢ white → K (m′ v)) → (st′ ≡ stReclaim → (v : ℕ) → In M′ cur′ v → K (m′ v))
+    → (st′ ≡ stRest → (v : ℕ) → In M′ cur′ v → K (m′ v)) → Kept K M m cur st rs ys fgs → Kept K M′ m′ cur′ st′ rs ys fgs
 kept-carried a b c k = record {
   to-come = k .to-come;
   registers = k .registers;

@@ -1,5 +1,5 @@
 -- The groups of the invariant that speak of values: records and their places, fields, roots, halves, pairs and their agreement.
--- M is the memory, m the tracked place of each reference, cur the current half, ph the phase.
+-- M is the memory, m the tracked place of each reference, cur the current half, st the stage of the phase.
 use Prim.Native.Nat.{ℕ, _+_, _≤_, _<_}
 use mathlib.Core.Path.{_≡_}
 use mathlib.Core.Logic.{_≢_, _⊎_}
@@ -11,9 +11,9 @@ use Rattle.rules.specs.Control.{globalCount, sessionCount, registerCount
 use Rattle.rules.specs.Phases.{otherHalf, levelOf, absent}
 use Rattle.rules.specs.Free.{Record, FreeSession, freeAbsent}
 use Rattle.rules.specs.declared.Session.{Session}
-use Rattle.rules.proofs.invariant.Turns.{atCopy, atHeapMark, atPreFlip1, atPreFlip2, atRootFlip, atStackFlip}
 use Rattle.rules.proofs.memory.Records.{Start}
 use Rattle.rules.proofs.memory.Total.{total}
+use Rattle.rules.proofs.invariant.Stages.{stAllocate, stCopy, stPreFlip2, stRootFlip, stStackFlip}
 use Rattle.rules.proofs.invariant.Words.{In, Ok, Names, field, plainOf, fwd, copied, reg, freg, recOf}
 
 -- ---- identity: every record of either half stands for one of the collector-free records; two of one half for different ones
@@ -54,23 +54,23 @@ pub record Levels (ph : ℕ) (xs : List Session) : Type 0 where
   pub allowed : (n : ℕ) → getD xs n absent .attached ≡ true
       → (getD xs n absent .level ≡ levelOf ph) ⊎ (getD xs n absent .level ≡ levelBefore ph)
 
--- ---- which half a word may name: the current one but in phases 9 to 11; what is in tospace names tospace
+-- ---- which half a word may name: the current one but from PreFlip2 to StackFlip; what is in tospace names tospace
 abbrev pub NoFlip : ℕ → Type 0
-NoFlip ph = (ph ≢ atPreFlip2) × (ph ≢ atRootFlip) × (ph ≢ atStackFlip)
+NoFlip st = stPreFlip2 ≤ st → stStackFlip < st
 
-pub record RootHalves (cur ph place : ℕ) (xs : List Session) (gs : List ℕ) : Type 0 where
-  pub regs : NoFlip ph → (n k : ℕ) → Names cur (reg xs n k)
-  pub globals : NoFlip ph → (g : ℕ) → Names cur (getD gs g null)
-  -- RootFlip and StackFlip: what has been forwarded names the other half
-  pub flipping : ph ≡ atRootFlip → (g : ℕ) → g < place → Names (otherHalf cur) (getD gs g null)
-  pub flipped : ph ≡ atStackFlip → (g : ℕ) → Names (otherHalf cur) (getD gs g null)
-  pub marked : ph ≡ atStackFlip → (n k : ℕ) → getD xs n absent .attached ≡ true → getD xs n absent .scanned ≡ true
+pub record RootHalves (cur st place : ℕ) (xs : List Session) (gs : List ℕ) : Type 0 where
+  pub regs : NoFlip st → (n k : ℕ) → Names cur (reg xs n k)
+  pub globals : NoFlip st → (g : ℕ) → Names cur (getD gs g null)
+  -- what RootFlip and StackFlip have forwarded names the other half
+  pub flipping : st ≡ stRootFlip → (g : ℕ) → g < place → Names (otherHalf cur) (getD gs g null)
+  pub flipped : stRootFlip < st → st ≤ stStackFlip → (g : ℕ) → Names (otherHalf cur) (getD gs g null)
+  pub marked : st ≡ stStackFlip → (n k : ℕ) → getD xs n absent .attached ≡ true → getD xs n absent .scanned ≡ true
       → Names (otherHalf cur) (reg xs n k)
 
-pub record FieldHalves (M : Memory) (cur ph : ℕ) : Type 0 where
-  pub home : NoFlip ph → (v i : ℕ) → In M cur v → i < refs M v → Names cur (field M v i)
-  pub away : ph ≤ atStackFlip → (v i : ℕ) → In M (otherHalf cur) v → i < refs M v → Names (otherHalf cur) (field M v i)
-  pub away-ok : ph ≤ atStackFlip → (v i : ℕ) → In M (otherHalf cur) v → i < refs M v → Ok M (field M v i)
+pub record FieldHalves (M : Memory) (cur st : ℕ) : Type 0 where
+  pub home : NoFlip st → (v i : ℕ) → In M cur v → i < refs M v → Names cur (field M v i)
+  pub away : st ≤ stStackFlip → (v i : ℕ) → In M (otherHalf cur) v → i < refs M v → Names (otherHalf cur) (field M v i)
+  pub away-ok : st ≤ stStackFlip → (v i : ℕ) → In M (otherHalf cur) v → i < refs M v → Ok M (field M v i)
 
 -- ---- pairs: w is the replica of v
 pub record Pair (M : Memory) (m : ℕ → ℕ) (v w : ℕ) : Type 0 where
@@ -79,23 +79,23 @@ pub record Pair (M : Memory) (m : ℕ → ℕ) (v w : ℕ) : Type 0 where
   pub back : replica M w ≡ v
   pub same : m w ≡ m v
 
-pub record Pairs (M : Memory) (m : ℕ → ℕ) (cur ph : ℕ) : Type 0 where
+pub record Pairs (M : Memory) (m : ℕ → ℕ) (cur st : ℕ) : Type 0 where
   pub pair : (v : ℕ) → In M cur v → replica M v ≢ null → Pair M m v (replica M v)
   -- up to StackFlip every record of the other half is the replica of one of the current half
-  pub home : ph ≤ atStackFlip → (v : ℕ) → In M (otherHalf cur) v → (replica M v ≢ null) × Pair M m v (replica M v)
-  -- up to HeapMark the other half is empty
-  pub empty : ph ≤ atHeapMark → frontier M (otherHalf cur) ≡ 0
+  pub home : st ≤ stStackFlip → (v : ℕ) → In M (otherHalf cur) v → (replica M v ≢ null) × Pair M m v (replica M v)
+  -- before Allocate the other half is empty
+  pub empty : st < stAllocate → frontier M (otherHalf cur) ≡ 0
   -- the other half holds as many words as the current half's records with a replica: a shell finds room
-  pub spent : ph ≤ atStackFlip → frontier M (otherHalf cur) ≡ total M cur (copied M)
+  pub spent : st ≤ stStackFlip → frontier M (otherHalf cur) ≡ total M cur (copied M)
 
 -- ---- agreement: field number j of v has been copied to its replica
-pub data Copied (ph place wf v j : ℕ) : Type 0 where
-  over : atPreFlip1 ≤ ph → Copied ph place wf v j
-  earlier : wordOf v < place → Copied ph place wf v j
-  here : wordOf v ≡ place → j < wf → Copied ph place wf v j
+pub data Copied (st place wf v j : ℕ) : Type 0 where
+  over : stCopy < st → Copied st place wf v j
+  earlier : wordOf v < place → Copied st place wf v j
+  here : wordOf v ≡ place → j < wf → Copied st place wf v j
 
-pub record Agreement (M : Memory) (cur ph place wf : ℕ) : Type 0 where
-  pub refs-agree : atCopy ≤ ph → ph ≤ atStackFlip → (v i : ℕ) → In M cur v → replica M v ≢ null → i < refs M v → Copied ph place wf v i
+pub record Agreement (M : Memory) (cur st place wf : ℕ) : Type 0 where
+  pub refs-agree : stCopy ≤ st → st ≤ stStackFlip → (v i : ℕ) → In M cur v → replica M v ≢ null → i < refs M v → Copied st place wf v i
       → field M (replica M v) i ≡ fwd M (otherHalf cur) (field M v i)
-  pub plains-agree : atCopy ≤ ph → ph ≤ atStackFlip → (v i : ℕ) → In M cur v → replica M v ≢ null → i < plains M v → Copied ph place wf v (refs M v + i)
+  pub plains-agree : stCopy ≤ st → st ≤ stStackFlip → (v i : ℕ) → In M cur v → replica M v ≢ null → i < plains M v → Copied st place wf v (refs M v + i)
       → plainOf M (replica M v) i ≡ plainOf M v i

@@ -7,13 +7,13 @@ use native.Mathlib.Omega.{arith}
 use lib.ListN.{getD}
 use Rattle.rules.specs.Memory.{Memory, null, wordOf, white, colour, replica}
 use Rattle.rules.specs.declared.Session.{Session}
-use Rattle.rules.proofs.invariant.Turns.{atAllocate, atCopy, atHeapMark, atPreMark1, atPreMark2, atReclaim, atStackFlip}
 use Rattle.rules.proofs.memory.Walk.{Walk}
+use Rattle.rules.proofs.invariant.Stages.{stRest, stPreMark1, stHeapMark, stAllocate, stCopy, stStackFlip, stReclaim}
 use Rattle.rules.proofs.invariant.Words.{In, Names, reg}
 use Rattle.rules.proofs.invariant.Groups.{RootHalves, Agreement, NoFlip}
 use Rattle.rules.proofs.invariant.Marking.{Colours, GreyList, Cleaned, Walking}
 
-pub list-idle : {M : Memory} {cur ph : ℕ} {ws : List ℕ} {head tail : ℕ} → ¬ ((atPreMark1 ≤ ph) × (ph ≤ atHeapMark)) → GreyList M cur ph ws head tail
+pub list-idle : {M : Memory} {cur st : ℕ} {ws : List ℕ} {head tail : ℕ} → ¬ ((stRest < st) × (st ≤ stHeapMark)) → GreyList M cur st ws head tail
 list-idle n = record {
   listed = λ a b. absurd (n (a, b));
   finished = λ a b. absurd (n (a, b));
@@ -23,8 +23,8 @@ list-idle n = record {
   room = λ a b. absurd (n (a, b));
 }
 
-pub cleaned-idle : {M : Memory} {cur ph place wf : ℕ} {ws : List ℕ} {head tail : ℕ} {xs : List Session} {gs : List ℕ}
-    → ¬ ((atPreMark2 ≤ ph) × (ph ≤ atStackFlip)) → Cleaned M cur ph place wf ws head tail xs gs
+pub cleaned-idle : {M : Memory} {cur st place wf : ℕ} {ws : List ℕ} {head tail : ℕ} {xs : List Session} {gs : List ℕ}
+    → ¬ ((stPreMark1 < st) × (st ≤ stStackFlip)) → Cleaned M cur st place wf ws head tail xs gs
 cleaned-idle n = record {
   fields = λ a b. absurd (n (a, b));
   scanning = λ a. absurd (n (omega arith, omega arith));
@@ -37,7 +37,7 @@ cleaned-idle n = record {
 }
 
 -- the phases without a walk over records or the list
-pub walking-idle : {M : Memory} {cur ph place wf head tail : ℕ} → ph ≢ atHeapMark → ph ≢ atAllocate → ph ≢ atCopy → ph ≢ atReclaim → Walking M cur ph place wf head tail
+pub walking-idle : {M : Memory} {cur st place wf head tail : ℕ} → st ≢ stHeapMark → st ≢ stAllocate → st ≢ stCopy → st ≢ stReclaim → Walking M cur st place wf head tail
 walking-idle a b c d = record {
   at-5 = λ o. absurd (b o);
   at-7 = λ o. absurd (c o);
@@ -49,7 +49,7 @@ walking-idle a b c d = record {
 }
 
 -- up to HeapMark only that its field is 0 where the list is done
-pub walking-early : {M : Memory} {cur ph place wf head tail : ℕ} → ph ≤ atHeapMark → (ph ≡ atHeapMark → head ≡ tail → wf ≡ 0) → Walking M cur ph place wf head tail
+pub walking-early : {M : Memory} {cur st place wf head tail : ℕ} → st ≤ stHeapMark → (st ≡ stHeapMark → head ≡ tail → wf ≡ 0) → Walking M cur st place wf head tail
 walking-early l d = record {
   at-5 = λ e. absurd (omega arith);
   at-7 = λ e. absurd (omega arith);
@@ -61,8 +61,8 @@ walking-early l d = record {
 }
 
 -- in Reclaim the walk over the records, those passed cleared
-pub walking-reclaim : {M : Memory} {cur ph place wf head tail : ℕ} → ph ≡ atReclaim → Walk M cur place
-    → ((v : ℕ) → In M cur v → wordOf v < place → replica M v ≡ null) → Walking M cur ph place wf head tail
+pub walking-reclaim : {M : Memory} {cur st place wf head tail : ℕ} → st ≡ stReclaim → Walk M cur place
+    → ((v : ℕ) → In M cur v → wordOf v < place → replica M v ≡ null) → Walking M cur st place wf head tail
 walking-reclaim e w c = record {
   at-5 = λ a. absurd (omega arith);
   at-7 = λ a. absurd (omega arith);
@@ -74,20 +74,20 @@ walking-reclaim e w c = record {
 }
 
 -- where no field need agree
-pub agreement-early : {M : Memory} {cur ph place wf : ℕ} → ph < atCopy → Agreement M cur ph place wf
+pub agreement-early : {M : Memory} {cur st place wf : ℕ} → st < stCopy → Agreement M cur st place wf
 agreement-early l = record {
   refs-agree = λ lo hi v i t n b c. absurd (omega arith);
   plains-agree = λ lo hi v i t n b c. absurd (omega arith);
 }
 
-pub agreement-late : {M : Memory} {cur ph place wf : ℕ} → atStackFlip < ph → Agreement M cur ph place wf
+pub agreement-late : {M : Memory} {cur st place wf : ℕ} → stStackFlip < st → Agreement M cur st place wf
 agreement-late l = record {
   refs-agree = λ lo hi v i t n b c. absurd (omega arith);
   plains-agree = λ lo hi v i t n b c. absurd (omega arith);
 }
 
 -- Reclaim asks that all is white
-pub colours-reclaim : {M : Memory} {cur ph place : ℕ} → ph ≡ atReclaim → ((v : ℕ) → In M cur v → colour M v ≡ white) → Colours M cur ph place
+pub colours-reclaim : {M : Memory} {cur st place : ℕ} → st ≡ stReclaim → ((v : ℕ) → In M cur v → colour M v ≡ white) → Colours M cur st place
 colours-reclaim e w = record {
   at-rest = λ a. absurd (omega arith);
   at-reclaim = λ a. w;
@@ -100,12 +100,12 @@ colours-reclaim e w = record {
 }
 
 -- outside the flips every root names the current half
-pub roots-home : {cur ph place : ℕ} {xs : List Session} {gs : List ℕ} → NoFlip ph
-    → ((n k : ℕ) → Names cur (reg xs n k)) → ((g : ℕ) → Names cur (getD gs g null)) → RootHalves cur ph place xs gs
+pub roots-home : {cur st place : ℕ} {xs : List Session} {gs : List ℕ} → NoFlip st
+    → ((n k : ℕ) → Names cur (reg xs n k)) → ((g : ℕ) → Names cur (getD gs g null)) → RootHalves cur st place xs gs
 roots-home a r g = record {
   regs = λ o. r;
   globals = λ o. g;
-  flipping = λ o. absurd (a .1 o);
-  flipped = λ o. absurd (a .2 o);
-  marked = λ o. absurd (a .2 o);
+  flipping = λ o. absurd (omega (arith, a (omega arith)));
+  flipped = λ lo hi. absurd (omega (arith, a (omega arith)));
+  marked = λ o. absurd (omega (arith, a (omega arith)));
 }

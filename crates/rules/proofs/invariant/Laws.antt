@@ -9,12 +9,13 @@ use borrow.Author.Tests.{eq-eqb, ne-eqb, le-leb}
 use Rattle.rules.specs.Refusals.{passed}
 use Rattle.rules.specs.Memory.{Memory, null, halfOf, inHalf, white, black, colour, replica, followed, copyOf, otherCopy, forward}
 use Rattle.rules.specs.Control.{Store}
+use Rattle.rules.specs.Cycle.{stage, atReclaim}
 use Rattle.rules.specs.Phases.{otherHalf, fromspace, tospace}
 use Rattle.rules.specs.Free.{Free}
-use Rattle.rules.proofs.invariant.Turns.{atAllocate, atPreCopy, atReclaim, atStackFlip}
 use Rattle.rules.proofs.memory.Cases.{eq-or}
 use Rattle.rules.proofs.memory.Encoding.{half-below-2, other-below-2, other-differs, other-other, only-other}
 use Rattle.rules.proofs.memory.Records.{Start, Filled, start-sound, start-nonnull, start-from-2}
+use Rattle.rules.proofs.invariant.Stages.{stHeapMark, stAllocate, stStackFlip, stReclaim, stage-is, phase-is}
 use Rattle.rules.proofs.invariant.Words.{In, Ok, ok-null, ok-start, Names, Clean, fwd}
 use Rattle.rules.proofs.invariant.Sim.{Sim}
 use Rattle.rules.proofs.invariant.Pairs.{pair-other}
@@ -100,11 +101,11 @@ module _ {K : ℕ → Type 0} {m : ℕ → ℕ} {s : Store} {f : Free} (h : Sim 
   other-not = other-differs (s .current) cur-two
 
   -- what is marked after HeapMark is black
-  pub marked-black : atAllocate ≤ s .phase → s .phase ≤ atStackFlip → {v : ℕ} → In (s .memory) (s .current) v → colour (s .memory) v ≢ white → colour (s .memory) v ≡ black
+  pub marked-black : stHeapMark < stage (s .phase) → stage (s .phase) ≤ stStackFlip → {v : ℕ} → In (s .memory) (s .current) v → colour (s .memory) v ≢ white → colour (s .memory) v ≡ black
   marked-black lo hi {v} t n = omega (arith, h .filled .colours (t .start), h .colours .none-grey lo hi v t)
 
   -- a clean reference to the current half has a replica after Allocate
-  pub has-replica : atPreCopy ≤ s .phase → s .phase ≤ atStackFlip → {v : ℕ} → In (s .memory) (s .current) v → Clean (s .memory) (s .current) v → replica (s .memory) v ≢ null
+  pub has-replica : stAllocate < stage (s .phase) → stage (s .phase) ≤ stStackFlip → {v : ℕ} → In (s .memory) (s .current) v → Clean (s .memory) (s .current) v → replica (s .memory) v ≢ null
   has-replica lo hi {v} t c = h .colours .shelled lo hi v t (c (in-nonnull t) (t .side))
 
   -- forwarding keeps the place and gives a record
@@ -127,7 +128,7 @@ module _ {K : ℕ → Type 0} {m : ℕ → ℕ} {s : Store} {f : Free} (h : Sim 
   replica-other q n = pair-other cur-two (h .pairs) q n
 
   -- after Allocate forwarding a clean reference gives one to the other half
-  pub fwd-names : atPreCopy ≤ s .phase → s .phase ≤ atStackFlip → {v : ℕ} → Ok (s .memory) v → Clean (s .memory) (s .current) v → Names other (fwd (s .memory) other v)
+  pub fwd-names : stAllocate < stage (s .phase) → stage (s .phase) ≤ stStackFlip → {v : ℕ} → Ok (s .memory) v → Clean (s .memory) (s .current) v → Names other (fwd (s .memory) other v)
   fwd-names lo hi {v} (ok-null e) c = rw (e, fwd-null (s .memory) other) (λ n. absurd (n refl))
   fwd-names lo hi {v} (ok-start t) c = in-or (s .current) cur-two t
       (λ q. let n = has-replica lo hi q c in
@@ -135,21 +136,21 @@ module _ {K : ℕ → Type 0} {m : ℕ → ℕ} {s : Store} {f : Free} (h : Sim 
       (λ q. rw (fwd-there q) (λ z. q .side))
 
   -- ---- fromspace and tospace
-  pub from-current : s .phase ≢ atReclaim → fromspace s ≡ s .current
+  pub from-current : stage (s .phase) ≢ stReclaim → fromspace s ≡ s .current
   unfolding fromspace
-  from-current n = rw (ne-eqb (s .phase) 12 n)
+  from-current n = rw (ne-eqb (s .phase) atReclaim (λ e. n (stage-is e)))
 
-  pub to-other : s .phase ≢ atReclaim → tospace s ≡ other
+  pub to-other : stage (s .phase) ≢ stReclaim → tospace s ≡ other
   unfolding tospace
   to-other n = rw (from-current n)
 
-  pub from-other : s .phase ≡ atReclaim → fromspace s ≡ other
+  pub from-other : stage (s .phase) ≡ stReclaim → fromspace s ≡ other
   unfolding fromspace
-  from-other e = rw (eq-eqb (s .phase) 12 e)
+  from-other e = rw (eq-eqb (s .phase) atReclaim (phase-is atReclaim (h .range .phases) (omega arith) e))
 
-  pub to-current : s .phase ≡ atReclaim → tospace s ≡ s .current
+  pub to-current : stage (s .phase) ≡ stReclaim → tospace s ≡ s .current
   unfolding tospace
   to-current e = rw (from-other e) (other-other (s .current) cur-two)
 
   pub from-two : fromspace s < 2
-  from-two = eq-or (s .phase) 12 (λ e. rw (from-other e) (other-below-2 (s .current))) (λ n. rw (from-current n) cur-two)
+  from-two = eq-or (stage (s .phase)) stReclaim (λ e. rw (from-other e) (other-below-2 (s .current))) (λ n. rw (from-current n) cur-two)

@@ -9,68 +9,68 @@ use Rattle.rules.specs.Memory.{Memory, null, wordOf, white, grey, black,
 use Rattle.rules.specs.Phases.{otherHalf, absent}
 use Rattle.rules.specs.Free.{Record, FreeSession}
 use Rattle.rules.specs.declared.Session.{Session}
-use Rattle.rules.proofs.invariant.Turns.{atAllocate, atCopy, atHeapMark, atPreCopy, atPreMark1, atPreMark2, atReclaim, atRest, atRootMark, atStackFlip}
 use Rattle.rules.proofs.memory.Walk.{Walk}
 use Rattle.rules.proofs.memory.Total.{total}
+use Rattle.rules.proofs.invariant.Stages.{stRest, stPreMark1, stRootMark, stHeapMark, stAllocate, stCopy, stStackFlip, stReclaim}
 use Rattle.rules.proofs.invariant.Words.{In, Clean, field, marks, reg, freg, recOf}
 
 -- ---- colours of the current half (cur) and of the other; place is the walk place
-pub record Colours (M : Memory) (cur ph place : ℕ) : Type 0 where
-  pub at-rest : ph ≡ atRest → (v : ℕ) → In M cur v → colour M v ≡ white
-  pub at-reclaim : ph ≡ atReclaim → (v : ℕ) → In M cur v → colour M v ≡ white
-  pub none-black : ph ≡ atPreMark1 → (v : ℕ) → In M cur v → colour M v ≢ black
-  pub none-grey : atAllocate ≤ ph → ph ≤ atStackFlip → (v : ℕ) → In M cur v → colour M v ≢ grey
-  pub replicas-white : ph ≤ atStackFlip → (v : ℕ) → In M (otherHalf cur) v → colour M v ≡ white
-  pub paired-marked : ph ≤ atStackFlip → (v : ℕ) → In M cur v → replica M v ≢ null → colour M v ≢ white
+pub record Colours (M : Memory) (cur st place : ℕ) : Type 0 where
+  pub at-rest : st ≡ stRest → (v : ℕ) → In M cur v → colour M v ≡ white
+  pub at-reclaim : st ≡ stReclaim → (v : ℕ) → In M cur v → colour M v ≡ white
+  pub none-black : st ≡ stPreMark1 → (v : ℕ) → In M cur v → colour M v ≢ black
+  pub none-grey : stHeapMark < st → st ≤ stStackFlip → (v : ℕ) → In M cur v → colour M v ≢ grey
+  pub replicas-white : st ≤ stStackFlip → (v : ℕ) → In M (otherHalf cur) v → colour M v ≡ white
+  pub paired-marked : st ≤ stStackFlip → (v : ℕ) → In M cur v → replica M v ≢ null → colour M v ≢ white
   -- Allocate has given a replica to what is marked
-  pub shelled-below : ph ≡ atAllocate → (v : ℕ) → In M cur v → wordOf v < place → colour M v ≢ white → replica M v ≢ null
-  pub shelled : atPreCopy ≤ ph → ph ≤ atStackFlip → (v : ℕ) → In M cur v → colour M v ≢ white → replica M v ≢ null
+  pub shelled-below : st ≡ stAllocate → (v : ℕ) → In M cur v → wordOf v < place → colour M v ≢ white → replica M v ≢ null
+  pub shelled : stAllocate < st → st ≤ stStackFlip → (v : ℕ) → In M cur v → colour M v ≢ white → replica M v ≢ null
 
 -- ---- the grey list: words ws, place head, end tail
-pub record GreyList (M : Memory) (cur ph : ℕ) (ws : List ℕ) (head tail : ℕ) : Type 0 where
-  pub listed : atPreMark1 ≤ ph → ph ≤ atHeapMark → (i : ℕ) → i < tail → In M cur (getD ws i null)
-  pub finished : atPreMark1 ≤ ph → ph ≤ atHeapMark → (i : ℕ) → i < head → colour M (getD ws i null) ≡ black
-  pub unfinished : atPreMark1 ≤ ph → ph ≤ atHeapMark → (i : ℕ) → head ≤ i → i < tail → colour M (getD ws i null) ≡ grey
-  pub found : atPreMark1 ≤ ph → ph ≤ atHeapMark → (v : ℕ) → In M cur v → colour M v ≡ grey
+pub record GreyList (M : Memory) (cur st : ℕ) (ws : List ℕ) (head tail : ℕ) : Type 0 where
+  pub listed : stRest < st → st ≤ stHeapMark → (i : ℕ) → i < tail → In M cur (getD ws i null)
+  pub finished : stRest < st → st ≤ stHeapMark → (i : ℕ) → i < head → colour M (getD ws i null) ≡ black
+  pub unfinished : stRest < st → st ≤ stHeapMark → (i : ℕ) → head ≤ i → i < tail → colour M (getD ws i null) ≡ grey
+  pub found : stRest < st → st ≤ stHeapMark → (v : ℕ) → In M cur v → colour M v ≡ grey
       → (i : ℕ) × (head ≤ i) × (i < tail) × (getD ws i null ≡ v)
-  pub once : atPreMark1 ≤ ph → ph ≤ atHeapMark → (i j : ℕ) → i < tail → j < tail → getD ws i null ≡ getD ws j null → i ≡ j
+  pub once : stRest < st → st ≤ stHeapMark → (i j : ℕ) → i < tail → j < tail → getD ws i null ≡ getD ws j null → i ≡ j
   -- a white record leaves room for its entry
-  pub room : atPreMark1 ≤ ph → ph ≤ atHeapMark → tail ≤ total M cur (marks M)
+  pub room : stRest < st → st ≤ stHeapMark → tail ≤ total M cur (marks M)
 
 -- ---- what names no white record of the current half
-pub record Cleaned (M : Memory) (cur ph place wf : ℕ) (ws : List ℕ) (head tail : ℕ) (xs : List Session) (gs : List ℕ) : Type 0 where
+pub record Cleaned (M : Memory) (cur st place wf : ℕ) (ws : List ℕ) (head tail : ℕ) (xs : List Session) (gs : List ℕ) : Type 0 where
   -- the fields of black records
-  pub fields : atPreMark2 ≤ ph → ph ≤ atStackFlip → (v i : ℕ) → In M cur v → colour M v ≡ black → i < refs M v → Clean M cur (field M v i)
+  pub fields : stPreMark1 < st → st ≤ stStackFlip → (v i : ℕ) → In M cur v → colour M v ≡ black → i < refs M v → Clean M cur (field M v i)
   -- the fields that HeapMark has passed in the oldest unfinished entry
-  pub scanning : ph ≡ atHeapMark → head < tail → (i : ℕ) → i < wf → Clean M cur (field M (getD ws head null) i)
-  pub scanned-within : ph ≡ atHeapMark → head < tail → wf ≤ refs M (getD ws head null)
+  pub scanning : st ≡ stHeapMark → head < tail → (i : ℕ) → i < wf → Clean M cur (field M (getD ws head null) i)
+  pub scanned-within : st ≡ stHeapMark → head < tail → wf ≤ refs M (getD ws head null)
   -- the globals that RootMark has passed; after it all
-  pub globals-below : ph ≡ atRootMark → (g : ℕ) → g < place → Clean M cur (getD gs g null)
-  pub globals : atHeapMark ≤ ph → ph ≤ atStackFlip → (g : ℕ) → Clean M cur (getD gs g null)
+  pub globals-below : st ≡ stRootMark → (g : ℕ) → g < place → Clean M cur (getD gs g null)
+  pub globals : stRootMark < st → st ≤ stStackFlip → (g : ℕ) → Clean M cur (getD gs g null)
   -- the registers of a scanned session, which is scanned only while the list is done; after HeapMark all
-  pub scanned-done : ph ≡ atHeapMark → (n : ℕ) → getD xs n absent .attached ≡ true → getD xs n absent .scanned ≡ true → head ≡ tail
-  pub scanned : ph ≡ atHeapMark → (n k : ℕ) → getD xs n absent .attached ≡ true → getD xs n absent .scanned ≡ true → Clean M cur (reg xs n k)
-  pub registers : atAllocate ≤ ph → ph ≤ atStackFlip → (n k : ℕ) → Clean M cur (reg xs n k)
+  pub scanned-done : st ≡ stHeapMark → (n : ℕ) → getD xs n absent .attached ≡ true → getD xs n absent .scanned ≡ true → head ≡ tail
+  pub scanned : st ≡ stHeapMark → (n k : ℕ) → getD xs n absent .attached ≡ true → getD xs n absent .scanned ≡ true → Clean M cur (reg xs n k)
+  pub registers : stHeapMark < st → st ≤ stStackFlip → (n k : ℕ) → Clean M cur (reg xs n k)
 
 -- ---- the walk
-pub record Walking (M : Memory) (cur ph place wf head tail : ℕ) : Type 0 where
-  pub at-5 : ph ≡ atAllocate → Walk M cur place
-  pub at-7 : ph ≡ atCopy → Walk M cur place
-  pub at-12 : ph ≡ atReclaim → Walk M cur place
-  pub field-4 : ph ≡ atHeapMark → head ≡ tail → wf ≡ 0
-  pub field-7 : ph ≡ atCopy → place < frontier M cur → wf ≤ refs M (reference cur place) + plains M (reference cur place)
-  pub field-7-end : ph ≡ atCopy → frontier M cur ≤ place → wf ≡ 0
+pub record Walking (M : Memory) (cur st place wf head tail : ℕ) : Type 0 where
+  pub at-5 : st ≡ stAllocate → Walk M cur place
+  pub at-7 : st ≡ stCopy → Walk M cur place
+  pub at-12 : st ≡ stReclaim → Walk M cur place
+  pub field-4 : st ≡ stHeapMark → head ≡ tail → wf ≡ 0
+  pub field-7 : st ≡ stCopy → place < frontier M cur → wf ≤ refs M (reference cur place) + plains M (reference cur place)
+  pub field-7-end : st ≡ stCopy → frontier M cur ≤ place → wf ≡ 0
   -- Reclaim has cleared the replica words below the walk
-  pub cleared : ph ≡ atReclaim → (v : ℕ) → In M cur v → wordOf v < place → replica M v ≡ null
+  pub cleared : st ≡ stReclaim → (v : ℕ) → In M cur v → wordOf v < place → replica M v ≡ null
 
 -- ---- what is kept alive: K is a set of places that roots and fields do not leave, with every place to come in it
-pub record Kept (K : ℕ → Type 0) (M : Memory) (m : ℕ → ℕ) (cur ph : ℕ) (rs : List Record) (ys : List FreeSession) (fgs : List ℕ) : Type 0 where
+pub record Kept (K : ℕ → Type 0) (M : Memory) (m : ℕ → ℕ) (cur st : ℕ) (rs : List Record) (ys : List FreeSession) (fgs : List ℕ) : Type 0 where
   pub to-come : (q : ℕ) → length rs < q → K q
   pub registers : (n k : ℕ) → freg ys n k ≢ null → K (freg ys n k)
   pub globals : (g : ℕ) → getD fgs g null ≢ null → K (getD fgs g null)
   pub fields : (q i : ℕ) → K q → getD (recOf rs q .refs) i null ≢ null → K (getD (recOf rs q .refs) i null)
   -- what marking has met
-  pub marked : atPreMark1 ≤ ph → ph ≤ atStackFlip → (v : ℕ) → In M cur v → colour M v ≢ white → K (m v)
+  pub marked : stRest < st → st ≤ stStackFlip → (v : ℕ) → In M cur v → colour M v ≢ white → K (m v)
   -- what a collection has left
-  pub left-12 : ph ≡ atReclaim → (v : ℕ) → In M cur v → K (m v)
-  pub left-0 : ph ≡ atRest → (v : ℕ) → In M cur v → K (m v)
+  pub left-12 : st ≡ stReclaim → (v : ℕ) → In M cur v → K (m v)
+  pub left-0 : st ≡ stRest → (v : ℕ) → In M cur v → K (m v)

@@ -7,10 +7,11 @@ use native.Mathlib.Omega.{arith}
 use lib.ListN.{getD}
 use Rattle.rules.specs.Memory.{null, replica, refs, plains}
 use Rattle.rules.specs.Control.{Store}
+use Rattle.rules.specs.Cycle.{stage}
 use Rattle.rules.specs.Phases.{otherHalf}
 use Rattle.rules.specs.Free.{Free}
-use Rattle.rules.proofs.invariant.Turns.{atPreFlip1, atStackFlip}
 use Rattle.rules.proofs.memory.Encoding.{other-below-2, other-other}
+use Rattle.rules.proofs.invariant.Stages.{stCopy, stStackFlip}
 use Rattle.rules.proofs.invariant.Words.{In, field, plainOf, fwd, recOf}
 use Rattle.rules.proofs.invariant.Groups.{Pair, over}
 use Rattle.rules.proofs.invariant.Sim.{Sim}
@@ -22,7 +23,7 @@ pub pair-here : {K : ℕ → Type 0} {m : ℕ → ℕ} {s : Store} {f : Free} {v
     → Pair (s .memory) m v w → In (s .memory) (s .current) w
 pair-here {s = s} h t p = rw (other-other (s .current) (cur-two h)) at (pair-side (other-below-2 (s .current)) t p)
 
-module _ {K : ℕ → Type 0} {m : ℕ → ℕ} {s : Store} {f : Free} (h : Sim K m s f) (hi : s .phase ≤ atStackFlip) {v : ℕ} (t : In (s .memory) (otherHalf (s .current)) v) where
+module _ {K : ℕ → Type 0} {m : ℕ → ℕ} {s : Store} {f : Free} (h : Sim K m s f) (hi : stage (s .phase) ≤ stStackFlip) {v : ℕ} (t : In (s .memory) (otherHalf (s .current)) v) where
   pub original : Pair (s .memory) m v (replica (s .memory) v)
   original = h .pairs .home hi v t .1
 
@@ -34,7 +35,7 @@ module _ {K : ℕ → Type 0} {m : ℕ → ℕ} {s : Store} {f : Free} (h : Sim 
   original-paired z = in-nonnull t (sym (original .back) ∙ z)
 
   -- ---- fields, by the agreement of all pairs
-  module _ (lo : atPreFlip1 ≤ s .phase) where
+  module _ (lo : stCopy < stage (s .phase)) where
     pub original-ref : (i : ℕ) → i < refs (s .memory) v → getD (recOf (f .records) (m v) .refs) i null ≡ m (field (s .memory) v i)
     original-ref i l =
         let q = original-in in

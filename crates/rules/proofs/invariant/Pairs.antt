@@ -20,7 +20,7 @@ pair-side {h = h} {w = w} two t p = record {
   side = only-other h (halfOf w) two (half-below-2 w) (λ e. p .across (e ∙ sym (t .side)));
 }
 
-pub pair-other : {M : Memory} {m : ℕ → ℕ} {cur ph v : ℕ} → cur < 2 → Pairs M m cur ph → In M cur v → replica M v ≢ null
+pub pair-other : {M : Memory} {m : ℕ → ℕ} {cur st v : ℕ} → cur < 2 → Pairs M m cur st → In M cur v → replica M v ≢ null
     → In M (otherHalf cur) (replica M v)
 pair-other {v = v} two p t n = pair-side two t (p .pair v t n)
 

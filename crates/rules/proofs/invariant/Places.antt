@@ -2,6 +2,7 @@
 use Prim.Native.Nat.{ℕ}
 use mathlib.Core.Path.{_≡_, refl, sym, _∙_}
 use Rattle.rules.specs.Memory.{Memory, null}
+use Rattle.rules.specs.Cycle.{stage}
 use Rattle.rules.specs.Control.{Store}
 use Rattle.rules.specs.Free.{Free}
 use Rattle.rules.proofs.memory.Records.{Start}
@@ -43,7 +44,7 @@ module _ {K : ℕ → Type 0} {m n : ℕ → ℕ} {s : Store} {f : Free} (h : Si
     same = at-start (p .start) ∙ p .same ∙ sym (at-start t);
   }
 
-  placed-pairs : Pairs M n (s .current) (s .phase)
+  placed-pairs : Pairs M n (s .current) (stage (s .phase))
   placed-pairs = record {
     pair = λ v t d. placed-pair (t .start) (h .pairs .pair v t d);
     home = λ a v t. let x = h .pairs .home a v t in (x .0, placed-pair (t .start) (x .1));
@@ -51,7 +52,7 @@ module _ {K : ℕ → Type 0} {m n : ℕ → ℕ} {s : Store} {f : Free} (h : Si
     spent = h .pairs .spent;
   }
 
-  placed-kept : Kept K M n (s .current) (s .phase) (f .records) (f .sessions) (f .globals)
+  placed-kept : Kept K M n (s .current) (stage (s .phase)) (f .records) (f .sessions) (f .globals)
   placed-kept = kept-carried
       (λ a b v t d. rw (at-start (t .start)) (h .kept .marked a b v t d))
       (λ a v t. rw (at-start (t .start)) (h .kept .left-12 a v t))

@@ -9,13 +9,13 @@ use lib.ListN.{length, getD}
 use borrow.Author.Tests.{ne-eqb}
 use Rattle.rules.specs.Memory.{Memory, half, frontier}
 use Rattle.rules.specs.Control.{Store, Walk, Grey, withMemory, withWalk, withList, withGlobals, withSessions, withCurrent, walkLimit, lastLevel, mostFields}
-use Rattle.rules.specs.Phases.{nextPhase, sessionAt, absent, moveOn}
+use Rattle.rules.specs.Phases.{sessionAt, absent, moveOn}
+use Rattle.rules.specs.Cycle.{nextPhase, stage, lastPhase, phaseCount, atRootMark, atRootFlip}
 use Rattle.rules.specs.declared.Session.{Session}
-use Rattle.rules.proofs.invariant.Turns.{atReclaim, atRootFlip, atRootMark}
 use Rattle.rules.proofs.Ranges.{InRange}
 use Rattle.rules.proofs.memory.Cases.{chosen-below}
 use Rattle.rules.proofs.memory.Records.{Filled}
-use Rattle.rules.proofs.invariant.Spans.{at-each}
+use Rattle.rules.proofs.invariant.Stages.{stRootMark, stRootFlip, at-each, stage-is}
 use Rattle.rules.proofs.invariant.Unmarked.{unmarked-level}
 
 -- ---- limits
@@ -32,21 +32,21 @@ half-length k zero l = sym (k .lent0)
 half-length k (suc zero) l = omega (arith, k .lent1, k .equal)
 half-length k (suc (suc h)) l = absurd (omega arith)
 
--- but in phases 3 and 10 the walk place goes up to the half length
-pub limit-length : (ph n : ℕ) → ph ≢ atRootMark → ph ≢ atRootFlip → walkLimit ph n ≡ n
+-- but in RootMark and RootFlip the walk place goes up to the half length
+pub limit-length : (ph n : ℕ) → stage ph ≢ stRootMark → stage ph ≢ stRootFlip → walkLimit ph n ≡ n
 unfolding walkLimit
-limit-length ph n a b = rw (ne-eqb ph 3 a, ne-eqb ph 10 b)
+limit-length ph n a b = rw (ne-eqb ph atRootMark (λ e. a (stage-is e)), ne-eqb ph atRootFlip (λ e. b (stage-is e)))
 
-next-most : (ph : ℕ) → ph ≤ atReclaim → nextPhase ph ≤ atReclaim
+next-most : (ph : ℕ) → ph ≤ lastPhase → nextPhase ph ≤ lastPhase
 unfolding nextPhase
-next-most ph l = leb→le _ _ (at-each 13 (λ i. leb (nextPhase i) 12) tt ph (omega arith))
+next-most ph l = leb→le _ _ (at-each phaseCount (λ i. leb (nextPhase i) lastPhase) tt ph (omega arith))
 
 -- ---- changes
 
 -- what is asked of the numbers, the list's words and the sessions
 record Numbers (s : Store) (cur ph : ℕ) (w : Walk) (l : Grey) (xs : List Session) : Type 0 where
   half : cur ≤ 1
-  phases : ph ≤ atReclaim
+  phases : ph ≤ lastPhase
   places : w .place ≤ walkLimit ph (s .lengths .half0)
   fields : w .field ≤ mostFields
   same : length (l .words) ≡ length (s .list .words)

@@ -58,10 +58,10 @@ roots-unmarked {M} {m} {xs} r = record {
   global-is = r .global-is;
 }
 
-pub levels-unmarked : {ph : ℕ} {xs : List Session} → Levels ph xs → Levels ph (unmarked xs)
+pub levels-unmarked : {st : ℕ} {xs : List Session} → Levels st xs → Levels st (unmarked xs)
 levels-unmarked {xs = xs} r = record { allowed = λ n e. rw (unmarked-at xs n) (r .allowed n (rw (unmarked-at xs n) at e)) }
 
-pub root-halves-unmarked : {cur ph place : ℕ} {xs : List Session} {gs : List ℕ} → RootHalves cur ph place xs gs → RootHalves cur ph place (unmarked xs) gs
+pub root-halves-unmarked : {cur st place : ℕ} {xs : List Session} {gs : List ℕ} → RootHalves cur st place xs gs → RootHalves cur st place (unmarked xs) gs
 root-halves-unmarked {xs = xs} r = record {
   regs = λ a n k. rw (unmarked-at xs n) (r .regs a n k);
   globals = r .globals;

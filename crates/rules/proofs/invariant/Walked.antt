@@ -6,12 +6,13 @@ use native.Mathlib.Omega.{arith}
 use lib.ListN.{getD}
 use Rattle.rules.specs.Memory.{null, white, wordOf, frontier, colour, replica, refs, size}
 use Rattle.rules.specs.Control.{Store, withWalk, walkLimit, mostFields}
+use Rattle.rules.specs.Cycle.{stage}
 use Rattle.rules.specs.Phases.{otherHalf}
 use Rattle.rules.specs.Collector.{walked}
 use Rattle.rules.specs.Free.{Free}
-use Rattle.rules.proofs.invariant.Turns.{atAllocate, atHeapMark, atRootFlip, atRootMark}
 use Rattle.rules.proofs.memory.Encoding.{half-reference}
 use Rattle.rules.proofs.memory.Walk.{Walk, walk-start, walk-next, walk-within}
+use Rattle.rules.proofs.invariant.Stages.{stRootMark, stHeapMark, stAllocate, stRootFlip}
 use Rattle.rules.proofs.invariant.Words.{In, Names, Clean, field}
 use Rattle.rules.proofs.invariant.Groups.{Agreement}
 use Rattle.rules.proofs.invariant.Marking.{Walking}
@@ -33,7 +34,7 @@ module _ {K : ℕ → Type 0} {m : ℕ → ℕ} {s : Store} {f : Free} (h : Sim 
   unfolding walked
   walked-next = walk-next (cur-two h) w (h .filled) l
 
-  pub walked-limit : s .phase ≢ atRootMark → s .phase ≢ atRootFlip → s .walk .place + size (s .memory) (walked s) ≤ walkLimit (s .phase) (s .lengths .half0)
+  pub walked-limit : stage (s .phase) ≢ stRootMark → stage (s .phase) ≢ stRootFlip → s .walk .place + size (s .memory) (walked s) ≤ walkLimit (s .phase) (s .lengths .half0)
   walked-limit a b = rw (limit-length (s .phase) (s .lengths .half0) a b) (omega (arith, walk-within walked-next, frontier-range (h .range) (s .current)))
 
 -- ---- the walk at place k and field i: what each phase asks of it
@@ -41,17 +42,17 @@ pub record WalkFits (s : Store) (k i : ℕ) : Type 0 where
   pub places : k ≤ walkLimit (s .phase) (s .lengths .half0)
   pub fields : i ≤ mostFields
   -- RootMark, HeapMark
-  pub globals-below : s .phase ≡ atRootMark → (g : ℕ) → g < k → Clean (s .memory) (s .current) (getD (s .globals) g null)
-  pub scanning : s .phase ≡ atHeapMark → s .list .head < s .list .tail → (j : ℕ) → j < i
+  pub globals-below : stage (s .phase) ≡ stRootMark → (g : ℕ) → g < k → Clean (s .memory) (s .current) (getD (s .globals) g null)
+  pub scanning : stage (s .phase) ≡ stHeapMark → s .list .head < s .list .tail → (j : ℕ) → j < i
       → Clean (s .memory) (s .current) (field (s .memory) (getD (s .list .words) (s .list .head) null) j)
-  pub scanned-within : s .phase ≡ atHeapMark → s .list .head < s .list .tail → i ≤ refs (s .memory) (getD (s .list .words) (s .list .head) null)
+  pub scanned-within : stage (s .phase) ≡ stHeapMark → s .list .head < s .list .tail → i ≤ refs (s .memory) (getD (s .list .words) (s .list .head) null)
   -- Allocate
-  pub shelled-below : s .phase ≡ atAllocate → (v : ℕ) → In (s .memory) (s .current) v → wordOf v < k → colour (s .memory) v ≢ white → replica (s .memory) v ≢ null
+  pub shelled-below : stage (s .phase) ≡ stAllocate → (v : ℕ) → In (s .memory) (s .current) v → wordOf v < k → colour (s .memory) v ≢ white → replica (s .memory) v ≢ null
   -- Copy
-  pub agreement : Agreement (s .memory) (s .current) (s .phase) k i
+  pub agreement : Agreement (s .memory) (s .current) (stage (s .phase)) k i
   -- RootFlip
-  pub flipping : s .phase ≡ atRootFlip → (g : ℕ) → g < k → Names (otherHalf (s .current)) (getD (s .globals) g null)
-  pub walking : Walking (s .memory) (s .current) (s .phase) k i (s .list .head) (s .list .tail)
+  pub flipping : stage (s .phase) ≡ stRootFlip → (g : ℕ) → g < k → Names (otherHalf (s .current)) (getD (s .globals) g null)
+  pub walking : Walking (s .memory) (s .current) (stage (s .phase)) k i (s .list .head) (s .list .tail)
 
 pub walk-sim : {K : ℕ → Type 0} {m : ℕ → ℕ} {s : Store} {f : Free} → Sim K m s f → {k i : ℕ} → WalkFits s k i → Sim K m (withWalk s k i) f
 walk-sim h {k} {i} t = record {

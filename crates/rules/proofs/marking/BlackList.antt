@@ -7,20 +7,20 @@ use native.Mathlib.Omega.{arith}
 use lib.ListN.{getD}
 use Rattle.rules.specs.Memory.{Memory, null, white, grey, black, colourAt, colour, refs}
 use Rattle.rules.specs.declared.Session.{Session}
-use Rattle.rules.proofs.invariant.Turns.{atHeapMark, atPreMark1, atPreMark2, atStackFlip}
 use Rattle.rules.proofs.memory.Cases.{eq-or, lt-or}
 use Rattle.rules.proofs.memory.Put.{PutKept}
+use Rattle.rules.proofs.invariant.Stages.{stRest, stPreMark1, stHeapMark, stStackFlip}
 use Rattle.rules.proofs.invariant.Words.{In, Ok, Clean, field}
 use Rattle.rules.proofs.invariant.Marking.{GreyList, Cleaned}
 use Rattle.rules.proofs.frames.Kept.{in-to, in-back}
 use Rattle.rules.proofs.marking.Recolour.{recolour-frame, colour-new, colour-other, field-still, clean-still, total-still}
 
-module _ {M M′ : Memory} {cur ph : ℕ} {ws : List ℕ} {head tail : ℕ} (p : PutKept M M′ (getD ws head null) colourAt black) (is : ph ≡ atHeapMark)
-    (two : cur < 2) (g : GreyList M cur ph ws head tail) (more : head < tail) where
-  lo : atPreMark1 ≤ ph
+module _ {M M′ : Memory} {cur st : ℕ} {ws : List ℕ} {head tail : ℕ} (p : PutKept M M′ (getD ws head null) colourAt black) (is : st ≡ stHeapMark)
+    (two : cur < 2) (g : GreyList M cur st ws head tail) (more : head < tail) where
+  lo : stRest < st
   lo = omega arith
 
-  hi : ph ≤ atHeapMark
+  hi : st ≤ stHeapMark
   hi = omega arith
 
   oldest : In M cur (getD ws head null)
@@ -33,7 +33,7 @@ module _ {M M′ : Memory} {cur ph : ℕ} {ws : List ℕ} {head tail : ℕ} (p :
   oldest-grey : colour M (getD ws head null) ≢ white
   oldest-grey = omega (arith, g .unfinished lo hi head (omega arith) more)
 
-  pub black-list : GreyList M′ cur ph ws (head + 1) tail
+  pub black-list : GreyList M′ cur st ws (head + 1) tail
   black-list = record {
     listed = λ a b i l. in-to (recolour-frame p) (g .listed a b i l);
     finished = λ a b i l. lt-or i head
@@ -51,7 +51,7 @@ module _ {M M′ : Memory} {cur ph : ℕ} {ws : List ℕ} {head tail : ℕ} (p :
   -- all its fields are passed
   pub black-cleaned : {place wf : ℕ} {xs : List Session} {gs : List ℕ} → ((u i : ℕ) → In M cur u → i < refs M u → Ok M (field M u i))
       → ((k : ℕ) → Ok M (getD gs k null)) → refs M (getD ws head null) ≤ wf
-      → Cleaned M cur ph place wf ws head tail xs gs → Cleaned M′ cur ph place 0 ws (head + 1) tail xs gs
+      → Cleaned M cur st place wf ws head tail xs gs → Cleaned M′ cur st place 0 ws (head + 1) tail xs gs
   black-cleaned {place} {wf} {xs} {gs} ok root all q = record {
     fields = fields;
     scanning = λ a b i l. absurd (omega arith);
@@ -63,7 +63,7 @@ module _ {M M′ : Memory} {cur ph : ℕ} {ws : List ℕ} {head tail : ℕ} (p :
     registers = λ a. absurd (omega arith);
   }
     where
-      fields : atPreMark2 ≤ ph → ph ≤ atStackFlip → (u i : ℕ) → In M′ cur u → colour M′ u ≡ black → i < refs M′ u → Clean M′ cur (field M′ u i)
+      fields : stPreMark1 < st → st ≤ stStackFlip → (u i : ℕ) → In M′ cur u → colour M′ u ≡ black → i < refs M′ u → Clean M′ cur (field M′ u i)
       fields a b u i j c l =
           let k : In M cur u = in-back (recolour-frame p) j in
           let n : i < refs M u = rw (p .same-refs (k .start)) at l in

@@ -6,10 +6,11 @@ use native.Mathlib.Omega.{arith}
 use lib.ListN.{getD}
 use Rattle.rules.specs.Memory.{null, white, black, colourAt, colour, refs, put}
 use Rattle.rules.specs.Control.{Store, withMemory, withWalk, withList}
+use Rattle.rules.specs.Cycle.{stage}
 use Rattle.rules.specs.Phases.{sessionAt}
 use Rattle.rules.specs.Free.{Free}
-use Rattle.rules.proofs.invariant.Turns.{atHeapMark, atPreMark1}
 use Rattle.rules.proofs.memory.Put.{PutKept, put-colour}
+use Rattle.rules.proofs.invariant.Stages.{stRest, stHeapMark}
 use Rattle.rules.proofs.invariant.Words.{In}
 use Rattle.rules.proofs.invariant.Sim.{Sim}
 use Rattle.rules.proofs.invariant.Laws.{cur-two}
@@ -28,7 +29,7 @@ abbrev pub blackened : Store → Store
 blackened s =
     withWalk (withList (withMemory s (put (s .memory) (oldest s) colourAt black)) (s .list .words) (s .list .head + 1) (s .list .tail)) (s .walk .place) 0
 
-module _ {K : ℕ → Type 0} {m : ℕ → ℕ} {s : Store} {f : Free} (h : Sim K m s f) (is : s .phase ≡ atHeapMark) (more : s .list .head < s .list .tail) where
+module _ {K : ℕ → Type 0} {m : ℕ → ℕ} {s : Store} {f : Free} (h : Sim K m s f) (is : stage (s .phase) ≡ stHeapMark) (more : s .list .head < s .list .tail) where
   pub oldest-in : In (s .memory) (s .current) (oldest s)
   oldest-in = h .grey-list .listed (omega arith) (omega arith) (s .list .head) more
 
@@ -44,8 +45,8 @@ module _ {K : ℕ → Type 0} {m : ℕ → ℕ} {s : Store} {f : Free} (h : Sim 
       let p = blacken-kept in
       let g = colour-changed h (recolour-frame p) (λ u j q. q .1) in
       let r = g .range in
-      let lo : atPreMark1 ≤ s .phase = omega arith in
-      let hi : s .phase ≤ atHeapMark = omega arith in
+      let lo : stRest < stage (s .phase) = omega arith in
+      let hi : stage (s .phase) ≤ stHeapMark = omega arith in
       let two = cur-two h in
       let t = oldest-in in
       record {

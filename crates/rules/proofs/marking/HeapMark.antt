@@ -5,18 +5,19 @@ use native.Mathlib.Omega.{arith}
 use lib.ListN.{length}
 use borrow.Author.Tests.{lt-ltb, le-ltb}
 use Rattle.rules.specs.Control.{Store}
+use Rattle.rules.specs.Cycle.{stage}
 use Rattle.rules.specs.Phases.{lowestUnmarked, moveOn}
 use Rattle.rules.specs.Collector.{heapMark}
 use Rattle.rules.specs.Free.{Free}
-use Rattle.rules.proofs.invariant.Turns.{atHeapMark}
 use Rattle.rules.proofs.memory.Cases.{lt-or}
+use Rattle.rules.proofs.invariant.Stages.{stHeapMark}
 use Rattle.rules.proofs.invariant.Sim.{Sim}
 use Rattle.rules.proofs.relation.Stepped.{Stepped, stepped-same}
 use Rattle.rules.proofs.phases.Moves.{heap-mark-moves}
 use Rattle.rules.proofs.marking.ScanRecord.{scan-record-stepped}
 use Rattle.rules.proofs.marking.ScanSession.{scan-session-stepped}
 
-module _ {K : ℕ → Type 0} {m : ℕ → ℕ} {s : Store} {f : Free} (h : Sim K m s f) (is : s .phase ≡ atHeapMark) where
+module _ {K : ℕ → Type 0} {m : ℕ → ℕ} {s : Store} {f : Free} (h : Sim K m s f) (is : stage (s .phase) ≡ stHeapMark) where
   entry-left : s .list .head < s .list .tail → Stepped K m s f (heapMark s)
   unfolding heapMark
   entry-left l = rw (lt-ltb (s .list .head) (s .list .tail) l) (scan-record-stepped h is l)

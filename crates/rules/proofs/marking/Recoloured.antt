@@ -6,18 +6,18 @@ use mathlib.Core.List.{List}
 use native.Mathlib.Omega.{arith}
 use Rattle.rules.specs.Memory.{Memory, white, black, colourAt}
 use Rattle.rules.specs.Free.{Record, FreeSession}
-use Rattle.rules.proofs.invariant.Turns.{atHeapMark, atPreMark1}
 use Rattle.rules.proofs.memory.Cases.{eq-or}
 use Rattle.rules.proofs.memory.Encoding.{other-differs}
 use Rattle.rules.proofs.memory.Put.{PutKept}
+use Rattle.rules.proofs.invariant.Stages.{stRest, stPreMark1, stHeapMark}
 use Rattle.rules.proofs.invariant.Words.{In}
 use Rattle.rules.proofs.invariant.Marking.{Colours, Kept}
 use Rattle.rules.proofs.invariant.Carried.{kept-carried}
 use Rattle.rules.proofs.frames.Kept.{in-back}
 use Rattle.rules.proofs.marking.Recolour.{recolour-frame, colour-new, colour-other, replica-same, marked-still}
 
-module _ {M M′ : Memory} {v c cur ph : ℕ} (p : PutKept M M′ v colourAt c) (lo : atPreMark1 ≤ ph) (hi : ph ≤ atHeapMark) (two : cur < 2) (t : In M cur v) (d : c ≢ white) where
-  pub colours-recoloured : {place : ℕ} → (ph ≡ atPreMark1 → c ≢ black) → Colours M cur ph place → Colours M′ cur ph place
+module _ {M M′ : Memory} {v c cur st : ℕ} (p : PutKept M M′ v colourAt c) (lo : stRest < st) (hi : st ≤ stHeapMark) (two : cur < 2) (t : In M cur v) (d : c ≢ white) where
+  pub colours-recoloured : {place : ℕ} → (st ≡ stPreMark1 → c ≢ black) → Colours M cur st place → Colours M′ cur st place
   colours-recoloured one q = record {
     at-rest = λ e. absurd (omega arith);
     at-reclaim = λ e. absurd (omega arith);
@@ -30,7 +30,7 @@ module _ {M M′ : Memory} {v c cur ph : ℕ} (p : PutKept M M′ v colourAt c) 
   }
 
   pub kept-recoloured : {K : ℕ → Type 0} {m : ℕ → ℕ} {rs : List Record} {ys : List FreeSession} {fgs : List ℕ} → K (m v)
-      → Kept K M m cur ph rs ys fgs → Kept K M′ m cur ph rs ys fgs
+      → Kept K M m cur st rs ys fgs → Kept K M′ m cur st rs ys fgs
   kept-recoloured k q = kept-carried
       (λ a b u i n. eq-or u v (λ o. rw o k) (λ o. q .marked a b u (in-back (recolour-frame p) i) (rw (colour-other p (in-back (recolour-frame p) i .start) o) at n)))
       (λ e. absurd (omega arith)) (λ e. absurd (omega arith)) q

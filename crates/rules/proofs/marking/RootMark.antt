@@ -6,12 +6,13 @@ use lib.ListN.{getD}
 use borrow.Author.Tests.{lt-ltb, le-ltb}
 use Rattle.rules.specs.Memory.{null}
 use Rattle.rules.specs.Control.{Store, withWalk, globalCount}
+use Rattle.rules.specs.Cycle.{stage}
 use Rattle.rules.specs.Phases.{moveOn}
 use Rattle.rules.specs.Barriers.{shade}
 use Rattle.rules.specs.Collector.{rootMark}
 use Rattle.rules.specs.Free.{Free}
-use Rattle.rules.proofs.invariant.Turns.{atRootMark}
 use Rattle.rules.proofs.memory.Cases.{lt-or}
+use Rattle.rules.proofs.invariant.Stages.{stRootMark}
 use Rattle.rules.proofs.invariant.Sim.{Sim}
 use Rattle.rules.proofs.invariant.Alive.{global-alive}
 use Rattle.rules.proofs.relation.Stepped.{Stepped, stepped, stepped-same}
@@ -19,7 +20,7 @@ use Rattle.rules.proofs.phases.Moves.{root-mark-moves}
 use Rattle.rules.proofs.marking.Shading.{Shaded, shading-marks}
 use Rattle.rules.proofs.marking.WalkOn.{past-global}
 
-module _ {K : ℕ → Type 0} {m : ℕ → ℕ} {s : Store} {f : Free} (h : Sim K m s f) (is : s .phase ≡ atRootMark) where
+module _ {K : ℕ → Type 0} {m : ℕ → ℕ} {s : Store} {f : Free} (h : Sim K m s f) (is : stage (s .phase) ≡ stRootMark) where
   -- a global that is left
   global-left : s .walk .place < globalCount → Stepped K m s f (rootMark s)
   unfolding rootMark
@@ -32,7 +33,7 @@ module _ {K : ℕ → Type 0} {m : ℕ → ℕ} {s : Store} {f : Free} (h : Sim 
       let w = z .keeps in
       stepped {s′ = withWalk (shade s (z .it)) (k + 1) i}
       (rw (lt-ltb k globalCount l, z .passes))
-      (past-global (z .sim) (w .phase ∙ is) k i (ap (λ x. x .place) (w .walk)) (ap (λ x. x .field) (w .walk)) l
+      (past-global (z .sim) (ap stage (w .phase) ∙ is) k i (ap (λ x. x .place) (w .walk)) (ap (λ x. x .field) (w .walk)) l
       (rw (w .current, w .globals) (z .clean)))
       (omega (arith, w .frame .front 0)) (omega (arith, w .frame .front 1))
 

@@ -5,11 +5,12 @@ use native.Mathlib.Omega.{arith}
 use borrow.Author.Tests.{lt-ltb, le-ltb}
 use Rattle.rules.specs.Memory.{refs}
 use Rattle.rules.specs.Control.{Store, withWalk}
+use Rattle.rules.specs.Cycle.{stage}
 use Rattle.rules.specs.Barriers.{shade}
 use Rattle.rules.specs.Collector.{scanRecord}
 use Rattle.rules.specs.Free.{Free}
-use Rattle.rules.proofs.invariant.Turns.{atHeapMark}
 use Rattle.rules.proofs.memory.Cases.{lt-or}
+use Rattle.rules.proofs.invariant.Stages.{stHeapMark}
 use Rattle.rules.proofs.invariant.Words.{field}
 use Rattle.rules.proofs.invariant.Sim.{Sim}
 use Rattle.rules.proofs.invariant.Laws.{followed-start}
@@ -21,7 +22,7 @@ use Rattle.rules.proofs.marking.Shading.{Shaded, shading-marks}
 use Rattle.rules.proofs.marking.WalkOn.{past-field}
 use Rattle.rules.proofs.marking.Blacken.{oldest, blackened, oldest-in, oldest-marked, blacken-kept, blacken-sim}
 
-module _ {K : ℕ → Type 0} {m : ℕ → ℕ} {s : Store} {f : Free} (h : Sim K m s f) (is : s .phase ≡ atHeapMark) (more : s .list .head < s .list .tail) where
+module _ {K : ℕ → Type 0} {m : ℕ → ℕ} {s : Store} {f : Free} (h : Sim K m s f) (is : stage (s .phase) ≡ stHeapMark) (more : s .list .head < s .list .tail) where
   -- a field that is left
   field-shaded : s .walk .field < refs (s .memory) (oldest s) → Shaded K m s f (field (s .memory) (oldest s) (s .walk .field))
   field-shaded l =
@@ -40,7 +41,7 @@ module _ {K : ℕ → Type 0} {m : ℕ → ℕ} {s : Store} {f : Free} (h : Sim 
       let w = z .keeps in
       stepped {s′ = withWalk (shade s (z .it)) k (i + 1)}
       (rw (followed-start (h .filled) (t .start), lt-ltb i (refs (s .memory) (oldest s)) l, z .passes))
-      (past-field (z .sim) (w .phase ∙ is) k i (oldest s) (ap (λ x. x .place) (w .walk)) (ap (λ x. x .field) (w .walk))
+      (past-field (z .sim) (ap stage (w .phase) ∙ is) k i (oldest s) (ap (λ x. x .place) (w .walk)) (ap (λ x. x .field) (w .walk))
       (omega (arith, w .head, w .grows)) (rw (w .head) (w .entries (s .list .head) more)) (rw (refs-kept (w .frame) (t .start)) l)
       (rw (w .current, field-kept (w .frame) (t .start) i l (λ q. let e = q .1 in omega arith)) (z .clean)))
       (omega (arith, w .frame .front 0)) (omega (arith, w .frame .front 1))

@@ -11,12 +11,13 @@ use borrow.Author.Tests.{le-leb}
 use Rattle.rules.specs.Refusals.{passed}
 use Rattle.rules.specs.Memory.{null}
 use Rattle.rules.specs.Control.{Store, lastSession}
+use Rattle.rules.specs.Cycle.{stage}
 use Rattle.rules.specs.Phases.{sessionAt, withMark, withSession, absent}
 use Rattle.rules.specs.Barriers.{listRoom}
 use Rattle.rules.specs.Collector.{shadeAll, toShadeAll, scanSession}
 use Rattle.rules.specs.Free.{Free, freeSession}
-use Rattle.rules.proofs.invariant.Turns.{atHeapMark}
 use Rattle.rules.proofs.Scanned.{scanned, shade-scanned}
+use Rattle.rules.proofs.invariant.Stages.{stHeapMark}
 use Rattle.rules.proofs.invariant.Words.{Clean}
 use Rattle.rules.proofs.invariant.Sim.{Sim}
 use Rattle.rules.proofs.invariant.Laws.{in-nonnull}
@@ -26,7 +27,7 @@ use Rattle.rules.proofs.sessions.Session.{SessionFits, session-fits, se
 use Rattle.rules.proofs.marking.Whites.{Whites, one-white, Found, found}
 use Rattle.rules.proofs.marking.ShadeAll.{ShadedAll, shade-all}
 
-module _ {K : ℕ → Type 0} {m : ℕ → ℕ} {s : Store} {f : Free} (h : Sim K m s f) (is : s .phase ≡ atHeapMark) (done : s .list .head ≡ s .list .tail)
+module _ {K : ℕ → Type 0} {m : ℕ → ℕ} {s : Store} {f : Free} (h : Sim K m s f) (is : stage (s .phase) ≡ stHeapMark) (done : s .list .head ≡ s .list .tail)
     (n : ℕ) (l : n ≤ lastSession) where
   -- registers without a white record: the session may be marked
   scanned-fits : ((k : ℕ) → Clean (s .memory) (s .current) (getD (sessionAt s n .registers) k null))

@@ -1,17 +1,18 @@
 -- Shading a white record of the current half in phases 1 to 4.
-use Prim.Native.Nat.{ℕ, _+_, _≤_}
+use Prim.Native.Nat.{ℕ, _+_, _≤_, _<_}
 use mathlib.Core.Path.{_≡_}
 use native.Mathlib.Omega.{arith}
 use lib.ListN.{length, set, length-set}
 use borrow.Author.Tests.{ne-eqb}
 use Rattle.rules.specs.Memory.{Memory, null, white, grey, colourAt, colour, put}
 use Rattle.rules.specs.Control.{Store, withMemory, withList, withSessions}
+use Rattle.rules.specs.Cycle.{stage}
 use Rattle.rules.specs.Phases.{unmarked, sessionAt}
 use Rattle.rules.specs.Barriers.{shade}
 use Rattle.rules.specs.Free.{Free}
-use Rattle.rules.proofs.invariant.Turns.{atHeapMark, atPreMark1}
 use Rattle.rules.proofs.memory.Put.{PutKept, put-colour}
 use Rattle.rules.proofs.memory.Total.{total-room, total-count}
+use Rattle.rules.proofs.invariant.Stages.{stRest, stHeapMark}
 use Rattle.rules.proofs.invariant.Words.{In, marks}
 use Rattle.rules.proofs.invariant.Sim.{Sim}
 use Rattle.rules.proofs.invariant.Laws.{cur-two, in-nonnull}
@@ -36,7 +37,7 @@ shaded s v =
 
 -- ---- the list has room for a white record
 
-module _ {K : ℕ → Type 0} {m : ℕ → ℕ} {s : Store} {f : Free} (h : Sim K m s f) (lo : atPreMark1 ≤ s .phase) (hi : s .phase ≤ atHeapMark)
+module _ {K : ℕ → Type 0} {m : ℕ → ℕ} {s : Store} {f : Free} (h : Sim K m s f) (lo : stRest < stage (s .phase)) (hi : stage (s .phase) ≤ stHeapMark)
     {v : ℕ} (t : In (s .memory) (s .current) v) (e : colour (s .memory) v ≡ white) where
   -- fewer records are marked than there are, and each takes a header at least
   pub shade-room : s .list .tail + 1 ≤ length (s .list .words)

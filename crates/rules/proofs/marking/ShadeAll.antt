@@ -1,5 +1,5 @@
 -- Shading several white records, one after another.
-use Prim.Native.Nat.{ℕ, _+_, _≤_}
+use Prim.Native.Nat.{ℕ, _+_, _≤_, _<_}
 use mathlib.Core.Path.{_≡_, refl, _∙_}
 use mathlib.Core.Logic.{_≢_}
 use mathlib.Core.List.{List, [], _∷_}
@@ -7,11 +7,12 @@ use native.Mathlib.Omega.{arith}
 use lib.ListN.{length}
 use Rattle.rules.specs.Memory.{Memory, colourAt, frontier}
 use Rattle.rules.specs.Control.{Store}
+use Rattle.rules.specs.Cycle.{stage}
 use Rattle.rules.specs.Barriers.{shade}
 use Rattle.rules.specs.Collector.{shadeAll}
 use Rattle.rules.specs.Free.{Free}
-use Rattle.rules.proofs.invariant.Turns.{atHeapMark, atPreMark1}
 use Rattle.rules.proofs.memory.Put.{PutKept}
+use Rattle.rules.proofs.invariant.Stages.{stRest, stHeapMark}
 use Rattle.rules.proofs.invariant.Sim.{Sim}
 use Rattle.rules.proofs.frames.Kept.{in-to}
 use Rattle.rules.proofs.marking.Recolour.{recolour-frame, colour-other}
@@ -31,7 +32,7 @@ pub record ShadedAll (K : ℕ → Type 0) (m : ℕ → ℕ) (s : Store) (f : Fre
   pub lengths : shadeAll s vs .lengths ≡ s .lengths
   pub front : (g : ℕ) → frontier (shadeAll s vs .memory) g ≡ frontier (s .memory) g
 
-pub shade-all : {K : ℕ → Type 0} {m : ℕ → ℕ} (vs : List ℕ) {s : Store} {f : Free} → Sim K m s f → atPreMark1 ≤ s .phase → s .phase ≤ atHeapMark
+pub shade-all : {K : ℕ → Type 0} {m : ℕ → ℕ} (vs : List ℕ) {s : Store} {f : Free} → Sim K m s f → stRest < stage (s .phase) → stage (s .phase) ≤ stHeapMark
     → Whites (s .memory) (s .current) (λ v. K (m v)) vs → ShadedAll K m s f vs
 shade-all [] h lo hi w = record { sim = h; tail = omega arith; lengths = refl; front = λ g. refl }
 shade-all {K} {m} (v ∷ vs) {s} {f} h lo hi (one-white t c k a q) =

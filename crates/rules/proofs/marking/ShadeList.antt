@@ -9,17 +9,17 @@ use lib.Seq.{getD-set-same, getD-set-other}
 use Rattle.rules.specs.Memory.{Memory, null, white, grey, black, colourAt, colour, refs}
 use Rattle.rules.specs.Phases.{unmarked}
 use Rattle.rules.specs.declared.Session.{Session}
-use Rattle.rules.proofs.invariant.Turns.{atHeapMark, atPreMark1, atPreMark2, atStackFlip}
 use Rattle.rules.proofs.memory.Cases.{eq-or, lt-or}
 use Rattle.rules.proofs.memory.Put.{PutKept}
+use Rattle.rules.proofs.invariant.Stages.{stRest, stPreMark1, stHeapMark, stStackFlip}
 use Rattle.rules.proofs.invariant.Words.{In, Ok, Clean, field}
 use Rattle.rules.proofs.invariant.Marking.{GreyList, Cleaned}
 use Rattle.rules.proofs.invariant.Unmarked.{unmarked-none}
 use Rattle.rules.proofs.frames.Kept.{in-to, in-back}
 use Rattle.rules.proofs.marking.Recolour.{recolour-frame, colour-new, colour-other, field-still, clean-still, total-more}
 
-module _ {M M′ : Memory} {v cur ph : ℕ} (p : PutKept M M′ v colourAt grey) (lo : atPreMark1 ≤ ph) (hi : ph ≤ atHeapMark) (two : cur < 2) (t : In M cur v)
-    (e : colour M v ≡ white) {ws : List ℕ} {head tail : ℕ} (g : GreyList M cur ph ws head tail) (begins : head ≤ tail) (fits : tail < length ws) where
+module _ {M M′ : Memory} {v cur st : ℕ} (p : PutKept M M′ v colourAt grey) (lo : stRest < st) (hi : st ≤ stHeapMark) (two : cur < 2) (t : In M cur v)
+    (e : colour M v ≡ white) {ws : List ℕ} {head tail : ℕ} (g : GreyList M cur st ws head tail) (begins : head ≤ tail) (fits : tail < length ws) where
   -- entries below the end stay, and are other records than v
   entry : (i : ℕ) → i < tail → getD (set ws tail v) i null ≡ getD ws i null
   entry i l = getD-set-other ws tail i v null (omega arith)
@@ -40,7 +40,7 @@ module _ {M M′ : Memory} {v cur ph : ℕ} (p : PutKept M M′ v colourAt grey)
   entry-colour : (i : ℕ) → i < tail → colour M′ (getD (set ws tail v) i null) ≡ colour M (getD ws i null)
   entry-colour i l = rw (entry i l) (colour-other p (g .listed lo hi i l .start) (entry-differs i l))
 
-  pub shade-list : GreyList M′ cur ph (set ws tail v) head (tail + 1)
+  pub shade-list : GreyList M′ cur st (set ws tail v) head (tail + 1)
   shade-list = record {
     listed = λ a b i l. lt-or i tail
         (λ n. rw (entry i n) (in-to (recolour-frame p) (g .listed lo hi i n)))
@@ -65,8 +65,8 @@ module _ {M M′ : Memory} {v cur ph : ℕ} (p : PutKept M M′ v colourAt grey)
 
   -- what was clean stays so; the fields passed of the entry at the list's place are none where it is v
   pub shade-cleaned : {place wf : ℕ} {xs : List Session} {gs : List ℕ} → ((u i : ℕ) → In M cur u → i < refs M u → Ok M (field M u i))
-      → ((k : ℕ) → Ok M (getD gs k null)) → (ph ≡ atHeapMark → head ≡ tail → wf ≡ 0)
-      → Cleaned M cur ph place wf ws head tail xs gs → Cleaned M′ cur ph place wf (set ws tail v) head (tail + 1) (unmarked xs) gs
+      → ((k : ℕ) → Ok M (getD gs k null)) → (st ≡ stHeapMark → head ≡ tail → wf ≡ 0)
+      → Cleaned M cur st place wf ws head tail xs gs → Cleaned M′ cur st place wf (set ws tail v) head (tail + 1) (unmarked xs) gs
   shade-cleaned {place} {wf} {xs} {gs} ok root none q = record {
     fields = fields;
     scanning = λ a b i l. lt-or head tail
@@ -84,7 +84,7 @@ module _ {M M′ : Memory} {v cur ph : ℕ} (p : PutKept M M′ v colourAt grey)
     registers = λ a. absurd (omega arith);
   }
     where
-      fields : atPreMark2 ≤ ph → ph ≤ atStackFlip → (u i : ℕ) → In M′ cur u → colour M′ u ≡ black → i < refs M′ u → Clean M′ cur (field M′ u i)
+      fields : stPreMark1 < st → st ≤ stStackFlip → (u i : ℕ) → In M′ cur u → colour M′ u ≡ black → i < refs M′ u → Clean M′ cur (field M′ u i)
       fields a b u i j c l =
           let k : In M cur u = in-back (recolour-frame p) j in
           let n : i < refs M u = rw (p .same-refs (k .start)) at l in

@@ -11,13 +11,14 @@ use borrow.Author.Tests.{ne-eqb, le-leb}
 use Rattle.rules.specs.Refusals.{passed}
 use Rattle.rules.specs.Memory.{Memory, null, frontier, white, grey, colourAt, colour}
 use Rattle.rules.specs.Control.{Store}
+use Rattle.rules.specs.Cycle.{stage}
 use Rattle.rules.specs.Phases.{absent}
 use Rattle.rules.specs.Barriers.{heapOf, toShade, listRoom, shading, shade}
 use Rattle.rules.specs.Free.{Free}
-use Rattle.rules.proofs.invariant.Turns.{atHeapMark, atPreMark1}
 use Rattle.rules.proofs.memory.Cases.{eq-or}
 use Rattle.rules.proofs.memory.Records.{Start, Filled, start-nonnull}
 use Rattle.rules.proofs.memory.Put.{PutKept, frontier-put}
+use Rattle.rules.proofs.invariant.Stages.{stRest, stHeapMark}
 use Rattle.rules.proofs.invariant.Words.{In, Ok, ok-null, ok-start, Names, Clean}
 use Rattle.rules.proofs.invariant.Sim.{Sim}
 use Rattle.rules.proofs.invariant.Laws.{in-half, followed-start}
@@ -85,7 +86,7 @@ keeps-none f = record {
 }
 
 -- a white record shaded
-keeps-shade : {K : ℕ → Type 0} {m : ℕ → ℕ} {s : Store} {f : Free} {v : ℕ} → Sim K m s f → atPreMark1 ≤ s .phase → s .phase ≤ atHeapMark
+keeps-shade : {K : ℕ → Type 0} {m : ℕ → ℕ} {s : Store} {f : Free} {v : ℕ} → Sim K m s f → stRest < stage (s .phase) → stage (s .phase) ≤ stHeapMark
     → In (s .memory) (s .current) v → colour (s .memory) v ≡ white → ShadeKeeps s v
 keeps-shade {s = s} {v = v} h lo hi t e = record {
   frame = rw is (greyed-frame h lo hi t e);
@@ -142,13 +143,13 @@ module _ {K : ℕ → Type 0} {m : ℕ → ℕ} {s : Store} {f : Free} {v : ℕ}
   }
 
   -- a white record: there is room for it
-  shading-white : atPreMark1 ≤ s .phase → s .phase ≤ atHeapMark → In (s .memory) (s .current) v → colour (s .memory) v ≡ white → shading (heapOf s) v ≡ passed v
+  shading-white : stRest < stage (s .phase) → stage (s .phase) ≤ stHeapMark → In (s .memory) (s .current) v → colour (s .memory) v ≡ white → shading (heapOf s) v ≡ passed v
   unfolding shading listRoom
   shading-white lo hi t e =
       rw (to-shade-white (h .filled) (t .start) e, ne-eqb v null (start-nonnull (t .start)), le-leb (s .list .tail + 1) (length (s .list .words)) (shade-room h lo hi t e))
 
   -- in phases 1 to 4, a word that is kept alive
-  pub shading-marks : atPreMark1 ≤ s .phase → s .phase ≤ atHeapMark → Ok (s .memory) v → Names (s .current) v → (v ≢ null → K (m v)) → Shaded K m s f v
+  pub shading-marks : stRest < stage (s .phase) → stage (s .phase) ≤ stHeapMark → Ok (s .memory) v → Names (s .current) v → (v ≢ null → K (m v)) → Shaded K m s f v
   shading-marks lo hi ok side k = eq-or v null
       (λ e. shading-clean ok side (λ n. absurd (n e)))
       (λ n. eq-or (colour (s .memory) v) white

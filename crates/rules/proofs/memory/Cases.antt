@@ -16,6 +16,10 @@ lt-or a b f g = on-dec (decLt a b) f (λ l. g (omega arith))
 pub eq-or : (a b : ℕ) {C : Type 0} → (a ≡ b → C) → (a ≢ b → C) → C
 eq-or a b f g = on-dec (ℕ-discrete a b) f g
 
+-- a number from b on is b, or above it
+pub from-or : (a b : ℕ) → b ≤ a → {C : Type 0} → (a ≡ b → C) → (b < a → C) → C
+from-or a b l f g = eq-or a b f (λ n. g (omega arith))
+
 -- a Bool, with the equation
 pub bool-or : (t : Bool) {C : Type 0} → (t ≡ true → C) → (t ≡ false → C) → C
 bool-or true f g = f refl

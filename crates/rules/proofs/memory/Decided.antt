@@ -7,7 +7,7 @@ use native.Mathlib.Nat.{not-suc-le-zero}
 use native.Mathlib.Omega.{arith}
 use Rattle.rules.specs.Memory.{Memory, half, frontier, halfOf, wordOf}
 use Rattle.rules.proofs.memory.Cases.{lt-or, eq-or}
-use Rattle.rules.proofs.memory.Chain.{pos, pos-3}
+use Rattle.rules.proofs.memory.Chain.{pos, pos-least}
 use Rattle.rules.proofs.memory.Records.{Start}
 
 -- a record that starts at word k, among the first n
@@ -22,5 +22,5 @@ start-decided M v =
     (λ two. lt-or (wordOf v) (frontier M (halfOf v))
     (λ b. number-or (half M (halfOf v)) (wordOf v) (suc (wordOf v))
     (λ i e. yes (record { num = i; named = two; place = e; below = b }))
-    (λ o. no (λ t. o (t .num) (let e = t .place in omega (arith, pos-3 (half M (halfOf v)) (t .num))) (t .place))))
+    (λ o. no (λ t. o (t .num) (let e = t .place in omega (arith, pos-least (half M (halfOf v)) (t .num))) (t .place))))
     (λ b. no (λ t. let l = t .below in omega arith)))

@@ -5,13 +5,14 @@ use mathlib.Core.Logic.{_≢_}
 use native.Mathlib.Omega.{arith}
 use Rattle.rules.specs.Memory.{Memory, null, wordOf, replicaAt, put, replica, size, frontier}
 use Rattle.rules.specs.Control.{Store}
+use Rattle.rules.specs.Cycle.{stage}
 use Rattle.rules.specs.Collector.{walked, pastRecord}
 use Rattle.rules.specs.Free.{Free}
-use Rattle.rules.proofs.invariant.Turns.{atReclaim}
 use Rattle.rules.proofs.memory.Cases.{eq-or, either}
 use Rattle.rules.proofs.memory.Records.{Start}
 use Rattle.rules.proofs.memory.Walk.{walk-split}
 use Rattle.rules.proofs.memory.Put.{PutKept, put-replica}
+use Rattle.rules.proofs.invariant.Stages.{stReclaim}
 use Rattle.rules.proofs.invariant.Words.{In}
 use Rattle.rules.proofs.invariant.Groups.{Pair, Pairs}
 use Rattle.rules.proofs.invariant.Marking.{Walking}
@@ -25,7 +26,7 @@ use Rattle.rules.proofs.frames.Change.{put-frame}
 use Rattle.rules.proofs.frames.Kept.{in-back, replica-kept}
 use Rattle.rules.proofs.frames.Whole.{ReplicaChanged, replica-changed}
 
-module _ {K : ℕ → Type 0} {m : ℕ → ℕ} {s : Store} {f : Free} (h : Sim K m s f) (e : s .phase ≡ atReclaim) (l : s .walk .place < frontier (s .memory) (s .current)) where
+module _ {K : ℕ → Type 0} {m : ℕ → ℕ} {s : Store} {f : Free} (h : Sim K m s f) (e : stage (s .phase) ≡ stReclaim) (l : s .walk .place < frontier (s .memory) (s .current)) where
   abbrev M : Memory
   M = s .memory
 
@@ -70,7 +71,7 @@ module _ {K : ℕ → Type 0} {m : ℕ → ℕ} {s : Store} {f : Free} (h : Sim 
         same = p .same;
       }
 
-  pairs-clear : Pairs M′ m (s .current) (s .phase)
+  pairs-clear : Pairs M′ m (s .current) (stage (s .phase))
   pairs-clear = record {
     pair = λ u t n. let a = in-back frame t in
         eq-or u (walked s) (λ q. absurd (n (rw q cleared-word)))
@@ -87,7 +88,7 @@ module _ {K : ℕ → Type 0} {m : ℕ → ℕ} {s : Store} {f : Free} (h : Sim 
       (λ c. still-null u (t .start) (h .walking .cleared e u t c))
       (λ q. rw q cleared-word)
 
-  walking-clear : Walking M′ (s .current) (s .phase) place′ 0 (s .list .head) (s .list .tail)
+  walking-clear : Walking M′ (s .current) (stage (s .phase)) place′ 0 (s .list .head) (s .list .tail)
   walking-clear = walking-reclaim e (frame .walks (cur-two h) (walked-next h (h .walking .at-12 e) l)) (λ u t b. cleared-next u (in-back frame t) b)
 
   pub clear-sim : Sim K m (pastRecord s (put (s .memory) (walked s) replicaAt null)) f

@@ -3,17 +3,18 @@ use Prim.Native.Nat.{ℕ}
 use mathlib.Core.Path.{_≡_, refl}
 use mathlib.Core.Bool.{true}
 use Rattle.rules.specs.Control.{Store}
+use Rattle.rules.specs.Cycle.{stage}
 use Rattle.rules.specs.Phases.{moveOn}
 use Rattle.rules.specs.Collector.{rest, handshake, haveLevel}
 use Rattle.rules.specs.Free.{Free}
-use Rattle.rules.proofs.invariant.Turns.{atRest}
 use Rattle.rules.proofs.memory.Cases.{bool-or}
+use Rattle.rules.proofs.invariant.Stages.{stRest}
 use Rattle.rules.proofs.invariant.Sim.{Sim}
 use Rattle.rules.proofs.relation.Stepped.{Stepped, stepped-same}
-use Rattle.rules.proofs.phases.Moves.{Waits, rest-moves, handshake-moves}
+use Rattle.rules.proofs.phases.Moves.{Plain, rest-moves, handshake-moves}
 
 module _ {K : ℕ → Type 0} {m : ℕ → ℕ} {s : Store} {f : Free} (h : Sim K m s f) where
-  pub rest-stepped : s .phase ≡ atRest → Stepped K m s f (rest s)
+  pub rest-stepped : stage (s .phase) ≡ stRest → Stepped K m s f (rest s)
   unfolding rest moveOn
   rest-stepped e = stepped-same refl (rest-moves h e) refl
 
@@ -25,5 +26,5 @@ module _ {K : ℕ → Type 0} {m : ℕ → ℕ} {s : Store} {f : Free} (h : Sim 
       (λ l. stepped-same (rw l) h refl)
 
   -- 1, 2, 6, 8, 9
-  pub handshake-stepped : Waits (s .phase) → Stepped K m s f (handshake s)
+  pub handshake-stepped : Plain (stage (s .phase)) → Stepped K m s f (handshake s)
   handshake-stepped w = waiting-stepped (handshake-moves h w)

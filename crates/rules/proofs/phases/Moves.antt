@@ -7,47 +7,33 @@ use native.Mathlib.Omega.{arith}
 use lib.ListN.{getD, length, List·getD-eq-default}
 use Rattle.rules.specs.Memory.{null, wordOf, frontier}
 use Rattle.rules.specs.Control.{Store, withList, globalCount}
+use Rattle.rules.specs.Cycle.{stage, lastPhase, atRest, atRootMark, atHeapMark, atCopy, atRootFlip}
 use Rattle.rules.specs.Phases.{levelOf, absent, moveOn, lowestUnmarked}
 use Rattle.rules.specs.Collector.{haveLevel}
 use Rattle.rules.specs.Free.{Free}
-use Rattle.rules.proofs.invariant.Turns.{atAllocate, atCopy, atHeapMark, atPreCopy, atPreFlip1, atPreFlip2, atPreMark1, atPreMark2, atRest, atRootFlip, atRootMark}
 use Rattle.rules.proofs.memory.Cases.{lt-or, bool-or}
 use Rattle.rules.proofs.memory.Walk.{walk-done}
+use Rattle.rules.proofs.invariant.Stages.{stRest, stRootMark, stHeapMark, stAllocate, stCopy, stRootFlip, stStackFlip, stageOf, phase-is}
 use Rattle.rules.proofs.invariant.Words.{In, Clean, reg}
 use Rattle.rules.proofs.invariant.Groups.{levelBefore}
 use Rattle.rules.proofs.invariant.Sim.{Sim}
 use Rattle.rules.proofs.invariant.Idle.{list-idle, cleaned-idle, walking-idle}
 use Rattle.rules.proofs.invariant.Range.{range-emptied}
 use Rattle.rules.proofs.phases.Sessions.{all-at, all-now, all-marked}
-use Rattle.rules.proofs.phases.MoveOn.{moves}
-
--- the phases that only wait for the level
-pub data Waits (ph : ℕ) : Type 0 where
-  pre-mark : atPreMark1 ≤ ph → ph ≤ atPreMark2 → Waits ph
-  pre-copy : ph ≡ atPreCopy → Waits ph
-  pre-flip : atPreFlip1 ≤ ph → ph ≤ atPreFlip2 → Waits ph
-
--- every attached session has the phase's level
-abbrev AllAt : Store → Type 0
-AllAt s = (n : ℕ) → getD (s .sessions) n absent .attached ≡ true → getD (s .sessions) n absent .level ≡ levelOf (s .phase)
+use Rattle.rules.proofs.phases.MoveOn.{AllAt, moves}
 
 -- none of the phases that ask for more than what carries over
-abbrev Plain : ℕ → Type 0
-Plain ph = (ph ≢ atRest) × (ph ≢ atRootMark) × (ph ≢ atHeapMark) × (ph ≢ atAllocate) × (ph ≢ atCopy) × (ph ≤ atPreFlip2)
-
-plain : {ph : ℕ} → Waits ph → Plain ph
-plain (pre-mark a b) = omega arith
-plain (pre-copy a) = omega arith
-plain (pre-flip a b) = omega arith
+abbrev pub Plain : ℕ → Type 0
+Plain st = (st ≢ stRest) × (st ≢ stRootMark) × (st ≢ stHeapMark) × (st ≢ stAllocate) × (st ≢ stCopy) × (st ≢ stRootFlip) × (st < stStackFlip)
 
 module _ {K : ℕ → Type 0} {m : ℕ → ℕ} {s : Store} {f : Free} (h : Sim K m s f) where
   -- ---- levels: by the rule's test, or because the phase before had the same
-  have-level : haveLevel s ≡ true → AllAt s
+  pub have-level : haveLevel s ≡ true → AllAt s
   unfolding haveLevel
   have-level l = all-at (levelOf (s .phase)) (s .sessions) l
 
-  steady : (ph : ℕ) → s .phase ≡ ph → levelOf ph ≡ levelBefore ph → AllAt s
-  steady ph e l = all-now (h .levels) (rw e l)
+  pub steady : (p : ℕ) → p ≤ lastPhase → stage (s .phase) ≡ stageOf p → levelOf p ≡ levelBefore p → AllAt s
+  steady p b e l = all-now (h .levels) (rw (phase-is p (h .range .phases) b e) l)
 
   -- the walk is at the frontier: every record of the current half is below it
   passed-all : frontier (s .memory) (s .current) ≤ s .walk .place → (v : ℕ) → In (s .memory) (s .current) v → wordOf v < s .walk .place
@@ -58,7 +44,7 @@ module _ {K : ℕ → Type 0} {m : ℕ → ℕ} {s : Store} {f : Free} (h : Sim 
   past-globals g l = List·getD-eq-default (s .globals) null (omega (arith, h .roots .globals))
 
   -- ---- 0 Rest: the grey list emptied
-  rest-empties : s .phase ≡ atRest → Sim K m (withList s (s .list .words) 0 0) f
+  rest-empties : stage (s .phase) ≡ stRest → Sim K m (withList s (s .list .words) 0 0) f
   rest-empties e = record {
     range = range-emptied (h .range);
     filled = h .filled;
@@ -77,11 +63,11 @@ module _ {K : ℕ → Type 0} {m : ℕ → ℕ} {s : Store} {f : Free} (h : Sim 
     kept = h .kept;
   }
 
-  pub rest-moves : s .phase ≡ atRest → Sim K m (moveOn (withList s (s .list .words) 0 0)) f
+  pub rest-moves : stage (s .phase) ≡ stRest → Sim K m (moveOn (withList s (s .list .words) 0 0)) f
   unfolding levelOf levelBefore
   rest-moves e = moves (rest-empties e)
       (record {
-        level = steady 0 e refl;
+        level = steady atRest (omega arith) e refl;
         emptied = λ o. refl;
         globals = λ o. absurd (omega arith);
         none-grey = λ o. absurd (omega arith);
@@ -93,8 +79,8 @@ module _ {K : ℕ → Type 0} {m : ℕ → ℕ} {s : Store} {f : Free} (h : Sim 
       (omega arith)
 
   -- ---- 1, 2, 6, 8, 9
-  pub handshake-moves : Waits (s .phase) → haveLevel s ≡ true → Sim K m (moveOn s) f
-  handshake-moves w l = let p = plain w in moves h
+  pub handshake-moves : Plain (stage (s .phase)) → haveLevel s ≡ true → Sim K m (moveOn s) f
+  handshake-moves p l = moves h
       (record {
         level = have-level l;
         emptied = λ o. absurd (p .0 o);
@@ -103,16 +89,16 @@ module _ {K : ℕ → Type 0} {m : ℕ → ℕ} {s : Store} {f : Free} (h : Sim 
         registers = λ o. absurd (p .2 o);
         shelled = λ o. absurd (p .3 o);
         copied = λ o. absurd (p .4 o);
-        flipped = λ o. absurd (omega (arith, p .5));
+        flipped = λ o. absurd (p .5 o);
       })
-      (omega (arith, p .5))
+      (p .6)
 
   -- ---- 3 RootMark: every global has been shaded
-  pub root-mark-moves : s .phase ≡ atRootMark → globalCount ≤ s .walk .place → Sim K m (moveOn s) f
+  pub root-mark-moves : stage (s .phase) ≡ stRootMark → globalCount ≤ s .walk .place → Sim K m (moveOn s) f
   unfolding levelOf levelBefore
   root-mark-moves e l = moves h
       (record {
-        level = steady 3 e refl;
+        level = steady atRootMark (omega arith) e refl;
         emptied = λ o. absurd (omega arith);
         globals = λ o g. lt-or g globalCount (λ b. h .cleaned .globals-below e g (omega arith)) (λ b n. absurd (n (past-globals g b)));
         none-grey = λ o. absurd (omega arith);
@@ -124,16 +110,16 @@ module _ {K : ℕ → Type 0} {m : ℕ → ℕ} {s : Store} {f : Free} (h : Sim 
       (omega arith)
 
   -- ---- 4 HeapMark: the list is done, so nothing is grey; all attached sessions are scanned
-  scanned-all : s .phase ≡ atHeapMark → length (s .sessions) ≤ lowestUnmarked (s .sessions) → (n k : ℕ) → Clean (s .memory) (s .current) (reg (s .sessions) n k)
+  scanned-all : stage (s .phase) ≡ stHeapMark → length (s .sessions) ≤ lowestUnmarked (s .sessions) → (n k : ℕ) → Clean (s .memory) (s .current) (reg (s .sessions) n k)
   scanned-all e l n k = bool-or (getD (s .sessions) n absent .attached)
       (λ a. h .cleaned .scanned e n k a (all-marked (s .sessions) l n a))
       (λ a o. absurd (o (h .roots .idle n k a)))
 
-  pub heap-mark-moves : s .phase ≡ atHeapMark → s .list .head ≡ s .list .tail → length (s .sessions) ≤ lowestUnmarked (s .sessions) → Sim K m (moveOn s) f
+  pub heap-mark-moves : stage (s .phase) ≡ stHeapMark → s .list .head ≡ s .list .tail → length (s .sessions) ≤ lowestUnmarked (s .sessions) → Sim K m (moveOn s) f
   unfolding levelOf levelBefore
   heap-mark-moves e d l = moves h
       (record {
-        level = steady 4 e refl;
+        level = steady atHeapMark (omega arith) e refl;
         emptied = λ o. absurd (omega arith);
         globals = λ o. absurd (omega arith);
         none-grey = λ o v t g. let x = h .grey-list .found (omega arith) (omega arith) v t g in omega (arith, x .1, x .2);
@@ -145,7 +131,7 @@ module _ {K : ℕ → Type 0} {m : ℕ → ℕ} {s : Store} {f : Free} (h : Sim 
       (omega arith)
 
   -- ---- 5 Allocate: every marked record has its replica
-  pub allocate-moves : s .phase ≡ atAllocate → frontier (s .memory) (s .current) ≤ s .walk .place → haveLevel s ≡ true → Sim K m (moveOn s) f
+  pub allocate-moves : stage (s .phase) ≡ stAllocate → frontier (s .memory) (s .current) ≤ s .walk .place → haveLevel s ≡ true → Sim K m (moveOn s) f
   allocate-moves e d l = moves h
       (record {
         level = have-level l;
@@ -160,11 +146,11 @@ module _ {K : ℕ → Type 0} {m : ℕ → ℕ} {s : Store} {f : Free} (h : Sim 
       (omega arith)
 
   -- ---- 7 Copy: every field has been copied
-  pub copy-moves : s .phase ≡ atCopy → frontier (s .memory) (s .current) ≤ s .walk .place → Sim K m (moveOn s) f
+  pub copy-moves : stage (s .phase) ≡ stCopy → frontier (s .memory) (s .current) ≤ s .walk .place → Sim K m (moveOn s) f
   unfolding levelOf levelBefore
   copy-moves e d = moves h
       (record {
-        level = steady 7 e refl;
+        level = steady atCopy (omega arith) e refl;
         emptied = λ o. absurd (omega arith);
         globals = λ o. absurd (omega arith);
         none-grey = λ o. absurd (omega arith);
@@ -176,11 +162,11 @@ module _ {K : ℕ → Type 0} {m : ℕ → ℕ} {s : Store} {f : Free} (h : Sim 
       (omega arith)
 
   -- ---- 10 RootFlip: every global has been forwarded
-  pub root-flip-moves : s .phase ≡ atRootFlip → globalCount ≤ s .walk .place → Sim K m (moveOn s) f
+  pub root-flip-moves : stage (s .phase) ≡ stRootFlip → globalCount ≤ s .walk .place → Sim K m (moveOn s) f
   unfolding levelOf levelBefore
   root-flip-moves e l = moves h
       (record {
-        level = steady 10 e refl;
+        level = steady atRootFlip (omega arith) e refl;
         emptied = λ o. absurd (omega arith);
         globals = λ o. absurd (omega arith);
         none-grey = λ o. absurd (omega arith);

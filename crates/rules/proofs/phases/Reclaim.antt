@@ -6,19 +6,20 @@ use native.Mathlib.Omega.{arith}
 use borrow.Author.Tests.{lt-ltb, le-ltb}
 use Rattle.rules.specs.Memory.{null, replicaAt, frontier}
 use Rattle.rules.specs.Control.{Store}
+use Rattle.rules.specs.Cycle.{stage}
 use Rattle.rules.specs.Phases.{moveOn}
 use Rattle.rules.specs.Collector.{walked, below, pastRecord, haveLevel, reclaim}
 use Rattle.rules.specs.Free.{Free}
-use Rattle.rules.proofs.invariant.Turns.{atReclaim}
 use Rattle.rules.proofs.memory.Cases.{lt-or, bool-or}
 use Rattle.rules.proofs.memory.Put.{frontier-put}
+use Rattle.rules.proofs.invariant.Stages.{stReclaim}
 use Rattle.rules.proofs.invariant.Sim.{Sim}
 use Rattle.rules.proofs.invariant.Laws.{followed-start}
 use Rattle.rules.proofs.relation.Stepped.{Stepped, stepped, stepped-same}
 use Rattle.rules.proofs.phases.Clear.{cleared-in, clear-sim}
 use Rattle.rules.proofs.phases.Reclaimed.{front-less-0, front-less-1, reclaim-moves}
 
-module _ {K : ℕ → Type 0} {m : ℕ → ℕ} {s : Store} {f : Free} (h : Sim K m s f) (e : s .phase ≡ atReclaim) where
+module _ {K : ℕ → Type 0} {m : ℕ → ℕ} {s : Store} {f : Free} (h : Sim K m s f) (e : stage (s .phase) ≡ stReclaim) where
   -- below the frontier
   clears : haveLevel s ≡ true → s .walk .place < frontier (s .memory) (s .current) → Stepped K m s f (reclaim s)
   unfolding reclaim below pastRecord

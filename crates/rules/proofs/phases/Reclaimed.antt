@@ -7,16 +7,17 @@ use mathlib.Core.Bool.{true}
 use native.Mathlib.Omega.{arith}
 use Rattle.rules.specs.Memory.{Memory, null, halfOf, withFrontier, colour, replica, refs, frontier, colourAt, replicaAt}
 use Rattle.rules.specs.Control.{Store, withMemory}
+use Rattle.rules.specs.Cycle.{stage}
 use Rattle.rules.specs.Phases.{otherHalf, levelOf, nextPhase, unmarked, moveOn}
 use Rattle.rules.specs.Collector.{haveLevel}
 use Rattle.rules.specs.Free.{Free}
-use Rattle.rules.proofs.invariant.Turns.{atReclaim}
 use Rattle.rules.proofs.memory.Cases.{eq-or}
 use Rattle.rules.proofs.memory.Encoding.{other-below-2}
 use Rattle.rules.proofs.memory.Records.{Start}
 use Rattle.rules.proofs.memory.Walk.{walk-done}
 use Rattle.rules.proofs.memory.Empty.{Emptied, empty-kept}
 use Rattle.rules.proofs.memory.Total.{total-none}
+use Rattle.rules.proofs.invariant.Stages.{stRest, stReclaim, stage-first}
 use Rattle.rules.proofs.invariant.Words.{In, Ok, ok-null, ok-start, Names, field, plainOf, copied}
 use Rattle.rules.proofs.invariant.Groups.{Values, Roots, Levels, FieldHalves, Pairs}
 use Rattle.rules.proofs.invariant.Marking.{Colours, Kept}
@@ -27,9 +28,10 @@ use Rattle.rules.proofs.invariant.Unmarked.{unmarked-attached, unmarked
 use Rattle.rules.proofs.invariant.Range.{range-moved, range-memory}
 use Rattle.rules.proofs.invariant.Carried.{in-carried, Within, identity-carried, values-carried, roots-carried, kept-carried}
 use Rattle.rules.proofs.invariant.Counted.{copied-none}
-use Rattle.rules.proofs.phases.Sessions.{all-at}
+use Rattle.rules.proofs.phases.MoveOn.{levels-on}
+use Rattle.rules.proofs.phases.Moves.{have-level}
 
-module _ {K : ℕ → Type 0} {m : ℕ → ℕ} {s : Store} {f : Free} (h : Sim K m s f) (e : s .phase ≡ atReclaim) (d : frontier (s .memory) (s .current) ≤ s .walk .place) where
+module _ {K : ℕ → Type 0} {m : ℕ → ℕ} {s : Store} {f : Free} (h : Sim K m s f) (e : stage (s .phase) ≡ stReclaim) (d : frontier (s .memory) (s .current) ≤ s .walk .place) where
   abbrev M : Memory
   M = s .memory
 
@@ -86,9 +88,8 @@ module _ {K : ℕ → Type 0} {m : ℕ → ℕ} {s : Store} {f : Free} (h : Sim 
   pub front-less-1 : frontier (withFrontier (s .memory) (otherHalf (s .current)) 0) 1 ≤ frontier (s .memory) 1
   front-less-1 = front-less 1 (omega arith)
 
-  next-0 : nextPhase (s .phase) ≡ 0
-  unfolding nextPhase
-  next-0 = rw e
+  next : stage (nextPhase (s .phase)) ≡ stRest
+  next = stage-first (s .phase) (h .range .phases) e
 
   within : Within M M′
   within = record { back = gone .back; refs = λ t. gone .same-refs _; plains = λ t. gone .same-plains _ }
@@ -106,21 +107,14 @@ module _ {K : ℕ → Type 0} {m : ℕ → ℕ} {s : Store} {f : Free} (h : Sim 
       (λ k. ok-stays (g .global-ok k) (h .root-halves .globals (omega arith) k))
       (λ u o. refl) g
 
-  levels-empty : haveLevel s ≡ true → Levels 0 (unmarked (s .sessions))
-  unfolding haveLevel levelOf
-  levels-empty l = record {
-    allowed = λ n a. inl (rw (unmarked-level (s .sessions) n)
-        (all-at 0 (s .sessions) (rw e at l) n (rw (unmarked-attached (s .sessions) n) at a)));
-  }
-
-  field-halves-empty : FieldHalves M′ (s .current) 0
+  field-halves-empty : FieldHalves M′ (s .current) stRest
   field-halves-empty = record {
     home = λ a v i t l. rw (same-field v i) (field-names v i (in-back t) (rw (gone .same-refs v) at l));
     away = λ a v i t. none t;
     away-ok = λ a v i t. none t;
   }
 
-  pairs-empty : Pairs M′ m (s .current) 0
+  pairs-empty : Pairs M′ m (s .current) stRest
   pairs-empty = record {
     pair = λ v t n. absurd (n (alone v t));
     home = λ a v t. none t;
@@ -128,7 +122,7 @@ module _ {K : ℕ → Type 0} {m : ℕ → ℕ} {s : Store} {f : Free} (h : Sim 
     spent = λ a. gone .front ∙ sym (total-none (gone .filled) (cur-two h) (copied M′) alone-weight);
   }
 
-  colours-empty : Colours M′ (s .current) 0 0
+  colours-empty : Colours M′ (s .current) stRest 0
   colours-empty = record {
     at-rest = λ a v t. same-colour v ∙ h .colours .at-reclaim e v (in-back t);
     at-reclaim = λ a. absurd (omega arith);
@@ -140,7 +134,7 @@ module _ {K : ℕ → Type 0} {m : ℕ → ℕ} {s : Store} {f : Free} (h : Sim 
     shelled = λ a b. absurd (omega arith);
   }
 
-  kept-empty : Kept K M′ m (s .current) 0 (f .records) (f .sessions) (f .globals)
+  kept-empty : Kept K M′ m (s .current) stRest (f .records) (f .sessions) (f .globals)
   kept-empty = kept-carried (λ a b. absurd (omega arith)) (λ a. absurd (omega arith)) (λ a v t. h .kept .left-12 e v (in-back t)) (h .kept)
 
   -- 12 Reclaim, at the frontier
@@ -152,16 +146,16 @@ module _ {K : ℕ → Type 0} {m : ℕ → ℕ} {s : Store} {f : Free} (h : Sim 
     identity = identity-carried within (h .identity);
     values = values-empty;
     roots = roots-unmarked roots-empty;
-    levels = rw next-0 (levels-empty l);
-    root-halves = roots-home (omega (arith, next-0))
+    levels = levels-on (h .range) (have-level h l);
+    root-halves = roots-home (omega (arith, next))
         (λ n k. rw (unmarked-reg (s .sessions) n k) (h .root-halves .regs (omega arith) n k))
         (h .root-halves .globals (omega arith));
-    field-halves = rw next-0 field-halves-empty;
-    pairs = rw next-0 pairs-empty;
-    agreement = agreement-early (omega (arith, next-0));
-    colours = rw next-0 colours-empty;
-    grey-list = list-idle (λ a. omega (arith, next-0, a .0));
-    cleaned = cleaned-idle (λ a. omega (arith, next-0, a .0));
-    walking = walking-idle (omega (arith, next-0)) (omega (arith, next-0)) (omega (arith, next-0)) (omega (arith, next-0));
-    kept = rw next-0 kept-empty;
+    field-halves = rw next field-halves-empty;
+    pairs = rw next pairs-empty;
+    agreement = agreement-early (omega (arith, next));
+    colours = rw next colours-empty;
+    grey-list = list-idle (λ a. omega (arith, next, a .0));
+    cleaned = cleaned-idle (λ a. omega (arith, next, a .0));
+    walking = walking-idle (omega (arith, next)) (omega (arith, next)) (omega (arith, next)) (omega (arith, next));
+    kept = rw next kept-empty;
   }

@@ -7,11 +7,12 @@ use lib.Seq.{getD-set-same}
 use borrow.Author.Tests.{lt-ltb, le-ltb}
 use Rattle.rules.specs.Memory.{null}
 use Rattle.rules.specs.Control.{Store, withWalk, walkLimit, globalCount}
+use Rattle.rules.specs.Cycle.{stage, atRootFlip}
 use Rattle.rules.specs.Phases.{otherHalf, moveOn}
 use Rattle.rules.specs.Collector.{rootFlip}
 use Rattle.rules.specs.Free.{Free}
-use Rattle.rules.proofs.invariant.Turns.{atRootFlip}
 use Rattle.rules.proofs.memory.Cases.{lt-or}
+use Rattle.rules.proofs.invariant.Stages.{stRootFlip, phase-is}
 use Rattle.rules.proofs.invariant.Words.{Names, fwd}
 use Rattle.rules.proofs.invariant.Groups.{over}
 use Rattle.rules.proofs.invariant.Sim.{Sim}
@@ -23,12 +24,12 @@ use Rattle.rules.proofs.sessions.Session.{GlobalFits, global-sim-same}
 use Rattle.rules.proofs.phases.Moves.{root-flip-moves}
 
 -- ---- the walk over the globals goes on
-module _ {K : ℕ → Type 0} {m : ℕ → ℕ} {s : Store} {f : Free} (h : Sim K m s f) (e : s .phase ≡ atRootFlip) (l : s .walk .place < globalCount)
+module _ {K : ℕ → Type 0} {m : ℕ → ℕ} {s : Store} {f : Free} (h : Sim K m s f) (e : stage (s .phase) ≡ stRootFlip) (l : s .walk .place < globalCount)
     (here : Names (otherHalf (s .current)) (getD (s .globals) (s .walk .place) null)) where
   next-global : Sim K m (withWalk s (s .walk .place + 1) (s .walk .field)) f
   unfolding walkLimit
   next-global = walk-sim h (record {
-    places = rw e (omega arith);
+    places = rw (phase-is atRootFlip (h .range .phases) (omega arith) e) (omega arith);
     fields = h .range .fields;
     globals-below = λ a. absurd (omega arith);
     scanning = λ a. absurd (omega arith);
@@ -45,7 +46,7 @@ module _ {K : ℕ → Type 0} {m : ℕ → ℕ} {s : Store} {f : Free} (h : Sim 
   })
 
 -- ---- the unit
-module _ {K : ℕ → Type 0} {m : ℕ → ℕ} {s : Store} {f : Free} (h : Sim K m s f) (e : s .phase ≡ atRootFlip) where
+module _ {K : ℕ → Type 0} {m : ℕ → ℕ} {s : Store} {f : Free} (h : Sim K m s f) (e : stage (s .phase) ≡ stRootFlip) where
   -- what the global becomes
   abbrev new : ℕ
   new = fwd (s .memory) (other h) (getD (s .globals) (s .walk .place) null)
@@ -58,9 +59,9 @@ module _ {K : ℕ → Type 0} {m : ℕ → ℕ} {s : Store} {f : Free} (h : Sim 
   new-fits = record {
     ok = fwd-ok h (h .roots .global-ok (s .walk .place));
     is = h .roots .global-is (s .walk .place) ∙ sym (fwd-place h (h .roots .global-ok (s .walk .place)));
-    names = λ a. absurd (a .1 e);
+    names = λ a. absurd (omega (arith, a (omega arith)));
     flipping = λ a b. new-names;
-    flipped = λ a. new-names;
+    flipped = λ a b. new-names;
     below = λ a. absurd (omega arith);
     clean = λ a b n side. absurd (other-not h (sym (new-names n) ∙ side));
     kept = h .kept .globals (s .walk .place);

@@ -9,13 +9,14 @@ use borrow.Author.Tests.{lt-ltb, le-ltb}
 use Rattle.rules.specs.Refusals.{passed}
 use Rattle.rules.specs.Memory.{Memory, null}
 use Rattle.rules.specs.Control.{Store, lastSession}
+use Rattle.rules.specs.Cycle.{stage}
 use Rattle.rules.specs.Phases.{sessionAt, withSession, withRegisters, withMark, lowestUnmarked, moveOn}
 use Rattle.rules.specs.Collector.{forwardAll, stackFlip}
 use Rattle.rules.specs.Free.{Free, freeSession}
 use Rattle.rules.specs.declared.Session.{Session}
-use Rattle.rules.proofs.invariant.Turns.{atStackFlip}
 use Rattle.rules.proofs.memory.Cases.{lt-or}
 use Rattle.rules.proofs.memory.Records.{Filled}
+use Rattle.rules.proofs.invariant.Stages.{stStackFlip}
 use Rattle.rules.proofs.invariant.Words.{Ok, Names, fwd}
 use Rattle.rules.proofs.invariant.Sim.{Sim}
 use Rattle.rules.proofs.invariant.Laws.{other, other-not, forward-passed, fwd-null, fwd-place, fwd-ok, fwd-names, to-other}
@@ -32,7 +33,7 @@ forward-all-passed to k (v ∷ vs) ok = rw (forward-passed to k (ok 0), forward-
 forwarded-at : (M : Memory) (to : ℕ) (vs : List ℕ) (k : ℕ) → getD (map (fwd M to) vs) k null ≡ fwd M to (getD vs k null)
 forwarded-at M to vs k = rw (fwd-null M to) at (List·getD-map (fwd M to) vs k null)
 
-module _ {K : ℕ → Type 0} {m : ℕ → ℕ} {s : Store} {f : Free} (h : Sim K m s f) (e : s .phase ≡ atStackFlip) where
+module _ {K : ℕ → Type 0} {m : ℕ → ℕ} {s : Store} {f : Free} (h : Sim K m s f) (e : stage (s .phase) ≡ stStackFlip) where
   -- ---- one session
   module _ (n : ℕ) (l : n ≤ lastSession) (a : sessionAt s n .attached ≡ true) where
     abbrev regs : List ℕ
@@ -49,7 +50,7 @@ module _ {K : ℕ → Type 0} {m : ℕ → ℕ} {s : Store} {f : Free} (h : Sim 
         record {
           ok = fwd-ok h (w .ok);
           is = w .is ∙ sym (fwd-place h (w .ok));
-          names = λ b. absurd (b .2 e);
+          names = λ b. absurd (omega (arith, b (omega arith)));
           marked = λ b c. names;
           scanned = λ b. absurd (omega arith);
           clean = λ b c z side. absurd (other-not h (sym (names z) ∙ side));

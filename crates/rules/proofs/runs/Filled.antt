@@ -5,7 +5,7 @@ use native.Mathlib.Omega.{arith}
 use Rattle.rules.specs.Memory.{Memory, frontier, reference}
 use Rattle.rules.specs.Claims.{FilledFrom, at-frontier, at-record}
 use Rattle.rules.proofs.memory.Cases.{lt-or}
-use Rattle.rules.proofs.memory.Records.{Filled, size-3, start-sound}
+use Rattle.rules.proofs.memory.Records.{Filled, size-least, start-sound}
 use Rattle.rules.proofs.memory.Walk.{Walk, walk-zero, walk-start, walk-next}
 
 module _ {M : Memory} (f : Filled M) {h : ℕ} (two : h < 2) where
@@ -18,7 +18,7 @@ module _ {M : Memory} (f : Filled M) {h : ℕ} (two : h < 2) where
   filled-from (suc n) {k} at l =
       lt-or k (frontier M h)
       (λ b. at-record k (start-sound f (walk-start two at b))
-      (filled-from n (walk-next two at f b) (omega (arith, size-3 M (reference h k)))))
+      (filled-from n (walk-next two at f b) (omega (arith, size-least M (reference h k)))))
       (walk-ended at)
 
   pub filled-half : FilledFrom M h 0

@@ -8,17 +8,18 @@ use native.Mathlib.Omega.{arith}
 use lib.ListN.{getD, length, List·getD-eq-default}
 use Rattle.rules.specs.Memory.{null, halfOf, size, sizeOf, refs, plains}
 use Rattle.rules.specs.Control.{withList}
+use Rattle.rules.specs.Cycle.{stage, atRest}
 use Rattle.rules.specs.Phases.{moveOn, nextPhase}
 use Rattle.rules.specs.Collector.{rest, step, walked, units, handshake}
 use Rattle.rules.specs.Runs.{Call, Step, apply, after}
 use Rattle.rules.specs.Free.{Record, noRecord, recordAt, freeSession, freeRegister}
 use Rattle.rules.specs.Tracking.{Beside, track, besideCall, beside, by-register, by-global, by-field}
 use Rattle.rules.specs.Claims.{Living, FreedBetween, leftIn, placesIn}
-use Rattle.rules.proofs.invariant.Turns.{atPreMark1, atRest}
 use Rattle.rules.proofs.Ranges.{in-range-tested}
 use Rattle.rules.proofs.memory.Records.{Start, size-fields}
 use Rattle.rules.proofs.memory.Empty.{empty-none}
 use Rattle.rules.proofs.memory.Listing.{mapped-start, mapped-once, mapped-words}
+use Rattle.rules.proofs.invariant.Stages.{stPreMark1, stage-is}
 use Rattle.rules.proofs.invariant.Words.{recOf}
 use Rattle.rules.proofs.invariant.Marking.{Kept}
 use Rattle.rules.proofs.invariant.Laws.{cur-two, in-or}
@@ -34,7 +35,7 @@ begun b = record { store = moveOn (withList (b .store) (b .store .list .words) 0
 
 module _ {K : ℕ → Type 0} (b : Beside) (h : Holds K b) (z : b .store .phase ≡ atRest) where
   first-unit : getD units (b .store .phase) handshake (b .store) ≡ rest (b .store)
-  first-unit = ap (λ ph. getD units ph handshake (b .store)) z
+  first-unit = ap (λ st. getD units st handshake (b .store)) z
 
   begins : apply (b .store) Step .store ≡ begun b .store
   unfolding step rest
@@ -55,14 +56,14 @@ module _ {K : ℕ → Type 0} (b : Beside) (h : Holds K b) (z : b .store .phase 
   no-fields : (rs : List Record) (q i : ℕ) → length rs < q → getD (recOf rs q .refs) i null ≡ null
   no-fields rs q i l = rw (List·getD-eq-default rs noRecord {n = q - 1} (omega arith))
 
-  living : Kept (Living (b .free)) (b .store .memory) (b .place) (b .store .current) 1 (b .free .records) (b .free .sessions) (b .free .globals)
+  living : Kept (Living (b .free)) (b .store .memory) (b .place) (b .store .current) stPreMark1 (b .free .records) (b .free .sessions) (b .free .globals)
   unfolding freeSession freeRegister recordAt
   living = record {
     to-come = λ q l. inr l;
     registers = λ n k e. inl (by-register n k e);
     globals = λ g e. inl (by-global g e);
     fields = field;
-    marked = λ lo hi v t e. absurd (e (h .colours .at-rest z v t));
+    marked = λ lo hi v t e. absurd (e (h .colours .at-rest (stage-is z) v t));
     left-12 = λ e. absurd (omega arith);
     left-0 = λ e. absurd (omega arith);
   }
@@ -71,13 +72,13 @@ module _ {K : ℕ → Type 0} (b : Beside) (h : Holds K b) (z : b .store .phase 
       field q i (inl r) e = inl (by-field q i r e)
       field q i (inr l) e = absurd (e (no-fields (b .free .records) q i l))
 
-  phase-1 : begun b .store .phase ≡ atPreMark1
-  unfolding moveOn nextPhase
-  phase-1 = rw z
+  begun-stage : stage (begun b .store .phase) ≡ stPreMark1
+  unfolding moveOn nextPhase stage
+  begun-stage = rw z
 
-  begun-kept : Kept (Living (b .free)) (begun b .store .memory) (b .place) (begun b .store .current) (begun b .store .phase) (b .free .records) (b .free .sessions) (b .free .globals)
+  begun-kept : Kept (Living (b .free)) (begun b .store .memory) (b .place) (begun b .store .current) (stage (begun b .store .phase)) (b .free .records) (b .free .sessions) (b .free .globals)
   unfolding moveOn
-  begun-kept = rw (phase-1) living
+  begun-kept = rw begun-stage living
 
   living-holds : Holds (Living (b .free)) (begun b)
   living-holds = let k = begun-holds in record {
@@ -112,8 +113,8 @@ module _ {K : ℕ → Type 0} {e : Beside} (h : Holds K e) (z : e .store .phase 
   -- the current half has only such records, the other none
   pub ended-kept : AllKept K e
   ended-kept v t = in-or (e .store .current) (cur-two h) t
-      (h .kept .left-0 z v)
-      (λ o. absurd (empty-none (rw (o .side) (h .pairs .empty (omega arith))) t))
+      (h .kept .left-0 (stage-is z) v)
+      (λ o. absurd (empty-none (rw (o .side) (h .pairs .empty (omega (arith, stage-is z)))) t))
 
   sizes : (v : ℕ) → Start (e .store .memory) v → halfOf v ≡ e .store .current
       → sizeOf (length (recordAt (e .free) (e .place v) .refs)) (length (recordAt (e .free) (e .place v) .plains)) ≡ size (e .store .memory) v
@@ -125,13 +126,13 @@ module _ {K : ℕ → Type 0} {e : Beside} (h : Holds K e) (z : e .store .phase 
     kept = λ q i. k q (all-listed h ended-kept (cur-two h) q i);
     once = mapped-once (h .filled) (cur-two h) (e .place) (λ u v t a w c. h .identity .apart u v t w (a ∙ sym c));
     used = sym (mapped-words (h .filled) (cur-two h) (e .place) (e .free) sizes);
-    emptied = h .pairs .empty (omega arith);
+    emptied = h .pairs .empty (omega (arith, stage-is z));
   }
 
 -- the invariant from the step that leaves phase 0 on
 pub living-run : {K : ℕ → Type 0} (b : Beside) → Holds K b → b .store .phase ≡ atRest → (ds : List Call) → Holds (Living (b .free)) (beside (besideCall b Step) ds)
 living-run b h z ds = rw (first-step b h z) (run-holds (begun b) (living-holds b h z) ds)
 
-pub freed-between : {K : ℕ → Type 0} (b : Beside) → Holds K b → b .store .phase ≡ atRest → (ds : List Call) → after (b .store) (Step ∷ ds) .phase ≡ 0
+pub freed-between : {K : ℕ → Type 0} (b : Beside) → Holds K b → b .store .phase ≡ atRest → (ds : List Call) → after (b .store) (Step ∷ ds) .phase ≡ atRest
     → FreedBetween b (beside b (Step ∷ ds)) (leftIn (beside b (Step ∷ ds)))
 freed-between b h z ds back = ended (living-run b h z ds) (rw (beside-store b (Step ∷ ds)) back) b (λ q l. l)

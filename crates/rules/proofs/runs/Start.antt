@@ -10,6 +10,7 @@ use borrow.Author.Tests.{leb-true, eqb-true}
 use Rattle.rules.specs.Refusals.{Tested, refused, passed, check, answer}
 use Rattle.rules.specs.Memory.{null, frontier, halfOf, header}
 use Rattle.rules.specs.Control.{Store, Lengths, lengthsOf, newStore, nobody, halfAllowed, listAllowed, making, madeBy, make, walkLimit, globalCount, sessionCount, registerCount, lastLevel, leastLength, mostLength}
+use Rattle.rules.specs.Cycle.{stage}
 use Rattle.rules.specs.Phases.{otherHalf, sessionAt, absent}
 use Rattle.rules.specs.Free.{newFree, freeNobody, freeAbsent}
 use Rattle.rules.specs.Claims.{Made}
@@ -19,6 +20,7 @@ use Rattle.rules.proofs.memory.Lists.{all-same, zeros}
 use Rattle.rules.proofs.memory.Records.{Start}
 use Rattle.rules.proofs.memory.Empty.{empty-none, empty-filled}
 use Rattle.rules.proofs.memory.Total.{total-empty}
+use Rattle.rules.proofs.invariant.Stages.{stRest, stage-is}
 use Rattle.rules.proofs.invariant.Words.{In, ok-null, reg, freg, copied}
 use Rattle.rules.proofs.invariant.Groups.{Roots}
 use Rattle.rules.proofs.invariant.Sim.{Sim}
@@ -127,6 +129,9 @@ module _ (K : ℕ → Type 0) (to-come : (q : ℕ) → 0 < q → K q) (h0 h1 ws 
   never : (n : ℕ) → getD (s .sessions) n absent .attached ≡ true → ⊥
   never n e = true≢false (sym e ∙ detached n)
 
+  new-stage : stage (s .phase) ≡ stRest
+  new-stage = stage-is refl
+
   new-sim : Sim K m s newFree
   new-sim = record {
     range = new-range;
@@ -142,7 +147,7 @@ module _ (K : ℕ → Type 0) (to-come : (q : ℕ) → 0 < q → K q) (h0 h1 ws 
     values = record { ok = λ v i t. absurd (none-in t); ref = λ v i t. absurd (none-in t); plain = λ v i t. absurd (none-in t) };
     roots = new-roots;
     levels = record { allowed = λ n e. absurd (never n e) };
-    root-halves = roots-home (omega arith) (λ n k z. absurd (z (no-register n k))) (λ g z. absurd (z (zeros globalCount g)));
+    root-halves = roots-home (omega (arith, new-stage)) (λ n k z. absurd (z (no-register n k))) (λ g z. absurd (z (zeros globalCount g)));
     field-halves = record {
       home = λ a v i t. absurd (none-in t);
       away = λ a v i t. absurd (none-in t);
@@ -154,7 +159,7 @@ module _ (K : ℕ → Type 0) (to-come : (q : ℕ) → 0 < q → K q) (h0 h1 ws 
       empty = λ a. bare (otherHalf 0);
       spent = λ a. bare (otherHalf 0) ∙ sym (total-empty (s .memory) 0 (bare 0) (copied (s .memory)));
     };
-    agreement = agreement-early (omega arith);
+    agreement = agreement-early (omega (arith, new-stage));
     colours = record {
       at-rest = λ a v t. absurd (none-in t);
       at-reclaim = λ a v t. absurd (none-in t);
@@ -165,16 +170,16 @@ module _ (K : ℕ → Type 0) (to-come : (q : ℕ) → 0 < q → K q) (h0 h1 ws 
       shelled-below = λ a v t. absurd (none-in t);
       shelled = λ a b v t. absurd (none-in t);
     };
-    grey-list = list-idle (λ a. omega (arith, a .0));
-    cleaned = cleaned-idle (λ a. omega (arith, a .0));
-    walking = walking-idle (omega arith) (omega arith) (omega arith) (omega arith);
+    grey-list = list-idle (λ a. omega (arith, new-stage, a .0));
+    cleaned = cleaned-idle (λ a. omega (arith, new-stage, a .0));
+    walking = walking-idle (omega (arith, new-stage)) (omega (arith, new-stage)) (omega (arith, new-stage)) (omega (arith, new-stage));
     kept = record {
       to-come = λ q l. to-come q (rw no-records at l);
       registers = λ n k z. absurd (z (no-free-register n k));
       globals = λ g z. absurd (z (no-free-global g));
       fields = λ q i k z. absurd (z (rw no-records));
-      marked = λ a. absurd (omega arith);
-      left-12 = λ a. absurd (omega arith);
+      marked = λ a. absurd (omega (arith, new-stage));
+      left-12 = λ a. absurd (omega (arith, new-stage));
       left-0 = λ a v t. absurd (none-in t);
     };
   }

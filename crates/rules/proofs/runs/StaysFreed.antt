@@ -16,7 +16,7 @@ use Rattle.rules.specs.Tracking.{Beside, update, trackHalf, track, besid
 use Rattle.rules.specs.Claims.{Living, placesIn}
 use Rattle.rules.proofs.memory.Records.{Start}
 use Rattle.rules.proofs.memory.Decided.{start-decided}
-use Rattle.rules.proofs.invariant.Turns.{atRest}
+use Rattle.rules.specs.Cycle.{atRest}
 use Rattle.rules.proofs.invariant.Words.{Ok, ok-null, ok-start}
 use Rattle.rules.proofs.invariant.Places.{placed-sim}
 use Rattle.rules.proofs.runs.Call.{one-call}

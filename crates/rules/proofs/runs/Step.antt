@@ -1,19 +1,19 @@
 -- A collector step does the unit of its phase, passes its tests and keeps the invariant.
-use Prim.Native.Nat.{ℕ, _≤_}
+use Prim.Native.Nat.{ℕ, _≤_, zero-le}
 use mathlib.Core.Path.{_≡_, refl, _∙_}
 use native.Mathlib.Omega.{arith}
 use lib.ListN.{getD}
 use Rattle.rules.specs.Refusals.{answered}
 use Rattle.rules.specs.Control.{Store}
+use Rattle.rules.specs.Cycle.{lastPhase, atRest, atPreMark1, atPreMark2, atRootMark, atHeapMark, atAllocate, atPreCopy, atCopy, atPreFlip1, atPreFlip2, atRootFlip, atStackFlip, atReclaim}
 use Rattle.rules.specs.Collector.{units, handshake, step}
 use Rattle.rules.specs.Free.{Free}
 use Rattle.rules.specs.declared.Answer.the-variants.{Phase}
-use Rattle.rules.proofs.invariant.Turns.{atAllocate, atPreCopy, atReclaim}
 use Rattle.rules.proofs.Ranges.{in-range-tested}
-use Rattle.rules.proofs.memory.Cases.{eq-or, lt-or}
+use Rattle.rules.proofs.memory.Cases.{from-or}
+use Rattle.rules.proofs.invariant.Stages.{stage-is}
 use Rattle.rules.proofs.invariant.Sim.{Sim}
 use Rattle.rules.proofs.relation.Stepped.{Stepped}
-use Rattle.rules.proofs.phases.Moves.{pre-mark, pre-copy, pre-flip}
 use Rattle.rules.proofs.phases.Handshakes.{rest-stepped, handshake-stepped}
 use Rattle.rules.proofs.phases.RootFlip.{root-flip-stepped}
 use Rattle.rules.proofs.phases.StackFlip.{stack-flip-stepped}
@@ -27,28 +27,26 @@ module _ {K : ℕ → Type 0} {m : ℕ → ℕ} {s : Store} {f : Free} (h : Sim 
   abbrev Unit-of : ℕ → Type 0
   Unit-of ph = Stepped K m s f (getD units ph handshake s)
 
-  -- up to Allocate, and after it
-  first-units : (ph : ℕ) → s .phase ≡ ph → ph ≤ atAllocate → Unit-of ph
-  first-units ph p l =
-      eq-or ph 0 (λ e. rw e (rest-stepped h (p ∙ e)))
-      (λ n0. eq-or ph 1 (λ e. rw e (handshake-stepped h (pre-mark (omega arith) (omega arith))))
-      (λ n1. eq-or ph 2 (λ e. rw e (handshake-stepped h (pre-mark (omega arith) (omega arith))))
-      (λ n2. eq-or ph 3 (λ e. rw e (root-mark-stepped h (p ∙ e)))
-      (λ n3. eq-or ph 4 (λ e. rw e (heap-mark-stepped h (p ∙ e)))
-      (λ n4. let e : ph ≡ atAllocate = omega arith in rw e (allocate-shells-stepped h (p ∙ e)))))))
-
-  last-units : (ph : ℕ) → s .phase ≡ ph → ph ≤ atReclaim → atPreCopy ≤ ph → Unit-of ph
-  last-units ph p b l =
-      eq-or ph 6 (λ e. rw e (handshake-stepped h (pre-copy (p ∙ e))))
-      (λ n6. eq-or ph 7 (λ e. rw e (copy-stepped h (p ∙ e)))
-      (λ n7. eq-or ph 8 (λ e. rw e (handshake-stepped h (pre-flip (omega arith) (omega arith))))
-      (λ n8. eq-or ph 9 (λ e. rw e (handshake-stepped h (pre-flip (omega arith) (omega arith))))
-      (λ n9. eq-or ph 10 (λ e. rw e (root-flip-stepped h (p ∙ e)))
-      (λ n10. eq-or ph 11 (λ e. rw e (stack-flip-stepped h (p ∙ e)))
-      (λ n11. let e : ph ≡ atReclaim = omega arith in rw e (reclaim-stepped h (p ∙ e))))))))
+  -- by the number of the phase
+  each-unit : (ph : ℕ) → s .phase ≡ ph → ph ≤ lastPhase → Unit-of ph
+  each-unit ph p l =
+      from-or ph atRest zero-le (λ e. rw e (rest-stepped h (stage-is (p ∙ e))))
+      (λ l1. from-or ph atPreMark1 l1 (λ e. rw e (handshake-stepped h (omega (arith, stage-is (p ∙ e)))))
+      (λ l2. from-or ph atPreMark2 l2 (λ e. rw e (handshake-stepped h (omega (arith, stage-is (p ∙ e)))))
+      (λ l3. from-or ph atRootMark l3 (λ e. rw e (root-mark-stepped h (stage-is (p ∙ e))))
+      (λ l4. from-or ph atHeapMark l4 (λ e. rw e (heap-mark-stepped h (stage-is (p ∙ e))))
+      (λ l5. from-or ph atAllocate l5 (λ e. rw e (allocate-shells-stepped h (stage-is (p ∙ e))))
+      (λ l6. from-or ph atPreCopy l6 (λ e. rw e (handshake-stepped h (omega (arith, stage-is (p ∙ e)))))
+      (λ l7. from-or ph atCopy l7 (λ e. rw e (copy-stepped h (stage-is (p ∙ e))))
+      (λ l8. from-or ph atPreFlip1 l8 (λ e. rw e (handshake-stepped h (omega (arith, stage-is (p ∙ e)))))
+      (λ l9. from-or ph atPreFlip2 l9 (λ e. rw e (handshake-stepped h (omega (arith, stage-is (p ∙ e)))))
+      (λ l10. from-or ph atRootFlip l10 (λ e. rw e (root-flip-stepped h (stage-is (p ∙ e))))
+      (λ l11. from-or ph atStackFlip l11 (λ e. rw e (stack-flip-stepped h (stage-is (p ∙ e))))
+      (λ l12. from-or ph atReclaim l12 (λ e. rw e (reclaim-stepped h (stage-is (p ∙ e))))
+      (λ l13. absurd (omega arith))))))))))))))
 
   pub unit-stepped : Stepped K m s f (getD units (s .phase) handshake s)
-  unit-stepped = lt-or (s .phase) 6 (λ l. first-units (s .phase) refl (omega arith)) (last-units (s .phase) refl (h .range .phases))
+  unit-stepped = each-unit (s .phase) refl (h .range .phases)
 
   -- the step answers the phase after it
   pub step-passed : step s ≡ answered (unit-stepped .after) (Phase (unit-stepped .after .phase))

@@ -7,11 +7,12 @@ use native.Mathlib.Omega.{arith}
 use lib.ListN.{getD, length}
 use Rattle.rules.specs.Memory.{null}
 use Rattle.rules.specs.Control.{Store, registerCount, lastSession, lastLevel}
+use Rattle.rules.specs.Cycle.{stage}
 use Rattle.rules.specs.Phases.{otherHalf, sessionAt}
 use Rattle.rules.specs.Free.{Free, FreeSession, freeSession}
 use Rattle.rules.specs.declared.Session.{Session}
-use Rattle.rules.proofs.invariant.Turns.{atAllocate, atHeapMark, atRootFlip, atRootMark, atStackFlip}
 use Rattle.rules.proofs.memory.Cases.{bool-or}
+use Rattle.rules.proofs.invariant.Stages.{stRootMark, stHeapMark, stRootFlip, stStackFlip}
 use Rattle.rules.proofs.invariant.Words.{Ok, ok-null, Names, Clean}
 use Rattle.rules.proofs.invariant.Groups.{NoFlip}
 use Rattle.rules.proofs.invariant.Sim.{Sim}
@@ -21,10 +22,10 @@ use Rattle.rules.proofs.invariant.Spans.{Allowed}
 pub record WordFits (K : ℕ → Type 0) (m : ℕ → ℕ) (s : Store) (x : Session) (v q : ℕ) : Type 0 where
   pub ok : Ok (s .memory) v
   pub is : q ≡ m v
-  pub names : NoFlip (s .phase) → Names (s .current) v
-  pub marked : s .phase ≡ atStackFlip → x .scanned ≡ true → Names (otherHalf (s .current)) v
-  pub scanned : s .phase ≡ atHeapMark → x .scanned ≡ true → Clean (s .memory) (s .current) v
-  pub clean : atAllocate ≤ s .phase → s .phase ≤ atStackFlip → Clean (s .memory) (s .current) v
+  pub names : NoFlip (stage (s .phase)) → Names (s .current) v
+  pub marked : stage (s .phase) ≡ stStackFlip → x .scanned ≡ true → Names (otherHalf (s .current)) v
+  pub scanned : stage (s .phase) ≡ stHeapMark → x .scanned ≡ true → Clean (s .memory) (s .current) v
+  pub clean : stHeapMark < stage (s .phase) → stage (s .phase) ≤ stStackFlip → Clean (s .memory) (s .current) v
   pub kept : q ≢ null → K q
 
 -- it goes by the mark of the session alone
@@ -48,7 +49,7 @@ pub record SessionFits (K : ℕ → Type 0) (m : ℕ → ℕ) (s : Store) (x : S
   pub allowed : x .attached ≡ true → Allowed (s .phase) (x .level)
   pub idle : x .attached ≡ false → (k : ℕ) → getD (x .registers) k null ≡ null
   -- HeapMark marks a session only while the list is done
-  pub done : s .phase ≡ atHeapMark → x .attached ≡ true → x .scanned ≡ true → s .list .head ≡ s .list .tail
+  pub done : stage (s .phase) ≡ stHeapMark → x .attached ≡ true → x .scanned ≡ true → s .list .head ≡ s .list .tail
   pub words : x .attached ≡ true → (k : ℕ) → WordFits K m s x (getD (x .registers) k null) (getD (y .registers) k null)
   pub free-idle : x .attached ≡ false → (k : ℕ) → getD (y .registers) k null ≡ null
 
@@ -56,11 +57,11 @@ pub record SessionFits (K : ℕ → Type 0) (m : ℕ → ℕ) (s : Store) (x : S
 pub record GlobalFits (K : ℕ → Type 0) (m : ℕ → ℕ) (s : Store) (g v q : ℕ) : Type 0 where
   pub ok : Ok (s .memory) v
   pub is : q ≡ m v
-  pub names : NoFlip (s .phase) → Names (s .current) v
-  pub flipping : s .phase ≡ atRootFlip → g < s .walk .place → Names (otherHalf (s .current)) v
-  pub flipped : s .phase ≡ atStackFlip → Names (otherHalf (s .current)) v
-  pub below : s .phase ≡ atRootMark → g < s .walk .place → Clean (s .memory) (s .current) v
-  pub clean : atHeapMark ≤ s .phase → s .phase ≤ atStackFlip → Clean (s .memory) (s .current) v
+  pub names : NoFlip (stage (s .phase)) → Names (s .current) v
+  pub flipping : stage (s .phase) ≡ stRootFlip → g < s .walk .place → Names (otherHalf (s .current)) v
+  pub flipped : stRootFlip < stage (s .phase) → stage (s .phase) ≤ stStackFlip → Names (otherHalf (s .current)) v
+  pub below : stage (s .phase) ≡ stRootMark → g < s .walk .place → Clean (s .memory) (s .current) v
+  pub clean : stRootMark < stage (s .phase) → stage (s .phase) ≤ stStackFlip → Clean (s .memory) (s .current) v
   pub kept : q ≢ null → K q
 
 -- ---- a session that fits, attached or not
@@ -78,10 +79,10 @@ module _ {K : ℕ → Type 0} {m : ℕ → ℕ} {s : Store} {x : Session} {y : F
   pub fits-is : m null ≡ 0 → getD (y .registers) k null ≡ m (getD (x .registers) k null)
   fits-is z = each-word (λ v q. q ≡ m v) (sym z) (λ w. w .is)
 
-  pub fits-names : NoFlip (s .phase) → Names (s .current) (getD (x .registers) k null)
+  pub fits-names : NoFlip (stage (s .phase)) → Names (s .current) (getD (x .registers) k null)
   fits-names a = each-word (λ v q. Names (s .current) v) (λ n. absurd (n refl)) (λ w. w .names a)
 
-  pub fits-clean : atAllocate ≤ s .phase → s .phase ≤ atStackFlip → Clean (s .memory) (s .current) (getD (x .registers) k null)
+  pub fits-clean : stHeapMark < stage (s .phase) → stage (s .phase) ≤ stStackFlip → Clean (s .memory) (s .current) (getD (x .registers) k null)
   fits-clean a b = each-word (λ v q. Clean (s .memory) (s .current) v) (λ n. absurd (n refl)) (λ w. w .clean a b)
 
   pub fits-kept : getD (y .registers) k null ≢ null → K (getD (y .registers) k null)
@@ -108,7 +109,7 @@ module _ {K : ℕ → Type 0} {m : ℕ → ℕ} {s : Store} {f : Free} (h : Sim 
     ok = h .roots .global-ok g;
     is = h .roots .global-is g;
     names = λ u. h .root-halves .globals u g;
-    marked = λ e z. h .root-halves .flipped e g;
+    marked = λ e z. h .root-halves .flipped (omega arith) (omega arith) g;
     scanned = λ e z. h .cleaned .globals (omega arith) (omega arith) g;
     clean = λ u v. h .cleaned .globals (omega arith) v g;
     kept = h .kept .globals g;

@@ -8,6 +8,7 @@ use lib.ListN.{getD, set, length-set}
 use lib.Seq.{set-getD}
 use Rattle.rules.specs.Memory.{null}
 use Rattle.rules.specs.Control.{Store, withGlobals, lastGlobal}
+use Rattle.rules.specs.Cycle.{stage}
 use Rattle.rules.specs.Phases.{otherHalf}
 use Rattle.rules.specs.Free.{Free}
 use Rattle.rules.proofs.memory.Lists.{set-each}
@@ -45,16 +46,16 @@ module _ {K : ℕ → Type 0} {m : ℕ → ℕ} {s : Store} {f : Free} (h : Sim 
     global-is = each-global (λ j a b. b ≡ m a) (t .is) (r .global-is);
   }
 
-  global-halves : RootHalves (s .current) (s .phase) (s .walk .place) (s .sessions) (set (s .globals) g v)
+  global-halves : RootHalves (s .current) (stage (s .phase)) (s .walk .place) (s .sessions) (set (s .globals) g v)
   global-halves = let r = h .root-halves in record {
     regs = r .regs;
     globals = λ a. each-global (λ j u w. Names (s .current) u) (t .names a) (r .globals a);
     flipping = λ e. each-global (λ j u w. j < s .walk .place → Names (otherHalf (s .current)) u) (t .flipping e) (r .flipping e);
-    flipped = λ e. each-global (λ j u w. Names (otherHalf (s .current)) u) (t .flipped e) (r .flipped e);
+    flipped = λ lo hi. each-global (λ j u w. Names (otherHalf (s .current)) u) (t .flipped lo hi) (r .flipped lo hi);
     marked = r .marked;
   }
 
-  global-cleaned : Cleaned (s .memory) (s .current) (s .phase) (s .walk .place) (s .walk .field) (s .list .words) (s .list .head) (s .list .tail) (s .sessions) (set (s .globals) g v)
+  global-cleaned : Cleaned (s .memory) (s .current) (stage (s .phase)) (s .walk .place) (s .walk .field) (s .list .words) (s .list .head) (s .list .tail) (s .sessions) (set (s .globals) g v)
   global-cleaned = let r = h .cleaned in record {
     fields = r .fields;
     scanning = r .scanning;
@@ -66,7 +67,7 @@ module _ {K : ℕ → Type 0} {m : ℕ → ℕ} {s : Store} {f : Free} (h : Sim 
     registers = r .registers;
   }
 
-  global-kept : Kept K (s .memory) m (s .current) (s .phase) (f .records) (f .sessions) (set (f .globals) g q)
+  global-kept : Kept K (s .memory) m (s .current) (stage (s .phase)) (f .records) (f .sessions) (set (f .globals) g q)
   global-kept = let r = h .kept in record {
     to-come = r .to-come;
     registers = r .registers;

@@ -11,14 +11,15 @@ use borrow.Author.Tests.{ltb-true}
 use Rattle.rules.specs.Refusals.{answer}
 use Rattle.rules.specs.Memory.{Memory, half, halfOf, wordOf, header, word, refs, plains}
 use Rattle.rules.specs.Control.{Store}
+use Rattle.rules.specs.Cycle.{stage}
 use Rattle.rules.specs.Phases.{sessionAt, register}
 use Rattle.rules.specs.Calls as calls
 use Rattle.rules.specs.Calls.{isRegister}
 use Rattle.rules.specs.Free.{Free, freeLoad, freeRead, freeStretch}
 use Rattle.rules.specs.declared.Answer.the-variants.{Word}
-use Rattle.rules.proofs.invariant.Turns.{atHeapMark}
 use Rattle.rules.proofs.Ranges.{both}
 use Rattle.rules.proofs.memory.Records.{Start, Filled, start-inside, size-fields}
+use Rattle.rules.proofs.invariant.Stages.{stHeapMark}
 use Rattle.rules.proofs.invariant.Words.{plainOf}
 use Rattle.rules.proofs.invariant.Sim.{Sim}
 use Rattle.rules.proofs.relation.Alike.{Alike, Both, passed-both, both-check, both-check-eq, alike-done}
@@ -27,7 +28,7 @@ use Rattle.rules.proofs.sessions.Registers.{set-alike, held-fits}
 use Rattle.rules.proofs.sessions.Values.{Fields, record-values}
 
 module _ {K : ℕ → Type 0} {m : ℕ → ℕ} {s : Store} {f : Free} (h : Sim K m s f) where
-  list-done : (n : ℕ) → Attached s n → s .phase ≡ atHeapMark → sessionAt s n .scanned ≡ true → s .list .head ≡ s .list .tail
+  list-done : (n : ℕ) → Attached s n → stage (s .phase) ≡ stHeapMark → sessionAt s n .scanned ≡ true → s .list .head ≡ s .list .tail
   unfolding sessionAt
   list-done n a e = h .cleaned .scanned-done e n (a .attached)
 

@@ -10,16 +10,17 @@ use borrow.Author.Tests.{eq-eqb, ne-eqb, le-leb, lt-leb}
 use Rattle.rules.specs.Refusals.{passed}
 use Rattle.rules.specs.Memory.{Memory, null, halfOf, inHalf, replica}
 use Rattle.rules.specs.Control.{Store}
+use Rattle.rules.specs.Cycle.{stage}
 use Rattle.rules.specs.Phases.{otherHalf, fromspace}
 use Rattle.rules.specs.Barriers.{heapOf, pointerEQ, sameAt}
 use Rattle.rules.specs.Calls as calls
 use Rattle.rules.specs.Calls.{isRegister}
 use Rattle.rules.specs.Free.{Free, freeSame}
 use Rattle.rules.specs.declared.Session.{Session}
-use Rattle.rules.proofs.invariant.Turns.{atPreFlip1, atStackFlip}
 use Rattle.rules.proofs.memory.Cases.{eq-or, lt-or}
 use Rattle.rules.proofs.memory.Encoding.{half-below-2, only-other}
 use Rattle.rules.proofs.memory.Records.{start-nonnull}
+use Rattle.rules.proofs.invariant.Stages.{stCopy, stStackFlip, stReclaim, in-stage}
 use Rattle.rules.proofs.invariant.Words.{In, Ok, ok-null, ok-start, Names}
 use Rattle.rules.proofs.invariant.Groups.{Pair}
 use Rattle.rules.proofs.invariant.Sim.{Sim}
@@ -95,10 +96,10 @@ module _ {K : ℕ → Type 0} {m : ℕ → ℕ} {s : Store} {f : Free} (h : Sim 
 
   module _ {x : Session} {v q : ℕ} (t : WordFits K m s x v q) where
     -- from Flip on a record of fromspace has its replica; in Reclaim no word names fromspace
-    has-copy : atPreFlip1 ≤ s .phase → In M (fromspace s) v → Pair M m v (replica M v)
-    has-copy lo c = eq-or (s .phase) 12
+    has-copy : stCopy < stage (s .phase) → In M (fromspace s) v → Pair M m v (replica M v)
+    has-copy lo c = eq-or (stage (s .phase)) stReclaim
         (λ e. absurd (other-not h (sym (rw (from-other h e) at (c .side)) ∙ t .names (omega arith) (start-nonnull (c .start)))))
-        (λ n. let hi : s .phase ≤ atStackFlip = omega (arith, h .range .phases) in
+        (λ n. let hi : stage (s .phase) ≤ stStackFlip = omega (arith, in-stage (h .range)) in
         let c′ : In M (s .current) v = rw (from-current h n) at c in
         h .pairs .pair v c′ (has-replica h (omega arith) hi c′ (t .clean (omega arith) hi)))
 

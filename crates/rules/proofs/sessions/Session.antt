@@ -8,6 +8,7 @@ use lib.ListN.{getD, set, length, length-set}
 use lib.Seq.{set-getD}
 use Rattle.rules.specs.Memory.{null}
 use Rattle.rules.specs.Control.{Store, sessionCount, registerCount, lastSession, lastRegister, lastLevel}
+use Rattle.rules.specs.Cycle.{stage}
 use Rattle.rules.specs.Phases.{otherHalf, sessionAt, withSession, withRegisters, absent}
 use Rattle.rules.specs.Calls.{withRegister}
 use Rattle.rules.specs.Free.{Free, FreeSession, freeSession, withFreeSession, withFreeRegister, freeAbsent}
@@ -58,7 +59,7 @@ module _ {K : ℕ → Type 0} {m : ℕ → ℕ} {s : Store} {f : Free} (h : Sim 
     allowed = each (λ j a b. a .attached ≡ true → Allowed (s .phase) (a .level)) (t .allowed) (h .levels .allowed);
   }
 
-  new-halves : RootHalves (s .current) (s .phase) (s .walk .place) (set (s .sessions) n x) (s .globals)
+  new-halves : RootHalves (s .current) (stage (s .phase)) (s .walk .place) (set (s .sessions) n x) (s .globals)
   new-halves = let r = h .root-halves in record {
     regs = λ a j k. each (λ j u w. Names (s .current) (getD (u .registers) k null)) (fits-names t k a) (λ i. r .regs a i k) j;
     globals = r .globals;
@@ -68,7 +69,7 @@ module _ {K : ℕ → Type 0} {m : ℕ → ℕ} {s : Store} {f : Free} (h : Sim 
         (λ a b. t .words a k .marked e b) (λ i. r .marked e i k) j;
   }
 
-  new-cleaned : Cleaned (s .memory) (s .current) (s .phase) (s .walk .place) (s .walk .field) (s .list .words) (s .list .head) (s .list .tail) (set (s .sessions) n x) (s .globals)
+  new-cleaned : Cleaned (s .memory) (s .current) (stage (s .phase)) (s .walk .place) (s .walk .field) (s .list .words) (s .list .head) (s .list .tail) (set (s .sessions) n x) (s .globals)
   new-cleaned = let r = h .cleaned in record {
     fields = r .fields;
     scanning = r .scanning;
@@ -81,7 +82,7 @@ module _ {K : ℕ → Type 0} {m : ℕ → ℕ} {s : Store} {f : Free} (h : Sim 
     registers = λ a b j k. each (λ j u w. Clean (s .memory) (s .current) (getD (u .registers) k null)) (fits-clean t k a b) (λ i. r .registers a b i k) j;
   }
 
-  new-kept : Kept K (s .memory) m (s .current) (s .phase) (f .records) (set (f .sessions) n y) (f .globals)
+  new-kept : Kept K (s .memory) m (s .current) (stage (s .phase)) (f .records) (set (f .sessions) n y) (f .globals)
   new-kept = let r = h .kept in record {
     to-come = r .to-come;
     registers = λ j k. each (λ j u w. getD (w .registers) k null ≢ null → K (getD (w .registers) k null)) (fits-kept t k) (λ i. r .registers i k) j;

@@ -7,12 +7,13 @@ use native.Mathlib.Omega.{arith}
 use lib.ListN.{getD, length}
 use Rattle.rules.specs.Memory.{Memory, null, grey, black, colour, refs, plains}
 use Rattle.rules.specs.Control.{Store}
+use Rattle.rules.specs.Cycle.{stage}
 use Rattle.rules.specs.Phases.{otherHalf}
 use Rattle.rules.specs.Free.{Free, recordAt}
 use Rattle.rules.specs.declared.Session.{Session}
-use Rattle.rules.proofs.invariant.Turns.{atHeapMark, atPreFlip2, atStackFlip}
-use Rattle.rules.proofs.memory.Cases.{eq-or}
+use Rattle.rules.proofs.memory.Cases.{lt-or}
 use Rattle.rules.proofs.memory.Records.{Start, start-nonnull}
+use Rattle.rules.proofs.invariant.Stages.{stHeapMark, stPreFlip2, stStackFlip}
 use Rattle.rules.proofs.invariant.Words.{In, field, plainOf, recOf}
 use Rattle.rules.proofs.invariant.Groups.{NoFlip}
 use Rattle.rules.proofs.invariant.Sim.{Sim}
@@ -39,12 +40,12 @@ module _ {K : ℕ → Type 0} {m : ℕ → ℕ} {s : Store} {f : Free} (h : Sim 
   free-plains = h .identity .nplains v z
 
 -- the phases in which words may name the other half
-flips : (ph : ℕ) → (NoFlip ph → ⊥) → (atPreFlip2 ≤ ph) × (ph ≤ atStackFlip)
-flips ph c =
-    eq-or ph 9 (λ e. omega arith) (λ a. eq-or ph 10 (λ e. omega arith) (λ b. eq-or ph 11 (λ e. omega arith) (λ d. absurd (c (a, b, d)))))
+flips : (st : ℕ) → (NoFlip st → ⊥) → (stPreFlip2 ≤ st) × (st ≤ stStackFlip)
+flips st c =
+    lt-or st stPreFlip2 (λ a. absurd (c (omega arith))) (λ a. lt-or stStackFlip st (λ b. absurd (c (λ z. b))) (λ b. (a, b)))
 
 module _ {K : ℕ → Type 0} {m : ℕ → ℕ} {s : Store} {f : Free} (h : Sim K m s f) {x : Session} {v q : ℕ} (t : WordFits K m s x v q) (z : Start (s .memory) v)
-    (done : s .phase ≡ atHeapMark → x .scanned ≡ true → s .list .head ≡ s .list .tail) where
+    (done : stage (s .phase) ≡ stHeapMark → x .scanned ≡ true → s .list .head ≡ s .list .tail) where
   abbrev M : Memory
   M = s .memory
 
@@ -54,10 +55,10 @@ module _ {K : ℕ → Type 0} {m : ℕ → ℕ} {s : Store} {f : Free} (h : Sim 
   -- ---- of the current half
 
   -- while the list is done no record is grey
-  not-grey : s .phase ≡ atHeapMark → x .scanned ≡ true → In M (s .current) v → colour M v ≢ grey
+  not-grey : stage (s .phase) ≡ stHeapMark → x .scanned ≡ true → In M (s .current) v → colour M v ≢ grey
   not-grey p b c g = let w = h .grey-list .found (omega arith) (omega arith) v c g in omega (arith, done p b, w .1, w .2)
 
-  scanned-black : s .phase ≡ atHeapMark → x .scanned ≡ true → In M (s .current) v → colour M v ≡ black
+  scanned-black : stage (s .phase) ≡ stHeapMark → x .scanned ≡ true → In M (s .current) v → colour M v ≡ black
   scanned-black p b c =
       omega (arith, h .filled .colours z, t .scanned p b (start-nonnull z) (c .side), not-grey p b c)
 
@@ -74,8 +75,8 @@ module _ {K : ℕ → Type 0} {m : ℕ → ℕ} {s : Store} {f : Free} (h : Sim 
 
   -- ---- of the other half: what its original gives
   module _ (c : In M (otherHalf (s .current)) v) where
-    flipping : (atPreFlip2 ≤ s .phase) × (s .phase ≤ atStackFlip)
-    flipping = flips (s .phase) (λ a. other-not h (sym (c .side) ∙ t .names a (start-nonnull z)))
+    flipping : (stPreFlip2 ≤ stage (s .phase)) × (stage (s .phase) ≤ stStackFlip)
+    flipping = flips (stage (s .phase)) (λ a. other-not h (sym (c .side) ∙ t .names a (start-nonnull z)))
 
     away-ref : (i : ℕ) → i < refs M v → WordFits K m s x (field M v i) (getD (recOf (f .records) (m v) .refs) i null)
     away-ref i l =
@@ -85,7 +86,7 @@ module _ {K : ℕ → Type 0} {m : ℕ → ℕ} {s : Store} {f : Free} (h : Sim 
         record {
           ok = h .field-halves .away-ok hi v i c l;
           is = original-ref h hi c (omega arith) i l;
-          names = λ a. absurd (omega (arith, a .0, a .1, a .2));
+          names = λ a. absurd (omega (arith, a lo));
           marked = λ p b. away;
           scanned = λ p b. absurd (omega arith);
           clean = λ a b n e. absurd (other-not h (sym (away n) ∙ e));
