@@ -1,9 +1,9 @@
 -- Session calls: for each the tests in the table's order, then what it writes. Arguments in the script's order.
 use Prim.Native.Nat.{ℕ, _+_}
-use mathlib.Core.Bool.{Bool, true, false, not, _&&_}
+use mathlib.Core.Bool.{Bool, not, _&&_}
 use mathlib.Core.List.{List}
 use lib.Dec.{leb, ltb, eqb}
-use lib.ListN.{getD, set, take, drop, replicate}
+use lib.ListN.{getD, set, take, drop}
 use Rattle.rules.specs.Refusals.{Tested, passed, check, _>>=_, _>>_, Outcome, done, answered}
 use Rattle.rules.specs.Memory.{half, null, halfOf, wordOf, header, mostCount, word, refs, plains, refField, plainField, followed}
 use Rattle.rules.specs.Control.{Store, withMemory, withGlobals, inRange, lastSession, lastRegister, lastGlobal}

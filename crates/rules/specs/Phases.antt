@@ -3,11 +3,11 @@ use Prim.Native.Nat.{ℕ, suc, _-_}
 use mathlib.Core.Bool.{Bool, true, false, cond, not, _&&_, _||_}
 use mathlib.Core.List.{List, [], _∷_, map}
 use lib.Dec.{eqb}
-use lib.ListN.{getD, set, replicate}
+use lib.ListN.{getD, set}
 use Rattle.rules.specs.Memory.{null}
 use Rattle.rules.specs.Cycle.{atReclaim}
 unfoldable pub use Rattle.rules.specs.Cycle.{levelOf, nextPhase}
-use Rattle.rules.specs.Control.{Store, withSessions, registerCount}
+use Rattle.rules.specs.Control.{Store, withSessions, nobody}
 use Rattle.rules.specs.declared.Session.{Session}
 
 -- ---- fromspace and tospace
@@ -47,13 +47,17 @@ withMark x b = record { registers = x .registers; level = x .level; attached = x
 abbrev pub withLevel : Session → ℕ → Session
 withLevel x l = record { registers = x .registers; level = l; attached = x .attached; scanned = x .scanned }
 
+-- a session attached, or not
+abbrev pub withAttached : Session → Bool → Session
+withAttached x b = record { registers = x .registers; level = x .level; attached = b; scanned = x .scanned }
+
 -- "level becomes the phase's level, registers null, unscanned"
 abbrev pub attachedAt : ℕ → Session
-attachedAt l = record { registers = replicate registerCount null; level = l; attached = true; scanned = false }
+attachedAt l = withLevel (withAttached nobody true) l
 
 -- "registers null, level 0"; the scanned mark stays
 abbrev pub detached : Session → Session
-detached x = record { registers = replicate registerCount null; level = 0; attached = false; scanned = x .scanned }
+detached x = withMark nobody (x .scanned)
 
 -- no session has a scanned mark
 unfoldable pub unmarked : List Session → List Session
