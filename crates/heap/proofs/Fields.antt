@@ -1,53 +1,40 @@
 -- The fields of a sound record are words of its half; and the lengths of the halves stay.
 use Prim.Native.Nat.{ℕ, _+_, _≤_, _<_}
-use mathlib.Core.Path.{_≡_, _∙_, refl}
+use mathlib.Core.Path.{_≡_, refl}
 use mathlib.Core.Bool.{Bool, true, false, cond}
 use mathlib.Core.List.{List}
 use native.Mathlib.Omega.{arith}
 use lib.Dec.{eqb}
 use lib.ListN.{length, length-set}
-use lib.Seq.{length-sets}
-use Rattle.rules.specs.Memory.{Memory, half, frontier, halfOf, wordOf, withHalf, withFrontier, word, put, refs, plains, size, append, sound}
-use Rattle.rules.specs.Barriers.{putBoth}
+use Rattle.rules.specs.Memory.{Memory, half, halfOf, wordOf, withHalf, word, put, refs, plains, size, sound, header, shapeAt}
 use Rattle.heap.specs.View.{memory, Inside, HasPlain}
-use Rattle.heap.proofs.Soundness.{Found, sound-inside, header-inside}
+use Rattle.heap.proofs.Soundness.{sound-inside, header-inside}
 
 refs-any : (h0 h1 : List ℕ) (f0 f1 v : ℕ) → refs (memory h0 h1 f0 f1) v ≡ refs (memory h0 h1 0 0) v
 unfolding refs word half
 refs-any h0 h1 f0 f1 v = refl
 
 module _ (h0 h1 : List ℕ) (f0 f1 v : ℕ) (s : sound (memory h0 h1 f0 f1) v ≡ true) (a : f0 ≤ length h0) (b : f1 ≤ length h1) where
-  ref-counted : (i : ℕ) → i < refs (memory h0 h1 f0 f1) v → 3 + i < size (memory h0 h1 f0 f1) v
+  ref-counted : (i : ℕ) → i < refs (memory h0 h1 f0 f1) v → header + i < size (memory h0 h1 f0 f1) v
   unfolding size
   ref-counted i l = omega arith
 
-  plain-counted : (i : ℕ) → i < plains (memory h0 h1 f0 f1) v → 3 + refs (memory h0 h1 f0 f1) v + i < size (memory h0 h1 f0 f1) v
+  plain-counted : (i : ℕ) → i < plains (memory h0 h1 f0 f1) v → header + refs (memory h0 h1 f0 f1) v + i < size (memory h0 h1 f0 f1) v
   unfolding size
   plain-counted i l = omega arith
 
-  pub ref-inside : (i : ℕ) → i < refs (memory h0 h1 f0 f1) v → Inside h0 h1 v (3 + i)
-  ref-inside i l = sound-inside h0 h1 f0 f1 v s a b (3 + i) (ref-counted i l)
+  pub ref-inside : (i : ℕ) → i < refs (memory h0 h1 f0 f1) v → Inside h0 h1 v (header + i)
+  ref-inside i l = sound-inside h0 h1 f0 f1 v s a b (header + i) (ref-counted i l)
 
-  pub plain-inside : (i : ℕ) → i < plains (memory h0 h1 f0 f1) v → Inside h0 h1 v (3 + refs (memory h0 h1 f0 f1) v + i)
-  plain-inside i l = sound-inside h0 h1 f0 f1 v s a b (3 + refs (memory h0 h1 f0 f1) v + i) (plain-counted i l)
+  pub plain-inside : (i : ℕ) → i < plains (memory h0 h1 f0 f1) v → Inside h0 h1 v (header + refs (memory h0 h1 f0 f1) v + i)
+  plain-inside i l = sound-inside h0 h1 f0 f1 v s a b (header + refs (memory h0 h1 f0 f1) v + i) (plain-counted i l)
 
   pub has-plain : (i : ℕ) → i < plains (memory h0 h1 f0 f1) v → HasPlain h0 h1 v i
   has-plain i l =
       record {
-        shape = header-inside h0 h1 f0 f1 v s a b 0 (omega arith);
+        shape = header-inside h0 h1 f0 f1 v s a b shapeAt (omega arith);
         field = rw (← refs-any h0 h1 f0 f1 v) (plain-inside i l);
       }
-
--- the same of a record that was followed
-module _ (h0 h1 : List ℕ) (f0 f1 v : ℕ) {at r p : ℕ} (f : Found (memory h0 h1 f0 f1) v at r p) (a : f0 ≤ length h0) (b : f1 ≤ length h1) where
-  pub found-header : (j : ℕ) → j < 3 → Inside h0 h1 v j
-  found-header = header-inside h0 h1 f0 f1 v (f .sound) a b
-
-  pub found-ref : (i : ℕ) → i < r → Inside h0 h1 v (3 + i)
-  found-ref i l = ref-inside h0 h1 f0 f1 v (f .sound) a b i (rw (f .refs) at l)
-
-  pub found-plain : (i : ℕ) → i < p → Inside h0 h1 v (3 + r + i)
-  found-plain i l = rw (f .refs) (plain-inside h0 h1 f0 f1 v (f .sound) a b i (rw (f .plains) at l))
 
 -- ---- lengths
 
@@ -68,18 +55,3 @@ with-half-long M h ws e = let k = placed-long (eqb h 0) (M .half0) (M .half1) ws
 pub put-long : (M : Memory) (v j x : ℕ) → Long (put M v j x) M
 unfolding put
 put-long M v j x = with-half-long M (halfOf v) _ (length-set (half M (halfOf v)) (wordOf v + j) x)
-
-either-long : (b : Bool) (N P M : Memory) → Long N M → Long P M → Long (cond b N P) M
-either-long true N P M n p = n
-either-long false N P M n p = p
-
-pub put-both-long : (M : Memory) (v j x t k y : ℕ) → Long (putBoth M v j x t k y) M
-unfolding putBoth
-put-both-long M v j x t k y =
-    let a = put-long M v j x in
-    let b = put-long (put M v j x) t k y in
-    either-long (eqb t 0) (put M v j x) (put (put M v j x) t k y) M a (record { low = b .low ∙ a .low; high = b .high ∙ a .high })
-
-pub append-long : (M : Memory) (h : ℕ) (ws : List ℕ) → Long (append M h ws) M
-unfolding append withFrontier
-append-long M h ws = let k = with-half-long M h _ (length-sets (half M h) (frontier M h) ws) in record { low = k .low; high = k .high }

@@ -4,11 +4,10 @@ use mathlib.Core.Path.{_≡_, _∙_, sym, refl, ap}
 use mathlib.Core.Bool.{Bool, true, false, cond, _&&_, and-false}
 use mathlib.Core.List.{List}
 use native.Mathlib.Omega.{arith}
-use native.Mathlib.Nat.{add-zero}
 use lib.Dec.{leb}
 use lib.ListN.{length, getD}
 use borrow.Author.Tests.{le-leb, lt-leb, leb-true}
-use Rattle.rules.specs.Memory.{Memory, half, frontier, halfOf, wordOf, refsOf, plainsOf, word, colour, refs, plains, size, sound, follow}
+use Rattle.rules.specs.Memory.{Memory, half, frontier, halfOf, wordOf, header, shapeAt, colourAt, black, refsOf, plainsOf, word, colour, refs, plains, size, sound, follow}
 use Rattle.rules.specs.declared.Followed.{Followed}
 use Rattle.rules.specs.declared.Followed.the-variants.{Sound, Damage}
 use Rattle.rules.proofs.Ranges.{both}
@@ -22,34 +21,34 @@ unfolding follow sound
 follow-none M v l = rw (lt-leb 2 v l)
 
 module _ (M : Memory) (v at f : ℕ) (W : List ℕ) (a : at ≡ wordOf v) (w : W ≡ half M (halfOf v)) (e : f ≡ frontier M (halfOf v)) where
-  shape-word : word M v 0 ≡ getD W at 0
+  shape-word : word M v shapeAt ≡ getD W (at + shapeAt) 0
   unfolding word
-  shape-word = rw (add-zero, w, a)
+  shape-word = rw (w, a)
 
-  colour-word : colour M v ≡ getD W (at + 1) 0
+  colour-word : colour M v ≡ getD W (at + colourAt) 0
   unfolding colour word
   colour-word = rw (w, a)
 
-  end-word : wordOf v + size M v ≡ at + 3 + getD W at 0 / 256 + getD W at 0 % 256
+  end-word : wordOf v + size M v ≡ at + header + getD W (at + shapeAt) 0 / 256 + getD W (at + shapeAt) 0 % 256
   unfolding size refs plains refsOf plainsOf
   end-word = rw (shape-word, a) (omega arith)
 
-  pub follow-short : f < at + 3 → Damage ≡ follow M v
+  pub follow-short : f < at + header → Damage ≡ follow M v
   unfolding follow sound
   follow-short l =
       let s : frontier M (halfOf v) < wordOf v + size M v = omega (arith, end-word) in
       rw (lt-leb (wordOf v + size M v) (frontier M (halfOf v)) s, and-false)
 
-  sound-tests : 2 ≤ v → sound M v ≡ (leb (getD W at 0) 65535 && leb (getD W (at + 1) 0) 2 && leb (at + 3 + getD W at 0 / 256 + getD W at 0 % 256) f)
+  sound-tests : 2 ≤ v → sound M v ≡ (leb (getD W (at + shapeAt) 0) 65535 && leb (getD W (at + colourAt) 0) black && leb (at + header + getD W (at + shapeAt) 0 / 256 + getD W (at + shapeAt) 0 % 256) f)
   unfolding sound
   sound-tests n = rw (le-leb 2 v n, shape-word, colour-word, end-word, e)
 
-  pub follow-sound : 2 ≤ v → (leb (getD W at 0) 65535 && leb (getD W (at + 1) 0) 2 && leb (at + 3 + getD W at 0 / 256 + getD W at 0 % 256) f) ≡ true
-      → Sound at (getD W at 0 / 256) (getD W at 0 % 256) ≡ follow M v
+  pub follow-sound : 2 ≤ v → (leb (getD W (at + shapeAt) 0) 65535 && leb (getD W (at + colourAt) 0) black && leb (at + header + getD W (at + shapeAt) 0 / 256 + getD W (at + shapeAt) 0 % 256) f) ≡ true
+      → Sound at (getD W (at + shapeAt) 0 / 256) (getD W (at + shapeAt) 0 % 256) ≡ follow M v
   unfolding follow refs plains refsOf plainsOf
   follow-sound n b = rw (sound-tests n ∙ b, shape-word, a)
 
-  pub follow-damage : 2 ≤ v → (leb (getD W at 0) 65535 && leb (getD W (at + 1) 0) 2 && leb (at + 3 + getD W at 0 / 256 + getD W at 0 % 256) f) ≡ false
+  pub follow-damage : 2 ≤ v → (leb (getD W (at + shapeAt) 0) 65535 && leb (getD W (at + colourAt) 0) black && leb (at + header + getD W (at + shapeAt) 0 / 256 + getD W (at + shapeAt) 0 % 256) f) ≡ false
       → Damage ≡ follow M v
   unfolding follow
   follow-damage n b = rw (sound-tests n ∙ b)
@@ -128,9 +127,9 @@ module _ (h0 h1 : List ℕ) (f0 f1 v : ℕ) (s : sound (memory h0 h1 f0 f1) v �
       let e = ap length (half-any h0 h1 f0 f1 (halfOf v)) in
       record { named = sound-named (memory h0 h1 f0 f1) v s; below = omega arith }
 
-  in-header : (j : ℕ) → j < 3 → j < size (memory h0 h1 f0 f1) v
+  in-header : (j : ℕ) → j < header → j < size (memory h0 h1 f0 f1) v
   unfolding size
   in-header j l = omega arith
 
-  pub header-inside : (j : ℕ) → j < 3 → Inside h0 h1 v j
+  pub header-inside : (j : ℕ) → j < header → Inside h0 h1 v j
   header-inside j l = sound-inside j (in-header j l)

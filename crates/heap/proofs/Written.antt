@@ -9,14 +9,14 @@ use lib.Seq.{take-all, drop-drop, sets, sets-eq}
 use mathlib.Core.Bool.{true}
 use borrow.Author.Tests.{eq-eqb, ne-eqb, leb-true}
 use Rattle.rules.specs.Barriers.{roomIn}
-use Rattle.heap.proofs.Halves.{half-any, half-kept}
-use Rattle.rules.specs.Memory.{Memory, half, frontier, withHalf, withFrontier, newRecord, append}
+use Rattle.heap.proofs.Halves.{half-any}
+use Rattle.rules.specs.Memory.{Memory, half, frontier, withHalf, withFrontier, newRecord, append, header, shapeAt, colourAt, replicaAt}
 use Rattle.heap.specs.View.{memory}
 
-three : (n : ℕ) → n + 3 ≡ suc (suc (suc n))
+three : (n : ℕ) → n + header ≡ suc (suc (suc n))
 three n = omega arith
 
-pub record-length : (w c v n : ℕ) → length (newRecord w c v n) ≡ n + 3
+pub record-length : (w c v n : ℕ) → length (newRecord w c v n) ≡ n + header
 unfolding newRecord
 record-length w c v n = ap (λ (k : ℕ). suc (suc (suc k))) (length-replicate n 0) ∙ sym (three n)
 
@@ -25,12 +25,12 @@ record-length w c v n = ap (λ (k : ℕ). suc (suc (suc k))) (length-replicate n
 sets-start : (vs l : List ℕ) → length vs ≤ length l → sets l 0 vs ≡ vs ++ drop (length vs) l
 sets-start vs l h = let g : 0 + length vs ≤ length l = omega arith in sets-eq vs l 0 g ∙ ap (λ (k : ℕ). vs ++ drop k l) (zero-add (length vs))
 
-header-set : (part : List ℕ) (w c v n : ℕ) → set (set (set (replicate (n + 3) 0 ++ drop (n + 3) part) 0 w) 1 c) 2 v ≡ newRecord w c v n ++ drop (n + 3) part
+header-set : (part : List ℕ) (w c v n : ℕ) → set (set (set (replicate (n + header) 0 ++ drop (n + header) part) shapeAt w) colourAt c) replicaAt v ≡ newRecord w c v n ++ drop (n + header) part
 unfolding newRecord
 header-set part w c v n = rw (three n)
 
-pub record-written : (part : List ℕ) (w c v n : ℕ) → n + 3 ≤ length part
-    → set (set (set (replicate (n + 3) 0 ++ drop (n + 3) part) 0 w) 1 c) 2 v ≡ sets part 0 (newRecord w c v n)
+pub record-written : (part : List ℕ) (w c v n : ℕ) → n + header ≤ length part
+    → set (set (set (replicate (n + header) 0 ++ drop (n + header) part) shapeAt w) colourAt c) replicaAt v ≡ sets part 0 (newRecord w c v n)
 record-written part w c v n h =
     let e = record-length w c v n in
     let g : length (newRecord w c v n) ≤ length part = omega arith in
@@ -61,7 +61,7 @@ back a xs ys = take a xs ++ (ys ++ drop (length xs - a) (drop a xs))
 abbrev lent : ℕ → List ℕ → List ℕ
 lent a xs = take (length xs - a) (drop a xs)
 
-record-back : {ys : List ℕ} (a : ℕ) (xs : List ℕ) (w c v n : ℕ) → a + (n + 3) ≤ length xs
+record-back : {ys : List ℕ} (a : ℕ) (xs : List ℕ) (w c v n : ℕ) → a + (n + header) ≤ length xs
     → ys ≡ sets (lent a xs) 0 (newRecord w c v n) → back a xs ys ≡ sets xs a (newRecord w c v n)
 record-back a xs w c v n h e = rw e (part-back a xs (newRecord w c v n) (rw (record-length w c v n) h))
 
@@ -76,13 +76,13 @@ module _ (h0 h1 : List ℕ) (f0 f1 h at : ℕ) where
   unfolding half
   room-high n r e = rw (ne-eqb h 0 e) at r
 
-  pub placed-low : {ys : List ℕ} (w c v n : ℕ) → at + (n + 3) ≤ length h0 → h ≡ 0 → ys ≡ sets (lent at h0) 0 (newRecord w c v n)
+  pub placed-low : {ys : List ℕ} (w c v n : ℕ) → at + (n + header) ≤ length h0 → h ≡ 0 → ys ≡ sets (lent at h0) 0 (newRecord w c v n)
       → memory (back at h0 ys) h1 f0 f1
       ≡ withHalf (memory h0 h1 f0 f1) h (sets (half (memory h0 h1 f0 f1) h) at (newRecord w c v n))
   unfolding withHalf half
   placed-low w c v n r z e = rw (eq-eqb h 0 z, record-back at h0 w c v n r e)
 
-  pub placed-high : {ys : List ℕ} (w c v n : ℕ) → at + (n + 3) ≤ length h1 → (h ≡ 0 → ⊥) → ys ≡ sets (lent at h1) 0 (newRecord w c v n)
+  pub placed-high : {ys : List ℕ} (w c v n : ℕ) → at + (n + header) ≤ length h1 → (h ≡ 0 → ⊥) → ys ≡ sets (lent at h1) 0 (newRecord w c v n)
       → memory h0 (back at h1 ys) f0 f1
       ≡ withHalf (memory h0 h1 f0 f1) h (sets (half (memory h0 h1 f0 f1) h) at (newRecord w c v n))
   unfolding withHalf half
@@ -92,20 +92,15 @@ module _ (h0 h1 : List ℕ) (f0 f1 h at : ℕ) where
 
 -- the room that the rules ask for is the room that append_record asks for
 pub room-known : (h0 h1 : List ℕ) (f0 f1 h r p : ℕ) → roomIn (memory h0 h1 f0 f1) h r p ≡ true
-    → frontier (memory h0 h1 f0 f1) h + (r + p + 3) ≤ length (half (memory h0 h1 0 0) h)
+    → frontier (memory h0 h1 f0 f1) h + (r + p + header) ≤ length (half (memory h0 h1 0 0) h)
 unfolding roomIn
 room-known h0 h1 f0 f1 h r p e =
-    let l : frontier (memory h0 h1 f0 f1) h + (3 + r + p) ≤ length (half (memory h0 h1 f0 f1) h) = leb-true _ _ e in
+    let l : frontier (memory h0 h1 f0 f1) h + (header + r + p) ≤ length (half (memory h0 h1 f0 f1) h) = leb-true _ _ e in
     let k = ap length (half-any h0 h1 f0 f1 h) in
     omega arith
 
--- it stays where the lengths stay
-pub room-kept : (h0 h1 k0 k1 : List ℕ) (h n : ℕ) → length k0 ≡ length h0 → length k1 ≡ length h1
-    → n ≤ length (half (memory h0 h1 0 0) h) → n ≤ length (half (memory k0 k1 0 0) h)
-room-kept h0 h1 k0 k1 h n a b l = rw (half-kept h0 h1 k0 k1 h a b) l
-
 -- the record put at the frontier, which moves past it, is the record appended
 pub appended : {N : Memory} (M : Memory) (h w c v n : ℕ) → N ≡ withHalf M h (sets (half M h) (frontier M h) (newRecord w c v n))
-    → withFrontier N h (frontier M h + (n + 3)) ≡ append M h (newRecord w c v n)
+    → withFrontier N h (frontier M h + (n + header)) ≡ append M h (newRecord w c v n)
 unfolding append
 appended M h w c v n e = rw (record-length w c v n, e)

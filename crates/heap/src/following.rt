@@ -7,6 +7,11 @@ ghost use Rattle.rules.specs.Memory.{frontier, halfOf, follow};
 ghost use Rattle.heap.specs.View.{memory};
 use super::words::half_of;
 use super::words::word_of;
+use crate::BLACK;
+use crate::COLOUR_AT;
+use crate::HEADER;
+use crate::MOST_SHAPE;
+use crate::SHAPE_AT;
 use rules::Followed;
 
 // The frontier of the half that a reference is in.
@@ -27,15 +32,15 @@ pub fn follow<'a>(h0: &'a [u32], h1: &'a [u32], f0: usize, f1: usize, v: u32) ->
     let at = word_of(v);
     let half = half_of(h0, h1, v);
     let frontier = frontier_of(f0, f1, v);
-    if frontier < at + 3 {
+    if frontier < at + HEADER {
         return Followed::Damage;
     }
-    let shape = half[at];
-    let colour = half[at + 1];
+    let shape = half[at + SHAPE_AT];
+    let colour = half[at + COLOUR_AT];
     let r = shape / 256;
     let p = shape % 256;
-    let end = at + 3 + (r as usize) + (p as usize);
-    if (shape <= 65535) & (colour <= 2) & (end <= frontier) {
+    let end = at + HEADER + (r as usize) + (p as usize);
+    if (shape <= MOST_SHAPE) & (colour <= BLACK) & (end <= frontier) {
         Followed::Sound(at, r, p)
     } else {
         Followed::Damage

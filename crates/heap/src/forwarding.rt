@@ -6,6 +6,7 @@ ghost use Rattle.rules.specs.Barriers.{to};
 ghost use Rattle.heap.specs.View.{heap, checked, Within};
 use crate::Bounds;
 use crate::Checked;
+use crate::REPLICA_AT;
 use crate::following::follow;
 use crate::words::get_word;
 use rules::Followed;
@@ -32,7 +33,7 @@ pub(crate) fn other_copy<'a>(b: Bounds, h0: &'a [u32], h1: &'a [u32], v: u32) ->
     let Followed::Sound(_, _, _) = follow(h0, h1, b.frontier0, b.frontier1, v) else {
         return Checked::Damage;
     };
-    let t = get_word(h0, h1, v, 2);
+    let t = get_word(h0, h1, v, REPLICA_AT);
     if t == 0 {
         Checked::Word(v)
     } else {

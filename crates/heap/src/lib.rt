@@ -10,6 +10,24 @@ pub mod shades;
 pub mod stores;
 pub mod words;
 
+// The words of a record before its fields, and which of them is the shape, the colour and the replica.
+pub const HEADER: usize = 3;
+
+pub const SHAPE_AT: usize = 0;
+
+pub const COLOUR_AT: usize = 1;
+
+pub const REPLICA_AT: usize = 2;
+
+// The colours, and the largest shape word.
+pub const WHITE: u32 = 0;
+
+pub const GREY: u32 = 1;
+
+pub const BLACK: u32 = 2;
+
+pub const MOST_SHAPE: u32 = 65535;
+
 // Where the records of each half end, which half is fromspace, and the end and the length of the grey list.
 pub struct Bounds {
     pub frontier0: usize,

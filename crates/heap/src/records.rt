@@ -4,8 +4,12 @@ ghost use Prim.Native.Nat.{ℕ, _+_, _≤_};
 ghost use mathlib.Core.List.{_++_};
 ghost use lib.ListN.{length, drop, replicate};
 ghost use lib.Seq.{sets};
-ghost use Rattle.rules.specs.Memory.{half, withHalf, newRecord};
+ghost use Rattle.rules.specs.Memory.{half, withHalf, header, newRecord};
 ghost use Rattle.heap.specs.View.{memory};
+use crate::COLOUR_AT;
+use crate::HEADER;
+use crate::REPLICA_AT;
+use crate::SHAPE_AT;
 
 // Zeros over the first n words.
 fn clear_words(part: &mut [u32], n: usize)
@@ -21,13 +25,13 @@ fn clear_words(part: &mut [u32], n: usize)
 
 // A record of n zero fields at the start of a lent part.
 fn write_record(part: &mut [u32], w: u32, colour: u32, replica: u32, n: usize)
-    requires { ⌜ n + 3 ≤ length (now part) ⌝ }
+    requires { ⌜ n + header ≤ length (now part) ⌝ }
     ensures { λ _. ⌜ now (part .exit) ≡ sets (now (part .entry)) 0 (newRecord w colour replica n) ⌝ }
 {
-    clear_words(part, n + 3);
-    part[0] = w;
-    part[1] = colour;
-    part[2] = replica;
+    clear_words(part, n + HEADER);
+    part[SHAPE_AT] = w;
+    part[COLOUR_AT] = colour;
+    part[REPLICA_AT] = replica;
 }
 
 // A record of n zero fields at a word of half h: only the part from there on is lent on.
@@ -41,7 +45,7 @@ pub fn append_record(
     replica: u32,
     n: usize,
 )
-    requires { ⌜ at + (n + 3) ≤ length (half (memory (now h0) (now h1) 0 0) h) ⌝ }
+    requires { ⌜ at + (n + header) ≤ length (half (memory (now h0) (now h1) 0 0) h) ⌝ }
     ensures { λ _. ⌜ ((f0 f1 : ℕ) → memory (now (h0 .exit)) (now (h1 .exit)) f0 f1
         ≡ withHalf (memory (now (h0 .entry)) (now (h1 .entry)) f0 f1) h
         (sets (half (memory (now (h0 .entry)) (now (h1 .entry)) f0 f1) h) at (newRecord w colour replica n))) ⌝ }

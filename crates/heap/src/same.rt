@@ -4,6 +4,7 @@ ghost use Rattle.rules.specs.Barriers.{pointerEQ, sameAt};
 ghost use Rattle.heap.specs.View.{heap, compared, replicaIs, Within};
 use crate::Bounds;
 use crate::Compared;
+use crate::REPLICA_AT;
 use crate::following::follow;
 use crate::forwarding::in_half;
 use crate::words::get_word;
@@ -17,7 +18,7 @@ fn replica_is<'a>(b: Bounds, h0: &'a [u32], h1: &'a [u32], p: u32, q: u32) -> Co
     let Followed::Sound(_, _, _) = follow(h0, h1, b.frontier0, b.frontier1, p) else {
         return Compared::Damage;
     };
-    let t = get_word(h0, h1, p, 2);
+    let t = get_word(h0, h1, p, REPLICA_AT);
     Compared::Equal(t == q)
 }
 

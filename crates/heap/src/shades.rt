@@ -3,7 +3,9 @@ ghost use mathlib.Core.Path.{_≡_};
 ghost use Rattle.rules.specs.Barriers.{toShade, shading, barrierShade};
 ghost use Rattle.heap.specs.View.{heap, checked, Within};
 use crate::Bounds;
+use crate::COLOUR_AT;
 use crate::Checked;
+use crate::WHITE;
 use crate::following::follow;
 use crate::words::get_word;
 use rules::Followed;
@@ -19,8 +21,8 @@ pub fn to_shade<'a>(b: Bounds, h0: &'a [u32], h1: &'a [u32], v: u32) -> Checked
     let Followed::Sound(_, _, _) = follow(h0, h1, b.frontier0, b.frontier1, v) else {
         return Checked::Damage;
     };
-    let colour = get_word(h0, h1, v, 1);
-    if colour == 0 {
+    let colour = get_word(h0, h1, v, COLOUR_AT);
+    if colour == WHITE {
         Checked::Word(v)
     } else {
         Checked::Word(0)

@@ -1,12 +1,13 @@
 // What stores and puts write, by the session's level.
 ghost use mathlib.Core.Path.{_≡_};
 ghost use mathlib.Core.Bool.{cond};
-ghost use Rattle.rules.specs.Memory.{refs, plains};
+ghost use Rattle.rules.specs.Memory.{replicaAt, refs, plains};
 ghost use Rattle.rules.specs.Barriers.{replicaFor, ownWord, replicaWord, storeWrites, putWrites};
 ghost use Rattle.heap.specs.View.{heap, checked, planned, Within, Inside};
 use crate::Bounds;
 use crate::Checked;
 use crate::Planned;
+use crate::REPLICA_AT;
 use crate::following::follow;
 use crate::forwarding::forward;
 use crate::forwarding::in_half;
@@ -34,10 +35,10 @@ pub fn replica_for<'a>(
     v: u32,
     i: u32,
 ) -> Checked
-    requires { ⌜ Within b (now h0) (now h1) × Inside (now h0) (now h1) v 2 ⌝ }
+    requires { ⌜ Within b (now h0) (now h1) × Inside (now h0) (now h1) v replicaAt ⌝ }
     ensures { λ r. ⌜ checked r ≡ replicaFor (heap b (now (h0 .entry)) (now (h1 .entry)) .memory) (cond plain plains refs) l v i ⌝ }
 {
-    let t = get_word(h0, h1, v, 2);
+    let t = get_word(h0, h1, v, REPLICA_AT);
     if !(4 <= l) | (t == 0) {
         return Checked::Word(0);
     }
@@ -107,7 +108,7 @@ pub fn store_writes<'a>(
     i: u32,
     q: u32,
 ) -> Planned
-    requires { ⌜ Within b (now h0) (now h1) × Inside (now h0) (now h1) v 2 ⌝ }
+    requires { ⌜ Within b (now h0) (now h1) × Inside (now h0) (now h1) v replicaAt ⌝ }
     ensures { λ r. ⌜ planned r ≡ storeWrites (heap b (now (h0 .entry)) (now (h1 .entry))) l v i q ⌝ }
 {
     let Checked::Word(w) = barrier_shade(b, h0, h1, l, q) else {

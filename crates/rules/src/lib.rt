@@ -1,8 +1,11 @@
 // The plain types that the rules (specs/) and the code above share. This crate has no function.
 
+// "eight registers"
+pub const REGISTERS: usize = 8;
+
 // A session: "eight registers, a level and a scanned mark", and whether it is attached.
 pub struct Session {
-    pub registers: [u32; 8],
+    pub registers: [u32; REGISTERS],
     pub level: u32,
     pub attached: bool,
     pub scanned: bool,

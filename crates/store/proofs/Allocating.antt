@@ -8,7 +8,7 @@ use lib.Dec.{leb}
 use lib.ListN.{length}
 use borrow.Author.Tests.{le-leb, lt-leb, leb-true, eq-eqb, ne-eqb}
 use Rattle.rules.specs.Refusals.{passed, refusalOf, done}
-use Rattle.rules.specs.Memory.{half, frontier}
+use Rattle.rules.specs.Memory.{half, frontier, header}
 use Rattle.rules.specs.Control.{Store, withMemory}
 use Rattle.rules.specs.Phases.{sessionAt}
 use Rattle.rules.specs.Barriers.{roomIn, allocationRoom, allocated, allocatedReference}
@@ -34,15 +34,15 @@ module _ (c : Control) (h0 h1 l : List ℕ) (k : InRange (view c h0 h1 l)) where
 -- ---- the test of room
 
 module _ (s : Store) (l r p n : ℕ) (f0 : n ≡ length (s .memory .half0)) (f1 : n ≡ length (s .memory .half1)) where
-  pub room-two : 2 < l → (leb (s .memory .frontier0 + (3 + r + p)) n && leb (s .memory .frontier1 + (3 + r + p)) n) ≡ allocationRoom s l r p
+  pub room-two : 2 < l → (leb (s .memory .frontier0 + (header + r + p)) n && leb (s .memory .frontier1 + (header + r + p)) n) ≡ allocationRoom s l r p
   unfolding allocationRoom roomIn frontier half
   room-two g = rw (lt-leb l 2 g, ← f0, ← f1)
 
-  pub room-low : l ≤ 2 → s .current ≡ 0 → leb (s .memory .frontier0 + (3 + r + p)) n ≡ allocationRoom s l r p
+  pub room-low : l ≤ 2 → s .current ≡ 0 → leb (s .memory .frontier0 + (header + r + p)) n ≡ allocationRoom s l r p
   unfolding allocationRoom roomIn frontier half
   room-low g z = rw (le-leb l 2 g, eq-eqb (s .current) 0 z, ← f0)
 
-  pub room-high : l ≤ 2 → (s .current ≡ 0 → ⊥) → leb (s .memory .frontier1 + (3 + r + p)) n ≡ allocationRoom s l r p
+  pub room-high : l ≤ 2 → (s .current ≡ 0 → ⊥) → leb (s .memory .frontier1 + (header + r + p)) n ≡ allocationRoom s l r p
   unfolding allocationRoom roomIn frontier half
   room-high g z = rw (le-leb l 2 g, ne-eqb (s .current) 0 z, ← f1)
 

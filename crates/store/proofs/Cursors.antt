@@ -5,7 +5,7 @@ use mathlib.Core.List.{List, []}
 use native.Mathlib.Omega.{arith}
 use lib.ListN.{length, replicate, length-replicate}
 use Rattle.rules.specs.Refusals.{Tested, Outcome}
-use Rattle.rules.specs.Memory.{withFrontier, forward}
+use Rattle.rules.specs.Memory.{withFrontier, forward, header}
 use Rattle.rules.specs.Control.{Store, withMemory, withWalk, withCurrent, newStore}
 use Rattle.rules.specs.Phases.{fromspace, tospace, moveOn}
 use Rattle.rules.specs.Barriers.{Heap, heapOf, to}
@@ -48,7 +48,7 @@ some = newStore (lengths 0 0 0) [] [] []
 
 -- the header of a record found
 pub header-of : {c : Cursor} {h0 h1 : List ℕ} {v at r p : ℕ} → Ready c h0 h1 → Found (memory h0 h1 (c .frontier0) (c .frontier1)) v at r p
-    → (j : ℕ) → j < 3 → Inside h0 h1 v j
+    → (j : ℕ) → j < header → Inside h0 h1 v j
 header-of {v = v} k f j l = header-inside _ _ _ _ v (f .sound) (k .low) (k .high) j l
 
 -- ---- what a unit of work leaves

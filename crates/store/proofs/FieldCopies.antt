@@ -6,7 +6,7 @@ use native.Mathlib.Omega.{arith}
 use lib.Dec.{leb, ltb, eqb}
 use borrow.Author.Tests.{leb-true, leb-false, lt-ltb, le-ltb}
 use Rattle.rules.specs.Refusals.{refused, passed, _>>=_, Outcome, answer}
-use Rattle.rules.specs.Memory.{Memory, word, put, refs, plains, replica, sound, followed, forward}
+use Rattle.rules.specs.Memory.{Memory, word, put, refs, plains, replica, sound, followed, forward, header}
 use Rattle.rules.specs.Control.{Store, withMemory, withWalk}
 use Rattle.rules.specs.Phases.{tospace, moveOn}
 use Rattle.rules.specs.Collector.{walked, below, pastRecord, copyRef, copyPlain, copyField, copy}
@@ -28,13 +28,13 @@ module _ (s : Store) (v t i : ℕ) where
     unfolding copyRef
     ref-short l = rw (← c, le-ltb i n l)
 
-    module _ {q : ℕ} (l : i < n) (w : q ≡ word (s .memory) v (3 + i)) where
+    module _ {q : ℕ} (l : i < n) (w : q ≡ word (s .memory) v (header + i)) where
       pub ref-lost : forward (s .memory) (tospace s) q ≡ refused 12
           → record { store = s; reply = answer (Refused 12) } ≡ stepped s (copyRef s v t i >>= nextField s)
       unfolding copyRef
       ref-lost f = rw (← c, lt-ltb i n l, ← w, f)
 
-      pub ref-copied : {N : Memory} {x : ℕ} → forward (s .memory) (tospace s) q ≡ passed x → N ≡ put (s .memory) t (3 + i) x
+      pub ref-copied : {N : Memory} {x : ℕ} → forward (s .memory) (tospace s) q ≡ passed x → N ≡ put (s .memory) t (header + i) x
           → went (withWalk (withMemory s N) (s .walk .place) (s .walk .field + 1)) ≡ stepped s (copyRef s v t i >>= nextField s)
       unfolding copyRef
       ref-copied f p = rw (← c, lt-ltb i n l, ← w, f, ← p)
@@ -45,7 +45,7 @@ module _ (s : Store) (v t i : ℕ) where
     plain-short l = rw (← c, le-ltb i m l)
 
     pub plain-copied : {N : Memory} {r n x : ℕ} → i < m → r ≡ refs (s .memory) v → n ≡ refs (s .memory) t
-        → x ≡ word (s .memory) v (3 + r + i) → N ≡ put (s .memory) t (3 + n + i) x
+        → x ≡ word (s .memory) v (header + r + i) → N ≡ put (s .memory) t (header + n + i) x
         → went (withWalk (withMemory s N) (s .walk .place) (s .walk .field + 1)) ≡ stepped s (copyPlain s v t i >>= nextField s)
     unfolding copyPlain
     plain-copied {x = x} l a b w p = rw (← c, lt-ltb i m l, ← b, ← a, ← w, ← p)
@@ -93,7 +93,7 @@ module _ (s : Store) where
     copy-lost d = rw (b, ← w, d)
 
     module _ {k r p t : ℕ} (f : Found (s .memory) v k r p) (y : t ≡ replica (s .memory) v) where
-      pub copy-passes : (eqb t 0 || leb (r + p) (s .walk .field)) ≡ true → went (withWalk s (s .walk .place + (r + p + 3)) 0) ≡ stepped s (copy s)
+      pub copy-passes : (eqb t 0 || leb (r + p) (s .walk .field)) ≡ true → went (withWalk s (s .walk .place + (r + p + header)) 0) ≡ stepped s (copy s)
       unfolding copy followed pastRecord
       copy-passes x =
           rw (b, ← w, f .sound, size-found f, ← y, ← f .refs, ← f .plains, none-left (eqb t 0) (r + p) (s .walk .field) x)

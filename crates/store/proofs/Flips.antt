@@ -7,7 +7,7 @@ use lib.ListN.{length, getD, set}
 use borrow.Author.Tests.{lt-ltb, le-ltb, not-true, not-false}
 use Rattle.rules.specs.Refusals.{refused, passed}
 use Rattle.rules.specs.Memory.{forward}
-use Rattle.rules.specs.Control.{Store, withWalk, withGlobals, withCurrent}
+use Rattle.rules.specs.Control.{Store, withWalk, withGlobals, withCurrent, sessionCount}
 use Rattle.rules.specs.Phases.{tospace, absent, sessionAt, withSession, withRegisters, withMark, lowestUnmarked, moveOn}
 use Rattle.rules.specs.Collector.{rootFlip, forwardAll, stackFlip}
 use Rattle.store.specs.Steps.{went, stepped}
@@ -39,17 +39,17 @@ module _ (s : Store) where
     unfolding rootFlip
     root-flips f = rw (lt-ltb (s .walk .place) 32 l, ← g, f)
 
-  module _ {n : ℕ} (m : n ≡ lowestUnmarked (s .sessions)) (k : length (s .sessions) ≡ 16) where
-    pub stacks-done : {h : ℕ} → 16 ≤ n → h ≡ tospace s → went (moveOn (withCurrent s h)) ≡ stepped s (stackFlip s)
+  module _ {n : ℕ} (m : n ≡ lowestUnmarked (s .sessions)) (k : length (s .sessions) ≡ sessionCount) where
+    pub stacks-done : {h : ℕ} → sessionCount ≤ n → h ≡ tospace s → went (moveOn (withCurrent s h)) ≡ stepped s (stackFlip s)
     unfolding stackFlip moveOn
-    stacks-done l h = rw (← m, k, le-ltb n 16 l, h)
+    stacks-done l h = rw (← m, k, le-ltb n sessionCount l, h)
 
-    module _ {vs : List ℕ} (l : n < 16) (g : vs ≡ getD (s .sessions) n absent .registers) where
+    module _ {vs : List ℕ} (l : n < sessionCount) (g : vs ≡ getD (s .sessions) n absent .registers) where
       pub stack-lost : forwardAll (s .memory) (tospace s) vs ≡ refused 12 → worked s (Refused 12) ≡ stepped s (stackFlip s)
       unfolding stackFlip sessionAt
-      stack-lost f = rw (← m, k, lt-ltb n 16 l, ← g, f)
+      stack-lost f = rw (← m, k, lt-ltb n sessionCount l, ← g, f)
 
       pub stack-flips : {x : Stack} {ws : List ℕ} → forwardAll (s .memory) (tospace s) vs ≡ passed ws → registers x ≡ ws
           → went (withSession s n (withMark (withRegisters (sessionAt s n) (registers x)) true)) ≡ stepped s (stackFlip s)
       unfolding stackFlip sessionAt
-      stack-flips f e = rw (← m, k, lt-ltb n 16 l, ← g, f, e)
+      stack-flips f e = rw (← m, k, lt-ltb n sessionCount l, ← g, f, e)

@@ -9,7 +9,7 @@ use lib.ListN.{length, length-map, getD, set, take}
 use lib.Seq.{getD-take, length-take-le, sets}
 use borrow.Author.Tests.{lt-ltb, le-ltb, le-leb, lt-leb, leb-true, leb-false, not-true, not-false}
 use Rattle.rules.specs.Refusals.{Tested, refused, passed}
-use Rattle.rules.specs.Memory.{Memory, word, put, refs, sound, follow, followed, colourAt, grey, black}
+use Rattle.rules.specs.Memory.{Memory, word, put, refs, sound, follow, followed, colourAt, grey, black, header}
 use Rattle.rules.specs.Control.{Store, withMemory, withWalk, withList, withSessions}
 use Rattle.rules.specs.Phases.{moveOn, lowestUnmarked, absent, sessionAt, withSession, withMark, unmarked}
 use Rattle.rules.specs.Barriers.{heapOf, listRoom, shading, shade}
@@ -88,18 +88,18 @@ module _ {x : Followed} (s : Store) (a : s .memory .frontier0 ≤ length (s .mem
         let g = found (s .memory) v e f in
         header-inside (s .memory .half0) (s .memory .half1) (s .memory .frontier0) (s .memory .frontier1) v (g .sound) a b 1 (omega arith)
 
-    pub field-inside : s .walk .field < r → Inside (s .memory .half0) (s .memory .half1) v (s .walk .field + 3)
+    pub field-inside : s .walk .field < r → Inside (s .memory .half0) (s .memory .half1) v (s .walk .field + header)
     field-inside h =
         let g = found (s .memory) v e f in
-        let c : s .walk .field + 3 ≡ 3 + s .walk .field = omega arith in
+        let c : s .walk .field + header ≡ header + s .walk .field = omega arith in
         rw c (ref-inside (s .memory .half0) (s .memory .half1) (s .memory .frontier0) (s .memory .frontier1) v (g .sound) a b (s .walk .field) (rw (← g .refs) h))
 
-    pub field-next : {q : ℕ} → s .walk .field < r → q ≡ word (s .memory) v (s .walk .field + 3)
+    pub field-next : {q : ℕ} → s .walk .field < r → q ≡ word (s .memory) v (s .walk .field + header)
         → scanRecord s v ≡ shadeNext s q (s .walk .place) (s .walk .field + 1)
     unfolding scanRecord followed shadeNext
     field-next h w =
         let g = found (s .memory) v e f in
-        let c : s .walk .field + 3 ≡ 3 + s .walk .field = omega arith in
+        let c : s .walk .field + header ≡ header + s .walk .field = omega arith in
         rw (g .sound, ← g .refs, lt-ltb (s .walk .field) r h, w, c)
 
     pub record-done : {N : Memory} → r ≤ s .walk .field → N ≡ put (s .memory) v colourAt black

@@ -8,7 +8,7 @@ use lib.Dec.{eqb}
 use lib.ListN.{length}
 use lib.Seq.{sets}
 use borrow.Author.Tests.{le-leb, lt-leb, leb-true}
-use Rattle.rules.specs.Memory.{Memory, half, frontier, withHalf, withFrontier, reference, shapeWord, newRecord, append, nextReference}
+use Rattle.rules.specs.Memory.{Memory, half, frontier, withHalf, withFrontier, reference, shapeWord, newRecord, append, nextReference, header}
 use Rattle.rules.specs.Control.{Store, withMemory}
 use Rattle.rules.specs.Phases.{otherHalf, fromspace, tospace}
 use Rattle.rules.specs.Barriers.{roomIn, allocationRoom, placed, allocated, allocatedReference}
@@ -31,12 +31,12 @@ below-at e a = rw e a
 
 pub placed-at : {t : Store} {N : Memory} {at : ℕ} (s : Store) (h r p c v : ℕ) → at ≡ frontier (s .memory) h
     → N ≡ withHalf (s .memory) h (sets (half (s .memory) h) at (newRecord (256 * r + p) c v (r + p)))
-    → t ≡ withMemory s (withFrontier N h (at + (r + p + 3)))
+    → t ≡ withMemory s (withFrontier N h (at + (r + p + header)))
     → t ≡ withMemory s (placed (s .memory) h r p c v)
 unfolding placed shapeWord
 placed-at {t} {N} {at} s h r p c v a b e =
     let d : N ≡ withHalf (s .memory) h (sets (half (s .memory) h) (frontier (s .memory) h) (newRecord (256 * r + p) c v (r + p))) = rw (← a) b in
-    e ∙ ap (λ (k : ℕ). withMemory s (withFrontier N h (k + (r + p + 3)))) a
+    e ∙ ap (λ (k : ℕ). withMemory s (withFrontier N h (k + (r + p + header)))) a
     ∙ ap (λ (M : Memory). withMemory s M) (appended (s .memory) h (256 * r + p) c v (r + p) d)
 
 -- ---- halves
@@ -68,7 +68,7 @@ module _ (c : Control) (h0 h1 : List ℕ) (l r p : ℕ) (a : Allocatable c h0 h1
   unfolding roomIn
   room-of h e =
       let M = memory h0 h1 (c .cursor .frontier0) (c .cursor .frontier1) in
-      let g : frontier M h + (3 + r + p) ≤ length (half M h) = leb-true (frontier M h + (3 + r + p)) (length (half M h)) e in
+      let g : frontier M h + (header + r + p) ≤ length (half M h) = leb-true (frontier M h + (header + r + p)) (length (half M h)) e in
       record {
         above = omega arith;
         short = frontier-small h0 h1 (c .cursor .frontier0) (c .cursor .frontier1) h (a .small .low) (a .small .high);
@@ -112,7 +112,7 @@ room-second {to} d c h0 h1 k0 k1 from r p x v n t m e =
     let k = other-kept M from r p x v n in
     let a : frontier N to ≡ frontier M to = ap (λ (Z : Memory). frontier Z to) E ∙ rw t (k .0) in
     let b : length (half N to) ≡ length (half M to) = ap (λ (Z : Memory). length (half Z to)) E ∙ rw t (ap length (k .1)) in
-    let u : frontier M to + (r + p + 3) ≤ length (half M to) = m .above in
+    let u : frontier M to + (r + p + header) ≤ length (half M to) = m .above in
     let w : frontier M to ≤ 1048576 = m .short in
     record { above = omega arith; short = omega arith; refs = m .refs; plains = m .plains }
 

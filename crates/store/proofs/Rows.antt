@@ -4,6 +4,7 @@ use mathlib.Core.Path.{_≡_, refl}
 use mathlib.Core.Bool.{Bool, true, false, cond, not, _&&_, _||_, and-assoc, or-false}
 use lib.Dec.{leb, eqb}
 use lib.ListN.{length}
+use Rattle.rules.specs.Memory.{header}
 use Rattle.rules.specs.Control.{Store, lent, inRange, sameLengths, lengthsAllowed, halfAllowed, listAllowed, walkLimit, levelsInRange}
 
 -- the walk place against one of two limits
@@ -19,7 +20,7 @@ pub in-groups : (s : Store) (v : Bool) → v ≡ levelsInRange (s .sessions)
     → (eqb (s .lengths .half0) (length (s .memory .half0)) && eqb (s .lengths .half1) (length (s .memory .half1))
     && eqb (s .lengths .list) (length (s .list .words))
     && (leb 16 (s .lengths .half0) && leb (s .lengths .half0) 1048576 && eqb (s .lengths .half0) (s .lengths .half1)
-    && leb (s .lengths .half0 / 3) (s .lengths .list))
+    && leb (s .lengths .half0 / header) (s .lengths .list))
     && (leb (s .current) 1 && leb (s .memory .frontier0) (s .lengths .half0) && leb (s .memory .frontier1) (s .lengths .half0))
     && (leb (s .phase) 12
     && (((eqb (s .phase) 3 || eqb (s .phase) 10) && leb (s .walk .place) 32)

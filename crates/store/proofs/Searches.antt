@@ -9,7 +9,7 @@ use lib.Dec.{leb, ltb, eqb, eqb·suc-suc, eqb·zero-suc}
 use lib.ListN.{length, length-map, length-set, set, getD, List·getD-map}
 use lib.Seq.{getD-set-same, getD-set-other, map-set-same, ext-getD}
 use borrow.Author.Tests.{ltb-true, ltb-false, lt-leb, le-leb, eqb-true, eqb-false}
-use Rattle.rules.specs.Control.{levelsInRange}
+use Rattle.rules.specs.Control.{levelsInRange, sessionCount}
 use Rattle.rules.specs.Phases.{absent, withMark, unmarked, allAt, lowestUnmarked}
 use Rattle.rules.specs.declared.Session.{Session}
 use Rattle.store.specs.Searching.{isWanted}
@@ -34,8 +34,8 @@ pub record Lowest (p : Session → Bool) (l : List Session) (r : ℕ) : Type 0 w
   pub before : (j : ℕ) → j < r → p (getD l j absent) ≡ false
 
 -- as the code answers it, of sixteen sessions from the first on
-pub lowest : {p : Session → Bool} {r : ℕ} (l : List Session) → length l ≡ 16
-    → (0 ≤ r) × (r ≤ 16) × (r < 16 → p (getD l r absent) ≡ true) × ((j : ℕ) → 0 ≤ j → j < r → p (getD l j absent) ≡ false) → Lowest p l r
+pub lowest : {p : Session → Bool} {r : ℕ} (l : List Session) → length l ≡ sessionCount
+    → (0 ≤ r) × (r ≤ sessionCount) × (r < sessionCount → p (getD l r absent) ≡ true) × ((j : ℕ) → 0 ≤ j → j < r → p (getD l j absent) ≡ false) → Lowest p l r
 lowest l k f = record { bound = omega (arith, f .1); found = λ h. f .2 (omega arith); before = λ j h. f .3 j (omega arith) h }
 
 -- the same number by going along the list
@@ -65,8 +65,8 @@ lowest-unmarked : (l : List Session) (r : ℕ) → Lowest (isWanted Unscanned) l
 lowest-unmarked l r k = lowest-is (isWanted Unscanned) l r k ∙ unmarked-along l
 
 -- the same of a store's sessions, from an array of them
-pub lowest-of : {n : ℕ} (xs ys : List Session) → xs ≡ ys → length xs ≡ 16 → Lowest (isWanted Unscanned) xs n
-    → (n ≡ lowestUnmarked ys) × (length ys ≡ 16)
+pub lowest-of : {n : ℕ} (xs ys : List Session) → xs ≡ ys → length xs ≡ sessionCount → Lowest (isWanted Unscanned) xs n
+    → (n ≡ lowestUnmarked ys) × (length ys ≡ sessionCount)
 lowest-of {n} xs ys e k h = (lowest-unmarked xs n h ∙ ap lowestUnmarked e, sym (ap length e) ∙ k)
 
 -- none found, as a test of all

@@ -9,7 +9,7 @@ use lib.ListN.{length}
 use lib.Seq.{sets}
 use borrow.Author.Tests.{le-leb, lt-leb}
 use Rattle.rules.specs.Refusals.{Outcome, answer}
-use Rattle.rules.specs.Memory.{Memory, half, frontier, withHalf, withFrontier, reference, newRecord, nextReference, append, word, put, refs, plains, sound, followed}
+use Rattle.rules.specs.Memory.{Memory, half, frontier, withHalf, withFrontier, reference, newRecord, nextReference, append, word, put, refs, plains, sound, followed, header}
 use Rattle.rules.specs.Control.{Store, withMemory, withWalk}
 use Rattle.rules.specs.Phases.{otherHalf}
 use Rattle.rules.specs.Collector.{walked, below, pastRecord, handshake, needsShell, shellOf, withShell, allocateShells}
@@ -48,12 +48,12 @@ module _ (h0 h1 : List ℕ) (f0 f1 : ℕ) {N P : Memory} {shape shell : ℕ} (ot
       → shape ≡ word (memory h0 h1 f0 f1) v 0 → shell ≡ reference other at
       → N ≡ withHalf (memory h0 h1 f0 f1) other (sets (half (memory h0 h1 f0 f1) other) at (newRecord shape 0 v n))
       → P ≡ put N v 2 shell → frontier (memory h0 h1 f0 f1) other ≡ at
-      → withFrontier P other (at + (n + 3)) ≡ withShell (memory h0 h1 f0 f1) other v
+      → withFrontier P other (at + (n + header)) ≡ withShell (memory h0 h1 f0 f1) other v
   shell-put c w t a p e =
       let M = memory h0 h1 f0 f1 in
-      let q : withFrontier N other (frontier M other + (n + 3)) ≡ append M other (newRecord shape 0 v n) = appended M other shape 0 v n (rw e a) in
-      ap (λ (X : Memory). withFrontier X other (at + (n + 3))) p
-      ∙ sym (put-frontier N other (at + (n + 3)) v 2 shell)
+      let q : withFrontier N other (frontier M other + (n + header)) ≡ append M other (newRecord shape 0 v n) = appended M other shape 0 v n (rw e a) in
+      ap (λ (X : Memory). withFrontier X other (at + (n + header))) p
+      ∙ sym (put-frontier N other (at + (n + header)) v 2 shell)
       ∙ ap (λ (X : Memory). put X v 2 shell) (rw e at q)
       ∙ shell-words M other v w t (c ∙ fields-any h0 h1 f0 f1 v) e
 
@@ -75,7 +75,7 @@ front-small {c} {h0} {h1} {at} h k e =
     omega (arith, k .most)
 
 pub shell-ready : {c : Cursor} {h0 h1 : List ℕ} {other at v k r p : ℕ} → Ready c h0 h1 → Found (memory h0 h1 (c .frontier0) (c .frontier1)) v k r p
-    → other ≡ otherHalf (c .current) → at + (r + p + 3) ≤ length h0 → Shelled h0 h1 other at v (r + p)
+    → other ≡ otherHalf (c .current) → at + (r + p + header) ≤ length h0 → Shelled h0 h1 other at v (r + p)
 unfolding otherHalf
 shell-ready {c} {h0} {h1} {other} {at} {v} g f o l =
     let e = other-long other 0 0 g in
@@ -104,18 +104,18 @@ module _ (s : Store) where
     shells-lost d = rw (b, ← w, d)
 
     module _ {k r p : ℕ} (f : Found (s .memory) v k r p) where
-      pub shells-passed : needsShell (s .memory) v ≡ false → went (withWalk s (s .walk .place + (r + p + 3)) 0) ≡ stepped s (allocateShells s)
+      pub shells-passed : needsShell (s .memory) v ≡ false → went (withWalk s (s .walk .place + (r + p + header)) 0) ≡ stepped s (allocateShells s)
       unfolding allocateShells followed pastRecord
       shells-passed d = rw (b, ← w, f .sound, d, size-found f)
 
       module _ {other at m : ℕ} (d : needsShell (s .memory) v ≡ true) (h : other ≡ otherHalf (s .current)) (a : at ≡ frontier (s .memory) other) (g : length (half (s .memory) other) ≡ m) where
-        pub shells-full : m < at + (r + p + 3) → record { store = s; reply = answer (Refused 12) } ≡ stepped s (allocateShells s)
+        pub shells-full : m < at + (r + p + header) → record { store = s; reply = answer (Refused 12) } ≡ stepped s (allocateShells s)
         unfolding allocateShells followed
         shells-full l =
-            rw (b, ← w, f .sound, d, size-found f, ← h, ← a, g, lt-leb (at + (r + p + 3)) m l)
+            rw (b, ← w, f .sound, d, size-found f, ← h, ← a, g, lt-leb (at + (r + p + header)) m l)
 
-        pub shells-made : {N : Memory} → at + (r + p + 3) ≤ m → N ≡ withShell (s .memory) other v
-            → went (withWalk (withMemory s N) (s .walk .place + (r + p + 3)) 0) ≡ stepped s (allocateShells s)
+        pub shells-made : {N : Memory} → at + (r + p + header) ≤ m → N ≡ withShell (s .memory) other v
+            → went (withWalk (withMemory s N) (s .walk .place + (r + p + header)) 0) ≡ stepped s (allocateShells s)
         unfolding allocateShells followed pastRecord
         shells-made l n =
-            rw (b, ← w, f .sound, d, size-found f, ← h, ← a, g, le-leb (at + (r + p + 3)) m l, ← n)
+            rw (b, ← w, f .sound, d, size-found f, ← h, ← a, g, le-leb (at + (r + p + header)) m l, ← n)

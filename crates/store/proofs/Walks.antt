@@ -4,7 +4,7 @@ use mathlib.Core.Path.{_≡_}
 use mathlib.Core.Bool.{true, false}
 use native.Mathlib.Omega.{arith}
 use Rattle.rules.specs.Refusals.{answer}
-use Rattle.rules.specs.Memory.{Memory, withFrontier, put, size, sound, followed}
+use Rattle.rules.specs.Memory.{Memory, withFrontier, put, size, sound, followed, header}
 use Rattle.rules.specs.Control.{Store, withMemory, withWalk}
 use Rattle.rules.specs.Phases.{otherHalf, moveOn}
 use Rattle.rules.specs.Collector.{walked, below, haveLevel, pastRecord, reclaim}
@@ -13,7 +13,7 @@ use Rattle.heap.proofs.Soundness.{Found}
 use Rattle.store.specs.Steps.{went, stepped}
 
 -- the words of a record found
-pub size-found : {M : Memory} {v at r p : ℕ} → Found M v at r p → size M v ≡ r + p + 3
+pub size-found : {M : Memory} {v at r p : ℕ} → Found M v at r p → size M v ≡ r + p + header
 unfolding size
 size-found f = omega arith
 
@@ -35,6 +35,6 @@ module _ (s : Store) where
     reclaim-lost d = rw (h, b, ← w, d)
 
     pub reclaim-clears : {N : Memory} {at r p : ℕ} → Found (s .memory) v at r p → N ≡ put (s .memory) v 2 0
-        → went (withWalk (withMemory s N) (s .walk .place + (r + p + 3)) 0) ≡ stepped s (reclaim s)
+        → went (withWalk (withMemory s N) (s .walk .place + (r + p + header)) 0) ≡ stepped s (reclaim s)
     unfolding reclaim followed pastRecord
     reclaim-clears f n = rw (h, b, ← w, f .sound, size-found f, ← n)

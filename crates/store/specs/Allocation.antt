@@ -4,7 +4,7 @@ use mathlib.Core.Path.{_≡_}
 use mathlib.Core.Bool.{true}
 use mathlib.Core.List.{List}
 use lib.ListN.{length}
-use Rattle.rules.specs.Memory.{half, frontier}
+use Rattle.rules.specs.Memory.{half, frontier, header}
 use Rattle.rules.specs.Barriers.{allocationRoom}
 use Rattle.heap.specs.View.{memory}
 use Rattle.store.specs.View.{view}
@@ -25,7 +25,7 @@ pub record Small (c : Control) (r p : ℕ) : Type 0 where
 
 -- half h has room above its frontier
 pub record Room (c : Control) (h0 h1 : List ℕ) (h r p : ℕ) : Type 0 where
-  pub above : frontier (memory h0 h1 (c .cursor .frontier0) (c .cursor .frontier1)) h + (r + p + 3) ≤ length (half (memory h0 h1 (c .cursor .frontier0) (c .cursor .frontier1)) h)
+  pub above : frontier (memory h0 h1 (c .cursor .frontier0) (c .cursor .frontier1)) h + (r + p + header) ≤ length (half (memory h0 h1 (c .cursor .frontier0) (c .cursor .frontier1)) h)
   pub short : frontier (memory h0 h1 (c .cursor .frontier0) (c .cursor .frontier1)) h ≤ 1048576
   pub refs : r ≤ 255
   pub plains : p ≤ 255

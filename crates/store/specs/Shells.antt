@@ -3,7 +3,7 @@ use Prim.Native.Nat.{ℕ, _+_, _≤_}
 use mathlib.Core.Path.{_≡_}
 use mathlib.Core.List.{List}
 use lib.ListN.{length}
-use Rattle.rules.specs.Memory.{half, shapeAt, replicaAt, refs, plains}
+use Rattle.rules.specs.Memory.{half, shapeAt, replicaAt, refs, plains, header}
 use Rattle.heap.specs.View.{memory, Inside}
 
 -- a record v of n fields, and room for its shell at a word of the other half
@@ -13,4 +13,4 @@ pub record Shelled (h0 h1 : List ℕ) (other at v n : ℕ) : Type 0 where
   pub fields : n ≡ refs (memory h0 h1 0 0) v + plains (memory h0 h1 0 0) v
   pub side : other ≤ 1
   pub few : at ≤ 1048576
-  pub room : at + (n + 3) ≤ length (half (memory h0 h1 0 0) other)
+  pub room : at + (n + header) ≤ length (half (memory h0 h1 0 0) other)

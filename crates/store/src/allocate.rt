@@ -14,6 +14,9 @@ use crate::Control;
 use crate::Reply;
 use crate::walking::frontier;
 use crate::walking::reference;
+use heap::BLACK;
+use heap::HEADER;
+use heap::WHITE;
 use heap::forwarding::other_half;
 use heap::records::append_record;
 
@@ -23,7 +26,7 @@ impl Control {
         requires { ⌜ Small self r p ⌝ }
         ensures { λ b. ⌜ ((h0 h1 l : List ℕ) → Fits self h0 h1 → b ≡ allocationRoom (view self h0 h1 l) level r p) ⌝ }
     {
-        let n = 3 + (r as usize) + (p as usize);
+        let n = HEADER + (r as usize) + (p as usize);
         let low = self.cursor.frontier0 + n <= self.length0;
         let high = self.cursor.frontier1 + n <= self.length0;
         if 2 < level {
@@ -81,7 +84,7 @@ impl Control {
         let at = frontier(self.cursor.frontier0, self.cursor.frontier1, h);
         let n = (r as usize) + (p as usize);
         append_record(h0, h1, h, at, 256 * r + p, colour, replica, n);
-        self.with_frontier(h, at + (n + 3))
+        self.with_frontier(h, at + (n + HEADER))
     }
 
     // The new record by the session's level: white or black in the current half, or a black copy in fromspace with a
@@ -93,10 +96,10 @@ impl Control {
             (allocated (view self (now (h0 .entry)) (now (h1 .entry)) l) level r p)) ⌝ }
     {
         if level <= 1 {
-            return self.placed(h0, h1, self.cursor.current, r, p, 0, 0);
+            return self.placed(h0, h1, self.cursor.current, r, p, WHITE, 0);
         }
         if level <= 2 {
-            return self.placed(h0, h1, self.cursor.current, r, p, 2, 0);
+            return self.placed(h0, h1, self.cursor.current, r, p, BLACK, 0);
         }
         let from = self.fromspace();
         let to = other_half(from);
@@ -108,8 +111,8 @@ impl Control {
             to,
             frontier(self.cursor.frontier0, self.cursor.frontier1, to),
         );
-        let first = self.placed(h0, h1, from, r, p, 2, new);
-        first.placed(h0, h1, to, r, p, 0, old)
+        let first = self.placed(h0, h1, from, r, p, BLACK, new);
+        first.placed(h0, h1, to, r, p, WHITE, old)
     }
 
     // The half whose copy the register gets.

@@ -2,7 +2,7 @@
 ghost use mathlib.Core.Path.{_≡_};
 ghost use Prim.Native.Nat.{ℕ, _<_};
 ghost use mathlib.Core.List.{List};
-ghost use Rattle.rules.specs.Memory.{refs, plains};
+ghost use Rattle.rules.specs.Memory.{shapeAt, refs, plains};
 ghost use Rattle.rules.specs.Control.{Store};
 ghost use Rattle.rules.specs.Collector.{copyRef, copyPlain, copyField, copy};
 ghost use Rattle.heap.specs.View.{memory, Inside};
@@ -13,6 +13,9 @@ ghost use Rattle.store.specs.Copies.{fieldCopied, Copies, Copying};
 use crate::Cursor;
 use crate::work::Work;
 use heap::Checked;
+use heap::HEADER;
+use heap::REPLICA_AT;
+use heap::SHAPE_AT;
 use heap::following::follow;
 use heap::forwarding::forward;
 use heap::words::get_word;
@@ -22,10 +25,10 @@ use rules::Followed;
 
 // The number of plain fields of the record that v names.
 fn plains_of<'a>(h0: &'a [u32], h1: &'a [u32], v: u32) -> u32
-    requires { ⌜ Inside (now h0) (now h1) v 0 ⌝ }
+    requires { ⌜ Inside (now h0) (now h1) v shapeAt ⌝ }
     ensures { λ r. ⌜ ((f0 f1 : ℕ) → r ≡ plains (memory (now (h0 .entry)) (now (h1 .entry)) f0 f1) v) ⌝ }
 {
-    let shape = get_word(h0, h1, v, 0);
+    let shape = get_word(h0, h1, v, SHAPE_AT);
     shape % 256
 }
 
@@ -42,13 +45,13 @@ impl Cursor {
         if (n as usize) <= i {
             return Work::Refused(12);
         }
-        let q = get_word(h0, h1, v, 3 + i);
+        let q = get_word(h0, h1, v, HEADER + i);
         // nothing is listed here, so any list will do
         let b = self.bounds(self.tail);
         let Checked::Word(w) = forward(b, h0, h1, q) else {
             return Work::Refused(12);
         };
-        put_word(h0, h1, t, 3 + i, w);
+        put_word(h0, h1, t, HEADER + i, w);
         self.past_field()
     }
 
@@ -65,8 +68,8 @@ impl Cursor {
         }
         let r = refs_of(h0, h1, v);
         let n = refs_of(h0, h1, t);
-        let x = get_word(h0, h1, v, 3 + (r as usize) + i);
-        put_word(h0, h1, t, 3 + (n as usize) + i, x);
+        let x = get_word(h0, h1, v, HEADER + (r as usize) + i);
+        put_word(h0, h1, t, HEADER + (n as usize) + i, x);
         self.past_field()
     }
 
@@ -104,10 +107,10 @@ impl Cursor {
         let Followed::Sound(_, r, p) = follow(h0, h1, self.frontier0, self.frontier1, v) else {
             return Work::Refused(12);
         };
-        let t = get_word(h0, h1, v, 2);
+        let t = get_word(h0, h1, v, REPLICA_AT);
         let n = (r as usize) + (p as usize);
         if (t == 0) | (n <= self.field) {
-            return self.past_record(n + 3);
+            return self.past_record(n + HEADER);
         }
         self.copy_field(h0, h1, v, t, r)
     }

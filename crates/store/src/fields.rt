@@ -6,6 +6,7 @@ ghost use Rattle.store.specs.Loads.{loading, loadPlan};
 use crate::Control;
 use crate::Reply;
 use crate::operands::Held;
+use heap::HEADER;
 use heap::following::follow;
 use heap::words::get_word;
 use rules::Followed;
@@ -43,7 +44,7 @@ impl Control {
         if r <= field {
             return Loading::Refusal(13);
         }
-        let word = get_word(h0, h1, v, 3 + (field as usize));
+        let word = get_word(h0, h1, v, HEADER + (field as usize));
         Loading::Word(word)
     }
 
@@ -111,7 +112,7 @@ impl Control {
         if p <= field {
             return rules::Answer::Refused(13);
         }
-        let word = get_word(h0, h1, v, 3 + (r as usize) + (field as usize));
+        let word = get_word(h0, h1, v, HEADER + (r as usize) + (field as usize));
         rules::Answer::Word(word)
     }
 

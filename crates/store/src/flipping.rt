@@ -26,17 +26,22 @@ use heap::forwarding::other_half;
 // The registers of a session forwarded, where each of them is sound.
 pub struct Registers {
     pub sound: bool,
-    pub words: [u32; 8],
+    pub words: [u32; Control::REGISTERS],
 }
 
 // All eight registers forwarded, before any is written.
-fn forward_all<'a>(b: Bounds, h0: &'a [u32], h1: &'a [u32], old: [u32; 8]) -> Registers
+fn forward_all<'a>(
+    b: Bounds,
+    h0: &'a [u32],
+    h1: &'a [u32],
+    old: [u32; Control::REGISTERS],
+) -> Registers
     requires { ⌜ Within b (now h0) (now h1) ⌝ }
     ensures { λ r. ⌜ forwarded r ≡ forwardAll (heap b (now (h0 .entry)) (now (h1 .entry)) .memory) (to (heap b (now (h0 .entry)) (now (h1 .entry)))) old ⌝ }
 {
     let mut new = old;
     let mut i: usize = 0;
-    while i < 8 {
+    while i < Control::REGISTERS {
         let v = old[i];
         let Checked::Word(w) = forward(b, h0, h1, v) else {
             return Registers {
@@ -64,7 +69,12 @@ impl Cursor {
     }
 
     // Phase 10: the next global forwarded; after the last one the step moves on.
-    pub(crate) fn root_flip<'a>(mut self, globals: [u32; 32], h0: &'a [u32], h1: &'a [u32]) -> Work
+    pub(crate) fn root_flip<'a>(
+        mut self,
+        globals: [u32; Control::GLOBALS],
+        h0: &'a [u32],
+        h1: &'a [u32],
+    ) -> Work
         requires { ⌜ Ready self (now h0) (now h1) ⌝ }
         ensures { λ r. ⌜ ((s : Store) (l : List ℕ) → globals ≡ s .globals
             → worked (having s self (now (h0 .entry)) (now (h1 .entry)) l) r
@@ -88,7 +98,7 @@ impl Cursor {
     // none left, tospace becomes current and the step moves on.
     pub(crate) fn stack_flip<'a>(
         self,
-        sessions: [rules::Session; 16],
+        sessions: [rules::Session; Control::SESSIONS],
         h0: &'a [u32],
         h1: &'a [u32],
     ) -> Work
@@ -101,7 +111,7 @@ impl Cursor {
         // nothing is listed here, so any list will do
         let b = self.bounds(self.tail);
         let n = Control::lowest(sessions, 0, Wanted::Unscanned);
-        if 16 <= n {
+        if Control::SESSIONS <= n {
             let half = other_half(b.from);
             return self.flip(half);
         }

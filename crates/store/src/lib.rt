@@ -3,7 +3,7 @@
 ghost use mathlib.Core.Path.{_≡_};
 ghost use Prim.Native.Nat.{ℕ, _≤_};
 ghost use mathlib.Core.List.{List};
-ghost use Rattle.rules.specs.Control.{newStore};
+ghost use Rattle.rules.specs.Control.{newStore, nobody};
 ghost use Rattle.rules.specs.Phases.{levelOf};
 ghost use Rattle.store.specs.View.{view, lengths};
 
@@ -51,8 +51,8 @@ pub struct Control {
     pub length1: usize,
     pub capacity: usize,
     pub cursor: Cursor,
-    pub globals: [u32; 32],
-    pub sessions: [rules::Session; 16],
+    pub globals: [u32; Control::GLOBALS],
+    pub sessions: [rules::Session; Control::SESSIONS],
 }
 
 // The next control record, and what the call answers.
@@ -89,6 +89,8 @@ impl Control {
 
     pub const RECLAIM: usize = 12;
 
+    pub const LAST_PHASE: usize = Control::RECLAIM;
+
     // Both tables in bytes: a constant table is written out on the stack at each use, and thirteen bytes are two stores.
     pub const LEVELS: [u8; 13] = [0, 1, 2, 2, 2, 3, 4, 4, 5, 6, 6, 6, 0];
 
@@ -98,9 +100,11 @@ impl Control {
 
     pub const MOST_LENGTH: usize = 1048576;
 
-    pub const HEADER: usize = 3;
-
     pub const GLOBALS: usize = 32;
+
+    pub const SESSIONS: usize = 16;
+
+    pub const REGISTERS: usize = rules::REGISTERS;
 
     pub const MOST_FIELDS: usize = 510;
 
@@ -108,22 +112,29 @@ impl Control {
 
     pub const LAST_LEVEL: u32 = 6;
 
-    pub const LAST_SESSION: u32 = 15;
+    pub const LAST_SESSION: u32 = (Control::SESSIONS - 1) as u32;
 
-    pub const LAST_REGISTER: u32 = 7;
+    pub const LAST_REGISTER: u32 = (Control::REGISTERS - 1) as u32;
 
-    pub const LAST_GLOBAL: u32 = 31;
+    pub const LAST_GLOBAL: u32 = (Control::GLOBALS - 1) as u32;
+
+    // A session of nobody: every number 0.
+    pub(crate) fn nobody() -> rules::Session
+        ensures { λ r. ⌜ r ≡ nobody ⌝ }
+    {
+        rules::Session {
+            registers: [0; Control::REGISTERS],
+            level: 0,
+            attached: false,
+            scanned: false,
+        }
+    }
 
     // The fresh control record: every number 0 and nobody attached, the three lengths apart.
     pub(crate) fn fresh(length0: usize, length1: usize, capacity: usize) -> Self
         ensures { λ r. ⌜ ((h0 h1 l : List ℕ) → view r h0 h1 l ≡ newStore (lengths length0 length1 capacity) h0 h1 l) ⌝ }
     {
-        let nobody = rules::Session {
-            registers: [0; 8],
-            level: 0,
-            attached: false,
-            scanned: false,
-        };
+        let nobody = Control::nobody();
         let cursor = Cursor {
             current: 0,
             frontier0: 0,
@@ -139,8 +150,8 @@ impl Control {
             length1,
             capacity,
             cursor,
-            globals: [0; 32],
-            sessions: [nobody; 16],
+            globals: [0; Control::GLOBALS],
+            sessions: [nobody; Control::SESSIONS],
         }
     }
 

@@ -6,6 +6,7 @@ ghost use Rattle.rules.specs.Control.{making, make, halfAllowed};
 ghost use Rattle.store.specs.View.{outcome, lengths};
 use crate::Control;
 use crate::Reply;
+use heap::HEADER;
 
 impl Control {
     // Whether a half of this length may be lent.
@@ -26,7 +27,7 @@ impl Control {
         if length0 != length1 {
             return 2;
         }
-        if capacity < length0 / Control::HEADER {
+        if capacity < length0 / HEADER {
             return 3;
         }
         0

@@ -17,7 +17,10 @@ use crate::searching::Wanted;
 use crate::shade::put_grey;
 use crate::work::Touch;
 use crate::work::Work;
+use heap::BLACK;
+use heap::COLOUR_AT;
 use heap::Checked;
+use heap::HEADER;
 use heap::following::follow;
 use heap::shades::shading;
 use heap::words::get_word;
@@ -94,10 +97,10 @@ impl Cursor {
         let place = self.place;
         let field = self.field;
         if field < (r as usize) {
-            let q = get_word(h0, h1, v, field + 3);
+            let q = get_word(h0, h1, v, field + HEADER);
             return self.shade_next(h0, h1, list, q, place, field + 1);
         }
-        put_word(h0, h1, v, 1, 2);
+        put_word(h0, h1, v, COLOUR_AT, BLACK);
         let next = self.head + 1;
         self.past_entry(next)
     }
@@ -105,7 +108,7 @@ impl Cursor {
     // Phase 3: the next global's record is shaded; after the last one the step moves on.
     pub(crate) fn root_mark(
         self,
-        globals: [u32; 32],
+        globals: [u32; Control::GLOBALS],
         h0: &mut [u32],
         h1: &mut [u32],
         list: &mut [u32],
@@ -127,7 +130,7 @@ impl Cursor {
     // Phase 4: the oldest listed record; the list done, the lowest unscanned session; all scanned, the step moves on.
     pub(crate) fn heap_mark(
         self,
-        sessions: [rules::Session; 16],
+        sessions: [rules::Session; Control::SESSIONS],
         h0: &mut [u32],
         h1: &mut [u32],
         list: &mut [u32],
@@ -144,7 +147,7 @@ impl Cursor {
             return self.scan_record(h0, h1, list, v);
         }
         let n = Control::lowest(sessions, 0, Wanted::Unscanned);
-        if n < 16 {
+        if n < Control::SESSIONS {
             let session = sessions[n];
             let registers = session.registers;
             return self.scan_session(n, registers, h0, h1, list);

@@ -26,7 +26,7 @@ impl Control {
         let phase = self.cursor.phase;
         let level = Control::level_of(phase);
         let sessions = self.sessions;
-        Control::lowest(sessions, 0, Wanted::NotAt(level)) == 16
+        Control::lowest(sessions, 0, Wanted::NotAt(level)) == Control::SESSIONS
     }
 
     // The phase after a phase.

@@ -4,6 +4,7 @@ ghost use Rattle.rules.specs.Control.{inRange};
 ghost use Rattle.store.specs.View.{view};
 use crate::Control;
 use crate::searching::Wanted;
+use heap::HEADER;
 
 impl Control {
     // Whether the control record passes test 4 with these lent words.
@@ -15,7 +16,7 @@ impl Control {
         let allowed = (Control::LEAST_LENGTH <= n)
             & (n <= Control::MOST_LENGTH)
             & (n == self.length1)
-            & (n / Control::HEADER <= self.capacity);
+            & (n / HEADER <= self.capacity);
         let halves = (self.cursor.current <= 1)
             & (self.cursor.frontier0 <= n)
             & (self.cursor.frontier1 <= n);
@@ -23,12 +24,13 @@ impl Control {
             | (self.cursor.phase == Control::ROOT_FLIP);
         let place = (roots & (self.cursor.place <= Control::GLOBALS))
             | (!roots & (self.cursor.place <= n));
-        let walk = (self.cursor.phase <= Control::RECLAIM)
+        let walk = (self.cursor.phase <= Control::LAST_PHASE)
             & place
             & (self.cursor.field <= Control::MOST_FIELDS);
         let grey = (self.cursor.head <= self.cursor.tail) & (self.cursor.tail <= self.capacity);
         let sessions = self.sessions;
-        let levels = Control::lowest(sessions, 0, Wanted::Above(Control::LAST_LEVEL)) == 16;
+        let levels = Control::lowest(sessions, 0, Wanted::Above(Control::LAST_LEVEL))
+            == Control::SESSIONS;
         lent & allowed & halves & walk & grey & levels
     }
 }

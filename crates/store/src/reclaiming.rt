@@ -10,6 +10,8 @@ ghost use Rattle.store.specs.Work.{worked};
 use crate::Cursor;
 use crate::work::Touch;
 use crate::work::Work;
+use heap::HEADER;
+use heap::REPLICA_AT;
 use heap::following::follow;
 use heap::forwarding::other_half;
 use heap::words::put_word;
@@ -38,7 +40,7 @@ impl Cursor {
         let Followed::Sound(_, r, p) = follow(h0, h1, self.frontier0, self.frontier1, v) else {
             return Work::Refused(12);
         };
-        put_word(h0, h1, v, 2, 0);
-        self.past_record((r as usize) + (p as usize) + 3)
+        put_word(h0, h1, v, REPLICA_AT, 0);
+        self.past_record((r as usize) + (p as usize) + HEADER)
     }
 }

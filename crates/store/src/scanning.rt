@@ -6,7 +6,7 @@ ghost use lib.Dec.{eqb};
 ghost use lib.ListN.{length, getD, take};
 ghost use lib.Seq.{sets};
 ghost use Rattle.rules.specs.Memory.{null, colourAt};
-ghost use Rattle.rules.specs.Control.{Store};
+ghost use Rattle.rules.specs.Control.{Store, registerCount};
 ghost use Rattle.rules.specs.Phases.{absent};
 ghost use Rattle.rules.specs.Collector.{toShadeAll, scanSession};
 ghost use Rattle.heap.specs.View.{heap, memory, Within, Inside};
@@ -14,6 +14,7 @@ ghost use Rattle.store.specs.Steps.{stepped};
 ghost use Rattle.store.specs.Cursors.{having, Ready};
 ghost use Rattle.store.specs.Work.{worked};
 ghost use Rattle.store.specs.Marking.{among, whites, greyed};
+use crate::Control;
 use crate::Cursor;
 use crate::shade::put_grey;
 use crate::work::Stack;
@@ -28,12 +29,12 @@ use heap::shades::to_shade;
 pub struct Whites {
     pub sound: bool,
     pub count: usize,
-    pub words: [u32; 8],
+    pub words: [u32; Control::REGISTERS],
 }
 
 // 1 where v is to shade and isn't among the first `count` words, else 0.
-fn new_white(words: [u32; 8], count: usize, v: u32) -> usize
-    requires { ⌜ count ≤ 8 ⌝ }
+fn new_white(words: [u32; Control::REGISTERS], count: usize, v: u32) -> usize
+    requires { ⌜ count ≤ registerCount ⌝ }
     ensures { λ r. ⌜ r ≡ cond (eqb v null || among v (take count words)) 0 1 ⌝ }
 {
     if v == 0 {
@@ -50,14 +51,19 @@ fn new_white(words: [u32; 8], count: usize, v: u32) -> usize
 }
 
 // What the registers give to shade: each word met is put behind the others, and counted where it is a new white one.
-fn white_registers<'a>(b: Bounds, h0: &'a [u32], h1: &'a [u32], registers: [u32; 8]) -> Whites
+fn white_registers<'a>(
+    b: Bounds,
+    h0: &'a [u32],
+    h1: &'a [u32],
+    registers: [u32; Control::REGISTERS],
+) -> Whites
     requires { ⌜ Within b (now h0) (now h1) ⌝ }
-    ensures { λ r. ⌜ (r .count ≤ 8) × (whites r ≡ toShadeAll (heap b (now (h0 .entry)) (now (h1 .entry)) .memory) registers) ⌝ }
+    ensures { λ r. ⌜ (r .count ≤ registerCount) × (whites r ≡ toShadeAll (heap b (now (h0 .entry)) (now (h1 .entry)) .memory) registers) ⌝ }
 {
-    let mut words: [u32; 8] = [0; 8];
+    let mut words: [u32; Control::REGISTERS] = [0; Control::REGISTERS];
     let mut count: usize = 0;
     let mut i: usize = 0;
-    while i < 8 {
+    while i < Control::REGISTERS {
         let Checked::Word(w) = to_shade(b, h0, h1, registers[i]) else {
             return Whites {
                 sound: false,
@@ -84,9 +90,9 @@ fn shade_all(
     list: &mut [u32],
     end: usize,
     count: usize,
-    words: [u32; 8],
+    words: [u32; Control::REGISTERS],
 )
-    requires { ⌜ (count ≤ 8) × (end + count ≤ length (now list))
+    requires { ⌜ (count ≤ registerCount) × (end + count ≤ length (now list))
         × ((j : ℕ) → j < count → Inside (now h0) (now h1) (getD words j 0) colourAt) ⌝ }
     ensures { λ _. ⌜ ((f0 f1 : ℕ) → memory (now (h0 .exit)) (now (h1 .exit)) f0 f1
         ≡ greyed (memory (now (h0 .entry)) (now (h1 .entry)) f0 f1) (take count words))
@@ -105,7 +111,7 @@ impl Cursor {
     pub(crate) fn scan_session(
         self,
         n: usize,
-        registers: [u32; 8],
+        registers: [u32; Control::REGISTERS],
         h0: &mut [u32],
         h1: &mut [u32],
         list: &mut [u32],

@@ -3,6 +3,7 @@ ghost use mathlib.Core.Path.{_≡_};
 ghost use Prim.Native.Nat.{ℕ, _≤_, _<_};
 ghost use mathlib.Core.Bool.{true, false};
 ghost use lib.ListN.{getD};
+ghost use Rattle.rules.specs.Control.{sessionCount};
 ghost use Rattle.rules.specs.Phases.{absent};
 ghost use Rattle.store.specs.Searching.{isWanted};
 use crate::Control;
@@ -32,14 +33,18 @@ impl Control {
         }
     }
 
-    // The number of the lowest session from `first` on that is looked for, or the number of sessions, 16.
-    pub(crate) fn lowest(sessions: [rules::Session; 16], first: usize, wanted: Wanted) -> usize
-        requires { ⌜ first ≤ 16 ⌝ }
-        ensures { λ r. ⌜ (first ≤ r) × (r ≤ 16) × (r < 16 → isWanted wanted (getD sessions r absent) ≡ true)
+    // The number of the lowest session from `first` on that is looked for, or the number of sessions.
+    pub(crate) fn lowest(
+        sessions: [rules::Session; Control::SESSIONS],
+        first: usize,
+        wanted: Wanted,
+    ) -> usize
+        requires { ⌜ first ≤ sessionCount ⌝ }
+        ensures { λ r. ⌜ (first ≤ r) × (r ≤ sessionCount) × (r < sessionCount → isWanted wanted (getD sessions r absent) ≡ true)
             × ((j : ℕ) → first ≤ j → j < r → isWanted wanted (getD sessions j absent) ≡ false) ⌝ }
     {
         let mut i: usize = first;
-        while i < 16 {
+        while i < Control::SESSIONS {
             let session = sessions[i];
             let found = Control::is_wanted(session, wanted);
             if found {
@@ -47,6 +52,6 @@ impl Control {
             }
             i += 1;
         }
-        16
+        Control::SESSIONS
     }
 }

@@ -30,7 +30,7 @@ impl Control {
 
     // Whether session s is attached; not so past the last session. Each session is read at a fixed place, since reading
     // one at a place that isn't known beforehand would copy all sixteen.
-    fn attached_at(sessions: [rules::Session; 16], s: u32) -> bool
+    fn attached_at(sessions: [rules::Session; Control::SESSIONS], s: u32) -> bool
         ensures { λ r. ⌜ r ≡ getD sessions s absent .attached ⌝ }
     {
         if s < 4 {
@@ -92,12 +92,10 @@ impl Control {
         let i = s as usize;
         let phase = self.cursor.phase;
         let level = Control::level_of(phase);
-        self.sessions[i] = rules::Session {
-            registers: [0; 8],
-            level,
-            attached: true,
-            scanned: false,
-        };
+        let mut session = Control::nobody();
+        session.level = level;
+        session.attached = true;
+        self.sessions[i] = session;
         Reply {
             control: self,
             answer: rules::Answer::Done,
@@ -118,12 +116,9 @@ impl Control {
         }
         let i = s as usize;
         let session = self.sessions[i];
-        self.sessions[i] = rules::Session {
-            registers: [0; 8],
-            level: 0,
-            attached: false,
-            scanned: session.scanned,
-        };
+        let mut left = Control::nobody();
+        left.scanned = session.scanned;
+        self.sessions[i] = left;
         Reply {
             control: self,
             answer: rules::Answer::Done,

@@ -9,6 +9,8 @@ ghost use Rattle.heap.specs.View.{memory, Inside};
 ghost use Rattle.store.specs.View.{view};
 use crate::Control;
 use crate::searching::Wanted;
+use heap::COLOUR_AT;
+use heap::GREY;
 use heap::words::put_word;
 
 // What shading writes: the record v coloured grey, and put on the list at its end.
@@ -18,18 +20,20 @@ pub(crate) fn put_grey(h0: &mut [u32], h1: &mut [u32], list: &mut [u32], end: us
         ≡ put (memory (now (h0 .entry)) (now (h1 .entry)) f0 f1) v colourAt grey)
         × (now (list .exit) ≡ set (now (list .entry)) end v) ⌝ }
 {
-    put_word(h0, h1, v, 1, 1);
+    put_word(h0, h1, v, COLOUR_AT, GREY);
     list[end] = v;
 }
 
 impl Control {
     // The sessions with no scanned mark. Only a session that has one is written.
-    pub(crate) fn unmarked(sessions: [rules::Session; 16]) -> [rules::Session; 16]
+    pub(crate) fn unmarked(
+        sessions: [rules::Session; Control::SESSIONS],
+    ) -> [rules::Session; Control::SESSIONS]
         ensures { λ r. ⌜ r ≡ unmarked sessions ⌝ }
     {
         let mut next = sessions;
         let mut i = Control::lowest(next, 0, Wanted::Scanned);
-        while i < 16 {
+        while i < Control::SESSIONS {
             let mut session = next[i];
             session.scanned = false;
             next[i] = session;

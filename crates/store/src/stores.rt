@@ -7,6 +7,7 @@ ghost use Rattle.store.specs.Stores.{storing, storePlan, putPlan};
 use crate::Control;
 use crate::Reply;
 use crate::operands::Held;
+use heap::HEADER;
 use heap::Planned;
 use heap::following::follow;
 use heap::stores::put_writes;
@@ -73,7 +74,7 @@ impl Control {
         let answer = match plan {
             Storing::Refusal(n) => rules::Answer::Refused(n),
             Storing::Into(v, w) => {
-                let j = 3 + (field as usize);
+                let j = HEADER + (field as usize);
                 // with nothing to shade the control record stays where it is
                 if w.shade != 0 {
                     self = self.shade(h0, h1, list, w.shade);

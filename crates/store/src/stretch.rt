@@ -5,6 +5,7 @@ ghost use Rattle.rules.specs.Calls.{stretch};
 ghost use Rattle.store.specs.View.{view};
 use crate::Control;
 use crate::operands::Held;
+use heap::HEADER;
 use heap::following::follow;
 use heap::words::half_of;
 use rules::Followed;
@@ -35,7 +36,7 @@ impl Control {
             return &h0[..0];
         };
         let half = half_of(h0, h1, v);
-        let start = at + 3 + (r as usize);
+        let start = at + HEADER + (r as usize);
         let end = start + (p as usize);
         &half[start..end]
     }

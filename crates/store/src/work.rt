@@ -5,6 +5,7 @@ ghost use mathlib.Core.Bool.{true};
 ghost use lib.ListN.{getD, set};
 ghost use Rattle.rules.specs.Phases.{absent, withRegisters, withMark};
 ghost use Rattle.store.specs.Work.{registers};
+use crate::Control;
 use crate::Cursor;
 
 // The eight registers of a session, one by one: an enum holds no array.
@@ -21,7 +22,7 @@ pub struct Stack {
 
 impl Stack {
     // The registers of an array.
-    pub(crate) fn of(words: [u32; 8]) -> Self
+    pub(crate) fn of(words: [u32; Control::REGISTERS]) -> Self
         ensures { λ r. ⌜ registers r ≡ words ⌝ }
     {
         Self {
@@ -37,7 +38,7 @@ impl Stack {
     }
 
     // The array of the registers.
-    fn registers(self) -> [u32; 8]
+    fn registers(self) -> [u32; Control::REGISTERS]
         ensures { λ r. ⌜ r ≡ registers self ⌝ }
     {
         [
@@ -52,11 +53,15 @@ impl Stack {
         ]
     }
     // The sessions, session n with these registers and a scanned mark; past the last session nothing.
-    pub(crate) fn marked(self, sessions: [rules::Session; 16], n: usize) -> [rules::Session; 16]
+    pub(crate) fn marked(
+        self,
+        sessions: [rules::Session; Control::SESSIONS],
+        n: usize,
+    ) -> [rules::Session; Control::SESSIONS]
         ensures { λ r. ⌜ r ≡ set sessions n (withMark (withRegisters (getD sessions n absent) (registers self)) true) ⌝ }
     {
         let mut next = sessions;
-        if n < 16 {
+        if n < Control::SESSIONS {
             let mut session = next[n];
             let words = self.registers();
             session.registers = words;

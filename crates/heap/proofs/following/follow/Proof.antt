@@ -1,6 +1,7 @@
 -- `heap::following::follow` meets its contract.
+use Prim.Native.Nat.{_+_}
 use native.Mathlib.Omega.{arith}
-use Rattle.rules.specs.Memory.{wordOf}
+use Rattle.rules.specs.Memory.{wordOf, shapeAt}
 use mathlib.Core.Path.{ap}
 use lib.ListN.{length}
 use Rattle.heap.proofs.Halves.{frontier-within}
@@ -32,9 +33,15 @@ returns-2 c =
     let c3 = c2 .before in
     follow-short _ _ _ _ _ (c3 .word-of .ensures) (c2 .half-of .ensures _ _) (c1 .frontier-of .ensures _ _) (c .if2 .taken)
 
+add-shape : tie.Need-add-shape
+add-shape c = search needs
+
 mul-shape : tie.Need-mul-shape
 unfolding wordOf
-mul-shape c = omega (arith, c .before .before .before .word-of .ensures, c .before .before .before .before .before .before .before .fits .v)
+mul-shape c =
+    let c1 = c .before .before .before in
+    let c2 = c1 .before .before .before .before in
+    omega (arith, c1 .word-of .ensures, c2 .fits .v)
 
 shared-slice-read-shape : tie.Need-shared-slice-read-shape
 shared-slice-read-shape c =
@@ -67,7 +74,7 @@ add-end c = search needs
 
 cast-end : tie.Need-cast-end
 unfolding wordOf
-cast-end c = omega (arith, c .before .shared-slice-known3 .given (c .before .before .before .before .before .word-of .result))
+cast-end c = omega (arith, c .before .shared-slice-known3 .given (c .before .before .before .before .before .word-of .result + shapeAt))
 
 add-end-2 : tie.Need-add-end-2
 unfolding wordOf
@@ -75,7 +82,7 @@ add-end-2 c =
     let c1 = c .before in
     let c2 = c1 .before .before .before .before in
     let c3 = c2 .before .before .before .before in
-    omega (arith, c2 .word-of .ensures, c3 .fits .v, c1 .shared-slice-known3 .given (c2 .word-of .result))
+    omega (arith, c2 .word-of .ensures, c3 .fits .v, c1 .shared-slice-known3 .given (c2 .word-of .result + shapeAt))
 
 cast-end-2 : tie.Need-cast-end-2
 cast-end-2 c = search needs
@@ -86,7 +93,7 @@ add-end-3 c =
     let c1 = c .before in
     let c2 = c1 .before .before .before .before in
     let c3 = c2 .before .before .before .before in
-    omega (arith, c2 .word-of .ensures, c3 .fits .v, c1 .shared-slice-known3 .given (c2 .word-of .result))
+    omega (arith, c2 .word-of .ensures, c3 .fits .v, c1 .shared-slice-known3 .given (c2 .word-of .result + shapeAt))
 
 returns-3 : tie.Need-returns-3
 returns-3 c =
@@ -114,6 +121,7 @@ follow-spec =
     frontier-of-requires
     add-if2
     returns-2
+    add-shape
     mul-shape
     shared-slice-read-shape
     add-colour

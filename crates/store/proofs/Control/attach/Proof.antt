@@ -20,18 +20,24 @@ level-of-requires c κs =
     let k = attachable _ _ (c .before .before .session-tests .ensures) (c .if2 .left) in
     omega arith
 
-mul-t19 : tie.Need-mul-t19
-mul-t19 c = search needs
+nobody-requires : tie.Need-nobody-requires
+nobody-requires c κs = search needs
 
-element-set-from-self : tie.Need-element-set-from-self
-element-set-from-self c =
-    let k = attachable _ _ (c .before .before .before .session-tests .ensures) (c .before .if2 .left) in
+mul-session : tie.Need-mul-session
+mul-session c = search needs
+
+element-set-from-session : tie.Need-element-set-from-session
+element-set-from-session c =
+    let c1 = c .before .before in
+    let k = attachable _ _ (c1 .before .before .session-tests .ensures) (c1 .if2 .left) in
     omega arith
 
 returns-3 : tie.Need-returns-3
 unfolding withSession sessionAt
 returns-3 c =
-    rw (attachable _ _ (c .before .before .before .session-tests .ensures) (c .before .if2 .left) .outcome, c .level-of .ensures)
+    let c1 = c .before in
+    let c2 = c1 .before in
+    rw (attachable _ _ (c2 .before .before .session-tests .ensures) (c2 .if2 .left) .outcome, c1 .level-of .ensures, c .nobody .ensures)
 
 pub attach-spec : {M : Type 1} → statement M
 attach-spec =
@@ -41,6 +47,7 @@ attach-spec =
     returns
     returns-2
     level-of-requires
-    mul-t19
-    element-set-from-self
+    nobody-requires
+    mul-session
+    element-set-from-session
     returns-3)

@@ -22,17 +22,23 @@ element-copy-out-session c =
     let k = known _ _ (c .before .session-tests .ensures) (c .if1 .left) in
     omega arith
 
-mul-t14 : tie.Need-mul-t14
-mul-t14 c = search needs
+nobody-requires : tie.Need-nobody-requires
+nobody-requires c κs = search needs
 
-element-set-from-self : tie.Need-element-set-from-self
-element-set-from-self c =
-    let k = known _ _ (c .before .before .session-tests .ensures) (c .before .if1 .left) in
+mul-left : tie.Need-mul-left
+mul-left c = search needs
+
+element-set-from-left : tie.Need-element-set-from-left
+element-set-from-left c =
+    let c1 = c .before .before in
+    let k = known _ _ (c1 .before .session-tests .ensures) (c1 .if1 .left) in
     omega arith
 
 returns-2 : tie.Need-returns-2
 unfolding detach withSession sessionAt
-returns-2 c = rw (let-in _ _ (c .before .before .session-tests .ensures) (c .before .if1 .left))
+returns-2 c =
+    let c1 = c .before .before in
+    rw (let-in _ _ (c1 .before .session-tests .ensures) (c1 .if1 .left), c .nobody .ensures)
 
 pub detach-spec : {M : Type 1} → statement M
 detach-spec =
@@ -42,6 +48,7 @@ detach-spec =
     returns
     mul-session
     element-copy-out-session
-    mul-t14
-    element-set-from-self
+    nobody-requires
+    mul-left
+    element-set-from-left
     returns-2)

@@ -1,6 +1,7 @@
 -- The level of the phase, and whether an attached session is found that isn't at it.
 use mathlib.Core.Path.{_≡_}
 use lib.ListN.{length}
+use Rattle.rules.specs.Control.{sessionCount}
 use Rattle.rules.specs.Collector.{haveLevel}
 use Rattle.store.proofs.Marked.{unmapped}
 use Rattle.store.proofs.Searches.{lowest, all-at}
@@ -19,7 +20,7 @@ unfolding haveLevel
 returns c =
     let start = c .before .before .before in
     let sessions = start .args .self .sessions in
-    let k : length sessions ≡ 16 = search (needs, unmapped) in
+    let k : length sessions ≡ sessionCount = search (needs, unmapped) in
     λ h0 h1 l. rw (← c .before .before .level-of .ensures) (rw k at (all-at _ sessions _ (lowest sessions k (c .lowest .ensures))))
 
 pub have-level-spec : {M : Type 1} → statement M

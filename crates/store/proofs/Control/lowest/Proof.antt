@@ -4,6 +4,7 @@ use mathlib.Core.Path.{_≡_, _∙_, sym}
 use mathlib.Core.Bool.{false}
 use native.Mathlib.Omega.{arith}
 use lib.ListN.{length, getD}
+use Rattle.rules.specs.Control.{sessionCount}
 use Rattle.rules.specs.Phases.{absent}
 use Rattle.store.specs.Searching.{isWanted}
 use Rattle.store.proofs.Searches.{none-more}
@@ -13,10 +14,10 @@ use Rattle.store.proofs.Control.lowest.Tie as tie
 
 abbrev Inv-loop : tie.InvT-loop
 Inv-loop first wanted sessions i₀ i =
-    (length sessions ≡ 16) × (first ≤ i) × (i ≤ 16) × ((j : ℕ) → first ≤ j → j < i → isWanted wanted (getD sessions j absent) ≡ false)
+    (length sessions ≡ sessionCount) × (first ≤ i) × (i ≤ sessionCount) × ((j : ℕ) → first ≤ j → j < i → isWanted wanted (getD sessions j absent) ≡ false)
 
 abbrev μ-loop : tie.MeasureT-loop
-μ-loop first wanted sessions i₀ i = 16 - i
+μ-loop first wanted sessions i₀ i = sessionCount - i
 
 loop-holds : tie.Need-loop-holds Inv-loop μ-loop
 loop-holds c = (search needs, search needs, search needs, λ j h k. absurd (omega arith))

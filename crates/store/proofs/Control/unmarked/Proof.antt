@@ -4,6 +4,7 @@ use mathlib.Core.Path.{_≡_, _∙_, refl, sym}
 use mathlib.Core.Bool.{false}
 use native.Mathlib.Omega.{arith}
 use lib.ListN.{length, getD}
+use Rattle.rules.specs.Control.{sessionCount}
 use Rattle.rules.specs.Phases.{absent, unmarked}
 use Rattle.store.proofs.Searches.{cleared-length, cleared-same, found-later, none-before, none-marked}
 use borrow.Author.Needs.{needs}
@@ -12,10 +13,10 @@ use Rattle.store.proofs.Control.unmarked.Tie as tie
 
 abbrev Inv-loop : tie.InvT-loop
 Inv-loop old i₀ next i =
-    (length next ≡ 16) × (i ≤ 16) × (unmarked next ≡ unmarked old) × ((j : ℕ) → j < i → getD next j absent .scanned ≡ false)
+    (length next ≡ sessionCount) × (i ≤ sessionCount) × (unmarked next ≡ unmarked old) × ((j : ℕ) → j < i → getD next j absent .scanned ≡ false)
 
 abbrev μ-loop : tie.MeasureT-loop
-μ-loop old i₀ next i = 16 - i
+μ-loop old i₀ next i = sessionCount - i
 
 lowest-requires : tie.Need-lowest-requires Inv-loop μ-loop
 lowest-requires c κs = search needs

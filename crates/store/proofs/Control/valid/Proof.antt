@@ -1,6 +1,7 @@
 -- The control record test: the code's groups of tests are the rules' row.
 use mathlib.Core.Path.{_≡_}
 use lib.ListN.{length}
+use Rattle.rules.specs.Control.{sessionCount}
 use Rattle.store.specs.View.{view}
 use Rattle.store.proofs.Marked.{unmapped}
 use Rattle.store.proofs.Searches.{lowest, levels-in-range}
@@ -18,7 +19,7 @@ returns c =
     let a = c1 .args in
     let sessions = a .self .sessions in
     let ok = c1 .good .0 .1 .1 .1 .1 .1 .1 .1 .0 in
-    let k : length sessions ≡ 16 = search (needs, unmapped) in
+    let k : length sessions ≡ sessionCount = search (needs, unmapped) in
     in-groups (view (a .self) (a .h0 .now) (a .h1 .now) (a .list .now)) _ (rw k at (levels-in-range sessions _ (lowest sessions k (c .lowest .ensures))))
 
 pub valid-spec : {M : Type 1} → statement M

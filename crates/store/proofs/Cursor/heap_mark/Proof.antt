@@ -3,6 +3,7 @@ use mathlib.Core.Path.{_≡_, ap}
 use mathlib.Core.List.{List}
 use native.Mathlib.Omega.{arith}
 use lib.ListN.{length, getD}
+use Rattle.rules.specs.Control.{sessionCount}
 use Rattle.rules.specs.Phases.{absent}
 use Rattle.rules.specs.declared.Session.{Session}
 use Rattle.store.specs.Cursors.{having}
@@ -14,7 +15,7 @@ use Rattle.store.proofs.Cursor.heap_mark.Statement.{statement}
 use Rattle.store.proofs.Cursor.heap_mark.Tie as tie
 
 -- the number of sessions
-count : (c : tie.Start) → length (c .args .t2) ≡ 16
+count : (c : tie.Start) → length (c .args .t2) ≡ sessionCount
 count c = search (needs, unmapped)
 
 mul-v : tie.Need-mul-v

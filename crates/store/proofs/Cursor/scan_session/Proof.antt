@@ -3,6 +3,7 @@
 use mathlib.Core.Path.{_≡_, _∙_, ap, refl}
 use native.Mathlib.Omega.{arith}
 use lib.ListN.{length}
+use Rattle.rules.specs.Control.{registerCount}
 use Rattle.rules.specs.Phases.{sessionAt}
 use Rattle.rules.specs.Barriers.{Heap}
 use Rattle.rules.specs.Collector.{toShadeAll}
@@ -32,7 +33,7 @@ known c =
     let start = c2 .before .before .before .before in
     let o = c1 .white-registers in
     let ok = o .ok .1 .1 in
-    let long : length (o .result .words) ≡ 8 = search needs in
+    let long : length (o .result .words) ≡ registerCount = search needs in
     record {
       ranges = start .pre .0;
       ends = start .pre .1;

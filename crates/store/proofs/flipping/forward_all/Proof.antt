@@ -3,6 +3,7 @@ use Prim.Native.Nat.{_≤_, _-_}
 use mathlib.Core.Path.{_≡_, _∙_, sym, ap}
 use native.Mathlib.Omega.{arith}
 use lib.ListN.{length}
+use Rattle.rules.specs.Control.{registerCount}
 use Rattle.rules.specs.Barriers.{to}
 use Rattle.heap.specs.View.{heap, checked}
 use Rattle.store.proofs.Forwards.{So, all-start, all-lost, all-more, all-done}
@@ -11,10 +12,10 @@ use Rattle.store.proofs.flipping.forward_all.Statement.{statement}
 use Rattle.store.proofs.flipping.forward_all.Tie as tie
 
 abbrev Inv-loop : tie.InvT-loop
-Inv-loop b h0 h1 old new₀ i₀ new i = (length old ≡ 8) × (length new ≡ 8) × (i ≤ 8) × So (heap b h0 h1 .memory) (to (heap b h0 h1)) old new i
+Inv-loop b h0 h1 old new₀ i₀ new i = (length old ≡ registerCount) × (length new ≡ registerCount) × (i ≤ registerCount) × So (heap b h0 h1 .memory) (to (heap b h0 h1)) old new i
 
 abbrev μ-loop : tie.MeasureT-loop
-μ-loop b h0 h1 old new₀ i₀ new i = 8 - i
+μ-loop b h0 h1 old new₀ i₀ new i = registerCount - i
 
 loop-holds : tie.Need-loop-holds Inv-loop μ-loop
 loop-holds c =

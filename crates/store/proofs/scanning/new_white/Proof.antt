@@ -4,6 +4,7 @@ use mathlib.Core.Path.{_≡_, refl}
 use native.Mathlib.Omega.{arith}
 use lib.ListN.{length, drop, take}
 use borrow.Author.Tests.{eq-eqb}
+use Rattle.rules.specs.Control.{registerCount}
 use Rattle.store.specs.Marking.{among}
 use Rattle.store.proofs.Collected.{search-found, search-on, search-ended}
 use borrow.Author.Needs.{needs}
@@ -11,7 +12,7 @@ use Rattle.store.proofs.scanning.new_white.Statement.{statement}
 use Rattle.store.proofs.scanning.new_white.Tie as tie
 
 abbrev Inv-loop : tie.InvT-loop
-Inv-loop count v words i₀ i = (length words ≡ 8) × (count ≤ 8) × (i ≤ count) × (among v (take count words) ≡ among v (drop i (take count words)))
+Inv-loop count v words i₀ i = (length words ≡ registerCount) × (count ≤ registerCount) × (i ≤ count) × (among v (take count words) ≡ among v (drop i (take count words)))
 
 abbrev μ-loop : tie.MeasureT-loop
 μ-loop count v words i₀ i = count - i

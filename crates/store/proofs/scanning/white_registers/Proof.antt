@@ -3,6 +3,7 @@ use Prim.Native.Nat.{_≤_, _-_}
 use mathlib.Core.Path.{_≡_, sym, _∙_, ap}
 use native.Mathlib.Omega.{arith}
 use lib.ListN.{length, take, drop, length-set}
+use Rattle.rules.specs.Control.{registerCount}
 use Rattle.rules.specs.Collector.{toShadeAll}
 use Rattle.heap.specs.View.{heap, checked}
 use Rattle.store.proofs.Collected.{joined, first-joined, last-joined, few-more, register-damage, register-met}
@@ -11,11 +12,11 @@ use Rattle.store.proofs.scanning.white_registers.Statement.{statement}
 use Rattle.store.proofs.scanning.white_registers.Tie as tie
 
 abbrev Inv-loop : tie.InvT-loop
-Inv-loop b h0 h1 registers words₀ count₀ i₀ words count i = (length registers ≡ 8) × (length words ≡ 8) × (i ≤ 8) × (count ≤ i)
+Inv-loop b h0 h1 registers words₀ count₀ i₀ words count i = (length registers ≡ registerCount) × (length words ≡ registerCount) × (i ≤ registerCount) × (count ≤ i)
     × (toShadeAll (heap b h0 h1 .memory) registers ≡ joined (take count words) (toShadeAll (heap b h0 h1 .memory) (drop i registers)))
 
 abbrev μ-loop : tie.MeasureT-loop
-μ-loop b h0 h1 registers words₀ count₀ i₀ words count i = 8 - i
+μ-loop b h0 h1 registers words₀ count₀ i₀ words count i = registerCount - i
 
 loop-holds : tie.Need-loop-holds Inv-loop μ-loop
 loop-holds c = (search needs, search needs, search needs, search needs, first-joined _ (c .before .before .args .t4))

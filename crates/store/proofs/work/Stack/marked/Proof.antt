@@ -3,6 +3,7 @@ use mathlib.Core.Path.{_≡_}
 use native.Mathlib.Omega.{arith}
 use lib.ListN.{length}
 use lib.Seq.{set-out}
+use Rattle.rules.specs.Control.{sessionCount}
 use Rattle.store.proofs.Marked.{unmapped}
 use borrow.Author.Needs.{needs}
 use Rattle.store.proofs.work.Stack.marked.Statement.{statement}
@@ -29,7 +30,7 @@ returns c = rw (c .registers .ensures)
 returns-2 : tie.Need-returns-2
 returns-2 c =
     let start = c .before in
-    let k : length (start .args .sessions) ≡ 16 = search (needs, unmapped) in
+    let k : length (start .args .sessions) ≡ sessionCount = search (needs, unmapped) in
     rw (set-out (start .args .sessions) (start .args .n) _ (omega arith))
 
 pub marked-spec : {M : Type 1} → statement M
