@@ -7,7 +7,7 @@ use native.Mathlib.Omega.{arith}
 use lib.Dec.{leb}
 use lib.ListN.{length, getD}
 use borrow.Author.Tests.{le-leb, lt-leb, leb-true}
-use Rattle.rules.specs.Memory.{Memory, half, frontier, halfOf, wordOf, header, shapeAt, colourAt, black, refsOf, plainsOf, word, colour, refs, plains, size, sound, follow}
+use Rattle.rules.specs.Memory.{Memory, half, frontier, halfOf, wordOf, header, shapeAt, colourAt, black, refsOf, plainsOf, word, colour, refs, plains, size, sound, follow, mostCount, mostShape}
 use Rattle.rules.specs.declared.Followed.{Followed}
 use Rattle.rules.specs.declared.Followed.the-variants.{Sound, Damage}
 use Rattle.rules.proofs.Ranges.{both}
@@ -61,8 +61,8 @@ pub record Found (M : Memory) (v at r p : ℕ) : Type 0 where
   pub place : at ≡ wordOf v
   pub refs : r ≡ refs M v
   pub plains : p ≡ plains M v
-  pub few : r ≤ 255
-  pub some : p ≤ 255
+  pub few : r ≤ mostCount
+  pub some : p ≤ mostCount
   pub below : wordOf v + size M v ≤ frontier M (halfOf v)
 
 split : (b : Bool) (k x y : ℕ) {at r p : ℕ} → cond b (Sound k x y) Damage ≡ Sound at r p → (b ≡ true) × (k ≡ at) × (x ≡ r) × (y ≡ p)
@@ -70,12 +70,12 @@ split true k x y e = (refl, cc, cc, cc)
 split false k x y e = absurd (let z : _≡_ {A = ℕ} 0 1 = cc in omega arith)
 
 -- the tests of a sound reference, and its counts
-small : (w : ℕ) → w ≤ 65535 → (refsOf w ≤ 255) × (plainsOf w ≤ 255)
+small : (w : ℕ) → w ≤ mostShape → (refsOf w ≤ mostCount) × (plainsOf w ≤ mostCount)
 unfolding refsOf plainsOf
 small w h = (omega arith, omega arith)
 
 sound-passed : (M : Memory) (v : ℕ) → sound M v ≡ true
-    → (2 ≤ v) × (word M v 0 ≤ 65535) × (wordOf v + size M v ≤ frontier M (halfOf v))
+    → (2 ≤ v) × (word M v 0 ≤ mostShape) × (wordOf v + size M v ≤ frontier M (halfOf v))
 unfolding sound
 sound-passed M v e =
     let x = both (leb 2 v && leb (word M v 0) 65535 && leb (colour M v) 2) (leb (wordOf v + size M v) (frontier M (halfOf v))) e in
@@ -89,7 +89,7 @@ sound-named M v e = sound-passed M v e .0
 pub sound-below : (M : Memory) (v : ℕ) → sound M v ≡ true → wordOf v + size M v ≤ frontier M (halfOf v)
 sound-below M v e = sound-passed M v e .2
 
-sound-small : (M : Memory) (v : ℕ) → sound M v ≡ true → (refs M v ≤ 255) × (plains M v ≤ 255)
+sound-small : (M : Memory) (v : ℕ) → sound M v ≡ true → (refs M v ≤ mostCount) × (plains M v ≤ mostCount)
 unfolding refs plains
 sound-small M v e = small (word M v 0) (sound-passed M v e .1)
 

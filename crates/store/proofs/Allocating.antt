@@ -8,8 +8,8 @@ use lib.Dec.{leb}
 use lib.ListN.{length}
 use borrow.Author.Tests.{le-leb, lt-leb, leb-true, eq-eqb, ne-eqb}
 use Rattle.rules.specs.Refusals.{passed, refusalOf, done}
-use Rattle.rules.specs.Memory.{half, frontier, header}
-use Rattle.rules.specs.Control.{Store, withMemory}
+use Rattle.rules.specs.Memory.{half, frontier, header, mostCount}
+use Rattle.rules.specs.Control.{Store, withMemory, lastRegister, lastSession}
 use Rattle.rules.specs.Phases.{sessionAt}
 use Rattle.rules.specs.Barriers.{roomIn, allocationRoom, allocated, allocatedReference}
 use Rattle.rules.specs.Calls.{sessionOf, isRegister, isShape, withRegister, allocate}
@@ -26,9 +26,9 @@ module _ (c : Control) (h0 h1 l : List ℕ) (k : InRange (view c h0 h1 l)) where
   pub fits : Fits c h0 h1
   fits = record { low = k .lent0; high = k .equal ∙ k .lent1 }
 
-  pub small : (r p : ℕ) → (leb r 255 && leb p 255) ≡ true → Small c r p
+  pub small : (r p : ℕ) → (leb r mostCount && leb p mostCount) ≡ true → Small c r p
   small r p e =
-      let b = both (leb r 255) (leb p 255) e in
+      let b = both (leb r mostCount) (leb p mostCount) e in
       record { half = k .half; low = omega (arith, k); high = omega (arith, k); refs = leb-true r 255 (b .0); plains = leb-true p 255 (b .1) }
 
 -- ---- the test of room
@@ -48,14 +48,14 @@ module _ (s : Store) (l r p n : ℕ) (f0 : n ≡ length (s .memory .half0)) (f1 
 
 -- ---- the row of tests
 
-module _ (s : Store) (n k r p : ℕ) (a : sessionOf s n ≡ passed (sessionAt s n)) (i : k ≤ 7) (j : (leb r 255 && leb p 255) ≡ true) where
+module _ (s : Store) (n k r p : ℕ) (a : sessionOf s n ≡ passed (sessionAt s n)) (i : k ≤ lastRegister) (j : (leb r mostCount && leb p mostCount) ≡ true) where
   pub tests-passed : allocationRoom s (sessionAt s n .level) r p ≡ true → 0 ≡ refusalOf (allocate s n k r p)
   unfolding allocate
-  tests-passed b = rw (a, le-leb k 7 i, j, b)
+  tests-passed b = rw (a, le-leb k lastRegister i, j, b)
 
   pub tests-no-room : allocationRoom s (sessionAt s n .level) r p ≡ false → 14 ≡ refusalOf (allocate s n k r p)
   unfolding allocate
-  tests-no-room b = rw (a, le-leb k 7 i, j, b)
+  tests-no-room b = rw (a, le-leb k lastRegister i, j, b)
 
 -- the store with the record allocated at level l
 abbrev after : Store → ℕ → ℕ → ℕ → ℕ → ℕ → Store
@@ -63,8 +63,8 @@ after s n k l r p = withRegister (withMemory s (allocated s l r p)) n k (allocat
 
 -- what holds where the tests answered 0
 pub record Allocating (c : Control) (h0 h1 g : List ℕ) (n k r p : ℕ) : Type 0 where
-  pub number : n ≤ 15
-  pub register : k ≤ 7
+  pub number : n ≤ lastSession
+  pub register : k ≤ lastRegister
   pub ready : Allocatable c h0 h1 (sessionAt (view c h0 h1 g) n .level) r p
   pub outcome : allocate (view c h0 h1 g) n k r p ≡ done (after (view c h0 h1 g) n k (sessionAt (view c h0 h1 g) n .level) r p)
 

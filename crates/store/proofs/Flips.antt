@@ -7,7 +7,7 @@ use lib.ListN.{length, getD, set}
 use borrow.Author.Tests.{lt-ltb, le-ltb, not-true, not-false}
 use Rattle.rules.specs.Refusals.{refused, passed}
 use Rattle.rules.specs.Memory.{forward}
-use Rattle.rules.specs.Control.{Store, withWalk, withGlobals, withCurrent, sessionCount}
+use Rattle.rules.specs.Control.{Store, withWalk, withGlobals, withCurrent, sessionCount, globalCount}
 use Rattle.rules.specs.Phases.{tospace, absent, sessionAt, withSession, withRegisters, withMark, lowestUnmarked, moveOn}
 use Rattle.rules.specs.Collector.{rootFlip, forwardAll, stackFlip}
 use Rattle.store.specs.Steps.{went, stepped}
@@ -25,11 +25,11 @@ pub moved-true : (r : Registers) → not (r .sound) ≡ false → forwarded r �
 moved-true r e = rw (not-false (r .sound) e)
 
 module _ (s : Store) where
-  pub roots-done : 32 ≤ s .walk .place → went (moveOn s) ≡ stepped s (rootFlip s)
+  pub roots-done : globalCount ≤ s .walk .place → went (moveOn s) ≡ stepped s (rootFlip s)
   unfolding rootFlip
   roots-done l = rw (le-ltb (s .walk .place) 32 l)
 
-  module _ {v : ℕ} (l : s .walk .place < 32) (g : v ≡ getD (s .globals) (s .walk .place) 0) where
+  module _ {v : ℕ} (l : s .walk .place < globalCount) (g : v ≡ getD (s .globals) (s .walk .place) 0) where
     pub root-lost : forward (s .memory) (tospace s) v ≡ refused 12 → worked s (Refused 12) ≡ stepped s (rootFlip s)
     unfolding rootFlip
     root-lost f = rw (lt-ltb (s .walk .place) 32 l, ← g, f)

@@ -8,7 +8,7 @@ use lib.ListN.{getD, replicate}
 use borrow.Author.Tests.{leb-true, not-true, not-false}
 use Rattle.rules.specs.Refusals.{Tested, refused, passed, check, refusalOf, _>>=_, _>>_, done}
 use Rattle.rules.specs.Memory.{null}
-use Rattle.rules.specs.Control.{Store, inRange, registerCount}
+use Rattle.rules.specs.Control.{Store, inRange, registerCount, lastGlobal, lastRegister, lastSession}
 use Rattle.rules.specs.Phases.{sessionAt, withSession, register, levelOf}
 use Rattle.rules.specs.Calls.{sessionOf, isRegister, isGlobal, withRegister, attach, move, clear, get}
 use Rattle.rules.proofs.Ranges.{both, InRange, in-range, InSession, in-session, session-passed, refused-with}
@@ -45,24 +45,24 @@ module _ {g : ℕ} (s : Store) (n : ℕ) (e : g ≡ refusalOf (sessionOf s n)) w
 -- ---- two register arguments, tested by one flag
 
 module _ (a b : ℕ) where
-  pub registers-out : not (leb a 7 && leb b 7) ≡ true → (leb a 7 && leb b 7) ≡ false
-  registers-out = not-true (leb a 7 && leb b 7)
+  pub registers-out : not (leb a lastRegister && leb b lastRegister) ≡ true → (leb a lastRegister && leb b lastRegister) ≡ false
+  registers-out = not-true (leb a lastRegister && leb b lastRegister)
 
-  pub registers-in : not (leb a 7 && leb b 7) ≡ false → (leb a 7 && leb b 7) ≡ true
-  registers-in = not-false (leb a 7 && leb b 7)
+  pub registers-in : not (leb a lastRegister && leb b lastRegister) ≡ false → (leb a lastRegister && leb b lastRegister) ≡ true
+  registers-in = not-false (leb a lastRegister && leb b lastRegister)
 
-  pub registers-known : not (leb a 7 && leb b 7) ≡ false → (a ≤ 7) × (b ≤ 7)
+  pub registers-known : not (leb a lastRegister && leb b lastRegister) ≡ false → (a ≤ lastRegister) × (b ≤ lastRegister)
   registers-known e =
-      let k = both (leb a 7) (leb b 7) (registers-in e) in
+      let k = both (leb a lastRegister) (leb b lastRegister) (registers-in e) in
       (leb-true _ _ (k .0), leb-true _ _ (k .1))
 
 -- ---- move, clear and get, by all their tests
 
 -- what holds where the tests of a move answered 0; a clear of register `to` has the same with the register given twice
 pub record Movable (s : Store) (n to from : ℕ) : Type 0 where
-  pub number : n ≤ 15
-  pub first : to ≤ 7
-  pub second : from ≤ 7
+  pub number : n ≤ lastSession
+  pub first : to ≤ lastRegister
+  pub second : from ≤ lastRegister
   pub moved : move s n to from ≡ done (withRegister s n to (register (sessionAt s n) from))
   pub cleared : clear s n to ≡ done (withRegister s n to null)
 
@@ -71,7 +71,7 @@ unfolding move clear
 movable s n to from e z =
     let f = session-passed s n (first-passed (sessionOf s n) _ (sym e ∙ z)) in
     let t = check-passed (isRegister to && isRegister from) 7 _ (rw f at (sym e ∙ z)) in
-    let b = both (leb to 7) (leb from 7) (t .0) in
+    let b = both (leb to lastRegister) (leb from lastRegister) (t .0) in
     record {
       number = in-session s n f .number;
       first = leb-true to 7 (b .0);
@@ -93,9 +93,9 @@ not-cleared s n k e = refused-by (clear s n k) (e ∙ twice (sessionOf s n) (isR
 
 -- what holds where the tests of a get answered 0
 pub record Gettable (s : Store) (n to o : ℕ) : Type 0 where
-  pub number : n ≤ 15
-  pub register : to ≤ 7
-  pub global : o ≤ 31
+  pub number : n ≤ lastSession
+  pub register : to ≤ lastRegister
+  pub global : o ≤ lastGlobal
   pub got : get s n to o ≡ done (withRegister s n to (getD (s .globals) o null))
 
 pub gettable : {g : ℕ} (s : Store) (n to o : ℕ) → g ≡ refusalOf (get s n to o) → g ≡ 0 → Gettable s n to o
@@ -150,20 +150,20 @@ attached s n =
 module _ {g : ℕ} (s : Store) (n : ℕ) (e : g ≡ refusalOf (sessionOf s n)) where
   pub attached-already : g ≡ 0 → attach s n ≡ refused 7
   unfolding sessionOf attach row attach-row
-  attached-already z = row-0 (sessionAt s n) _ (inRange s) (leb n 15) (sessionAt s n .attached) (sym e ∙ z)
+  attached-already z = row-0 (sessionAt s n) _ (inRange s) (leb n lastSession) (sessionAt s n .attached) (sym e ∙ z)
 
   pub not-attachable : (g ≡ 0 → ⊥) → (g ≡ 6 → ⊥) → attach s n ≡ refused g
   unfolding sessionOf attach row attach-row
-  not-attachable = row-other (sessionAt s n) _ (inRange s) (leb n 15) (sessionAt s n .attached) e
+  not-attachable = row-other (sessionAt s n) _ (inRange s) (leb n lastSession) (sessionAt s n .attached) e
 
 -- what holds where attach passes its tests
 pub record Attachable (s : Store) (n : ℕ) : Type 0 where
   pub ranges : InRange s
-  pub number : n ≤ 15
+  pub number : n ≤ lastSession
   pub outcome : attach s n ≡ done (attached s n)
 
 pub attachable : {g : ℕ} (s : Store) (n : ℕ) → g ≡ refusalOf (sessionOf s n) → g ≡ 6 → Attachable s n
 unfolding sessionOf attach row attach-row
 attachable s n e z =
-    let k = row-6 (sessionAt s n) (done (attached s n)) (inRange s) (leb n 15) (sessionAt s n .attached) (sym e ∙ z) in
+    let k = row-6 (sessionAt s n) (done (attached s n)) (inRange s) (leb n lastSession) (sessionAt s n .attached) (sym e ∙ z) in
     record { ranges = in-range s (k .0); number = leb-true _ _ (k .1); outcome = k .2 }

@@ -10,7 +10,7 @@ use lib.Seq.{getD-take, length-take-le, sets}
 use borrow.Author.Tests.{lt-ltb, le-ltb, le-leb, lt-leb, leb-true, leb-false, not-true, not-false}
 use Rattle.rules.specs.Refusals.{Tested, refused, passed}
 use Rattle.rules.specs.Memory.{Memory, word, put, refs, sound, follow, followed, colourAt, grey, black, header}
-use Rattle.rules.specs.Control.{Store, withMemory, withWalk, withList, withSessions}
+use Rattle.rules.specs.Control.{Store, withMemory, withWalk, withList, withSessions, globalCount}
 use Rattle.rules.specs.Phases.{moveOn, lowestUnmarked, absent, sessionAt, withSession, withMark, unmarked}
 use Rattle.rules.specs.Barriers.{heapOf, listRoom, shading, shade}
 use Rattle.rules.specs.Collector.{rootMark, scanRecord, scanSession, heapMark, toShadeAll, shadeAll}
@@ -65,11 +65,11 @@ module _ {r : Checked} (s : Store) (q : ℕ) (e : checked r ≡ shading (heapOf 
 -- ---- RootMark
 
 module _ (s : Store) where
-  pub roots-done : 32 ≤ s .walk .place → rootMark s ≡ passed (moveOn s)
+  pub roots-done : globalCount ≤ s .walk .place → rootMark s ≡ passed (moveOn s)
   unfolding rootMark
   roots-done h = rw (le-ltb (s .walk .place) 32 h)
 
-  pub root-next : {q : ℕ} → s .walk .place < 32 → q ≡ getD (s .globals) (s .walk .place) 0
+  pub root-next : {q : ℕ} → s .walk .place < globalCount → q ≡ getD (s .globals) (s .walk .place) 0
       → rootMark s ≡ shadeNext s q (s .walk .place + 1) (s .walk .field)
   unfolding rootMark shadeNext
   root-next h e = rw (lt-ltb (s .walk .place) 32 h, e)

@@ -8,8 +8,9 @@ use lib.Dec.{eqb}
 use lib.ListN.{length}
 use lib.Seq.{sets}
 use borrow.Author.Tests.{le-leb, lt-leb, leb-true}
+use Rattle.rules.specs.Cycle.{atReclaim}
 use Rattle.rules.specs.Memory.{Memory, half, frontier, withHalf, withFrontier, reference, shapeWord, newRecord, append, nextReference, header}
-use Rattle.rules.specs.Control.{Store, withMemory}
+use Rattle.rules.specs.Control.{Store, withMemory, mostLength}
 use Rattle.rules.specs.Phases.{otherHalf, fromspace, tospace}
 use Rattle.rules.specs.Barriers.{roomIn, allocationRoom, placed, allocated, allocatedReference}
 use Rattle.rules.proofs.Ranges.{both}
@@ -51,13 +52,13 @@ chosen-small false h l = l
 
 pub fromspace-small : {from : ℕ} (s : Store) → from ≡ fromspace s → s .current ≤ 1 → from ≤ 1
 unfolding fromspace
-fromspace-small s e l = rw e (chosen-small (eqb (s .phase) 12) (s .current) l)
+fromspace-small s e l = rw e (chosen-small (eqb (s .phase) atReclaim) (s .current) l)
 
-front-small : (b : Bool) (f0 f1 : ℕ) → f0 ≤ 1048576 → f1 ≤ 1048576 → cond b f0 f1 ≤ 1048576
+front-small : (b : Bool) (f0 f1 : ℕ) → f0 ≤ mostLength → f1 ≤ mostLength → cond b f0 f1 ≤ mostLength
 front-small true f0 f1 x y = x
 front-small false f0 f1 x y = y
 
-pub frontier-small : (h0 h1 : List ℕ) (f0 f1 h : ℕ) → f0 ≤ 1048576 → f1 ≤ 1048576 → frontier (memory h0 h1 f0 f1) h ≤ 1048576
+pub frontier-small : (h0 h1 : List ℕ) (f0 f1 h : ℕ) → f0 ≤ mostLength → f1 ≤ mostLength → frontier (memory h0 h1 f0 f1) h ≤ mostLength
 unfolding frontier
 frontier-small h0 h1 f0 f1 h x y = front-small (eqb h 0) f0 f1 x y
 
@@ -113,7 +114,7 @@ room-second {to} d c h0 h1 k0 k1 from r p x v n t m e =
     let a : frontier N to ≡ frontier M to = ap (λ (Z : Memory). frontier Z to) E ∙ rw t (k .0) in
     let b : length (half N to) ≡ length (half M to) = ap (λ (Z : Memory). length (half Z to)) E ∙ rw t (ap length (k .1)) in
     let u : frontier M to + (r + p + header) ≤ length (half M to) = m .above in
-    let w : frontier M to ≤ 1048576 = m .short in
+    let w : frontier M to ≤ mostLength = m .short in
     record { above = omega arith; short = omega arith; refs = m .refs; plains = m .plains }
 
 -- ---- what is written, by level

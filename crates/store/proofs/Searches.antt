@@ -9,7 +9,7 @@ use lib.Dec.{leb, ltb, eqb, eqb·suc-suc, eqb·zero-suc}
 use lib.ListN.{length, length-map, length-set, set, getD, List·getD-map}
 use lib.Seq.{getD-set-same, getD-set-other, map-set-same, ext-getD}
 use borrow.Author.Tests.{ltb-true, ltb-false, lt-leb, le-leb, eqb-true, eqb-false}
-use Rattle.rules.specs.Control.{levelsInRange, sessionCount}
+use Rattle.rules.specs.Control.{levelsInRange, sessionCount, lastLevel}
 use Rattle.rules.specs.Phases.{absent, withMark, unmarked, allAt, lowestUnmarked}
 use Rattle.rules.specs.declared.Session.{Session}
 use Rattle.store.specs.Searching.{isWanted}
@@ -90,12 +90,12 @@ level-not : (n k : ℕ) (b : Bool) → ltb k n ≡ b → leb n k ≡ not b
 level-not n k true e = lt-leb n k (ltb-true k n e)
 level-not n k false e = le-leb n k (ltb-false k n e)
 
-levels-along : (l : List Session) → eqb (lowestOf (isWanted (Above 6)) l) (length l) ≡ levelsInRange l
+levels-along : (l : List Session) → eqb (lowestOf (isWanted (Above lastLevel)) l) (length l) ≡ levelsInRange l
 levels-along [] = refl
-levels-along (x ∷ xs) = none-at (ltb 6 (x .level)) _ _ _ (level-not (x .level) 6 (ltb 6 (x .level)) refl) (levels-along xs)
+levels-along (x ∷ xs) = none-at (ltb lastLevel (x .level)) _ _ _ (level-not (x .level) lastLevel (ltb lastLevel (x .level)) refl) (levels-along xs)
 
-pub levels-in-range : (l : List Session) (r : ℕ) → Lowest (isWanted (Above 6)) l r → eqb r (length l) ≡ levelsInRange l
-levels-in-range l r h = ap (λ (n : ℕ). eqb n (length l)) (lowest-is (isWanted (Above 6)) l r h) ∙ levels-along l
+pub levels-in-range : (l : List Session) (r : ℕ) → Lowest (isWanted (Above lastLevel)) l r → eqb r (length l) ≡ levelsInRange l
+levels-in-range l r h = ap (λ (n : ℕ). eqb n (length l)) (lowest-is (isWanted (Above lastLevel)) l r h) ∙ levels-along l
 
 -- ---- scanned marks
 

@@ -10,7 +10,7 @@ use lib.Seq.{sets}
 use borrow.Author.Tests.{le-leb, lt-leb}
 use Rattle.rules.specs.Refusals.{Outcome, answer}
 use Rattle.rules.specs.Memory.{Memory, half, frontier, withHalf, withFrontier, reference, newRecord, nextReference, append, word, put, refs, plains, sound, followed, header}
-use Rattle.rules.specs.Control.{Store, withMemory, withWalk}
+use Rattle.rules.specs.Control.{Store, withMemory, withWalk, mostLength}
 use Rattle.rules.specs.Phases.{otherHalf}
 use Rattle.rules.specs.Collector.{walked, below, pastRecord, handshake, needsShell, shellOf, withShell, allocateShells}
 use Rattle.rules.specs.declared.Answer.the-variants.{Refused}
@@ -68,7 +68,7 @@ unfolding half
 other-long {c} {h0} {h1} h f0 f1 k = half-long (eqb h 0) h0 h1 refl (k .equal)
 
 pub front-small : {c : Cursor} {h0 h1 : List ℕ} {at : ℕ} (h : ℕ) → Ready c h0 h1 → at ≡ frontier (memory h0 h1 (c .frontier0) (c .frontier1)) h
-    → at ≤ 1048576
+    → at ≤ mostLength
 unfolding frontier
 front-small {c} {h0} {h1} {at} h k e =
     let l = chosen-below (eqb h 0) (c .frontier0) (c .frontier1) (length h0) (k .low) (omega (arith, k .high, k .equal)) in

@@ -4,6 +4,7 @@ use mathlib.Core.Path.{_≡_, _∙_, refl, sym, ap}
 use mathlib.Core.Bool.{true, false}
 use mathlib.Core.List.{List}
 use lib.ListN.{getD}
+use Rattle.rules.specs.Cycle.{atAllocate, atCopy, atHeapMark, atReclaim, atRest, atRootFlip, atRootMark, atStackFlip}
 use Rattle.rules.specs.Refusals.{Tested, refused, passed, _>>=_, Outcome, answer, answered, settle}
 use Rattle.rules.specs.Control.{Store, inRange}
 use Rattle.rules.specs.Phases.{moveOn}
@@ -18,7 +19,7 @@ use Rattle.store.specs.declared.work.Work.{Work}
 use Rattle.store.specs.declared.work.Work.the-variants.{Next}
 
 -- a phase that is none of the others only waits
-pub waits : (n : ℕ) → (n ≡ 0 → ⊥) → (n ≡ 3 → ⊥) → (n ≡ 4 → ⊥) → (n ≡ 5 → ⊥) → (n ≡ 7 → ⊥) → (n ≡ 10 → ⊥) → (n ≡ 11 → ⊥) → (n ≡ 12 → ⊥)
+pub waits : (n : ℕ) → (n ≡ atRest → ⊥) → (n ≡ atRootMark → ⊥) → (n ≡ atHeapMark → ⊥) → (n ≡ atAllocate → ⊥) → (n ≡ atCopy → ⊥) → (n ≡ atRootFlip → ⊥) → (n ≡ atStackFlip → ⊥) → (n ≡ atReclaim → ⊥)
     → getD units n handshake ≡ handshake
 waits zero a b c d e f g h = absurd (a refl)
 waits (suc zero) a b c d e f g h = refl

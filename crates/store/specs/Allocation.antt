@@ -4,7 +4,8 @@ use mathlib.Core.Path.{_≡_}
 use mathlib.Core.Bool.{true}
 use mathlib.Core.List.{List}
 use lib.ListN.{length}
-use Rattle.rules.specs.Memory.{half, frontier, header}
+use Rattle.rules.specs.Control.{mostLength}
+use Rattle.rules.specs.Memory.{half, frontier, header, mostCount}
 use Rattle.rules.specs.Barriers.{allocationRoom}
 use Rattle.heap.specs.View.{memory}
 use Rattle.store.specs.View.{view}
@@ -18,17 +19,17 @@ pub record Fits (c : Control) (h0 h1 : List ℕ) : Type 0 where
 -- the current half, the frontiers and the counts are in range
 pub record Small (c : Control) (r p : ℕ) : Type 0 where
   pub half : c .cursor .current ≤ 1
-  pub low : c .cursor .frontier0 ≤ 1048576
-  pub high : c .cursor .frontier1 ≤ 1048576
-  pub refs : r ≤ 255
-  pub plains : p ≤ 255
+  pub low : c .cursor .frontier0 ≤ mostLength
+  pub high : c .cursor .frontier1 ≤ mostLength
+  pub refs : r ≤ mostCount
+  pub plains : p ≤ mostCount
 
 -- half h has room above its frontier
 pub record Room (c : Control) (h0 h1 : List ℕ) (h r p : ℕ) : Type 0 where
   pub above : frontier (memory h0 h1 (c .cursor .frontier0) (c .cursor .frontier1)) h + (r + p + header) ≤ length (half (memory h0 h1 (c .cursor .frontier0) (c .cursor .frontier1)) h)
-  pub short : frontier (memory h0 h1 (c .cursor .frontier0) (c .cursor .frontier1)) h ≤ 1048576
-  pub refs : r ≤ 255
-  pub plains : p ≤ 255
+  pub short : frontier (memory h0 h1 (c .cursor .frontier0) (c .cursor .frontier1)) h ≤ mostLength
+  pub refs : r ≤ mostCount
+  pub plains : p ≤ mostCount
 
 -- the halves that an allocation at level l writes have room
 pub record Allocatable (c : Control) (h0 h1 : List ℕ) (l r p : ℕ) : Type 0 where

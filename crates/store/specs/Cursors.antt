@@ -5,8 +5,8 @@ use mathlib.Core.Bool.{cond}
 use mathlib.Core.List.{List}
 use lib.Dec.{eqb}
 use lib.ListN.{length}
-use Rattle.rules.specs.Control.{Store}
-use Rattle.rules.specs.Phases.{nextPhase}
+use Rattle.rules.specs.Cycle.{nextPhase, lastPhase}
+use Rattle.rules.specs.Control.{Store, mostFields, mostLength}
 use Rattle.store.specs.declared.Cursor.{Cursor}
 
 -- the store with the numbers of a cursor, over the words of half 0, half 1 and the list
@@ -102,8 +102,8 @@ pub record Ready (c : Cursor) (h0 h1 : List ℕ) : Type 0 where
   pub half : c .current ≤ 1
   pub low : c .frontier0 ≤ length h0
   pub high : c .frontier1 ≤ length h1
-  pub phases : c .phase ≤ 12
-  pub places : c .place ≤ 1048576
-  pub fields : c .field ≤ 510
+  pub phases : c .phase ≤ lastPhase
+  pub places : c .place ≤ mostLength
+  pub fields : c .field ≤ mostFields
   pub equal : length h0 ≡ length h1
-  pub most : length h0 ≤ 1048576
+  pub most : length h0 ≤ mostLength

@@ -3,6 +3,7 @@ use Prim.Native.Nat.{ℕ, _+_, _≤_}
 use mathlib.Core.Path.{_≡_}
 use mathlib.Core.List.{List}
 use lib.ListN.{length}
+use Rattle.rules.specs.Control.{mostLength}
 use Rattle.rules.specs.Memory.{half, shapeAt, replicaAt, refs, plains, header}
 use Rattle.heap.specs.View.{memory, Inside}
 
@@ -12,5 +13,5 @@ pub record Shelled (h0 h1 : List ℕ) (other at v n : ℕ) : Type 0 where
   pub replica : Inside h0 h1 v replicaAt
   pub fields : n ≡ refs (memory h0 h1 0 0) v + plains (memory h0 h1 0 0) v
   pub side : other ≤ 1
-  pub few : at ≤ 1048576
+  pub few : at ≤ mostLength
   pub room : at + (n + header) ≤ length (half (memory h0 h1 0 0) other)

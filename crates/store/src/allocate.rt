@@ -4,7 +4,7 @@ ghost use Prim.Native.Nat.{ℕ, _≤_};
 ghost use mathlib.Core.List.{List};
 ghost use Rattle.rules.specs.Refusals.{refusalOf};
 ghost use Rattle.rules.specs.Memory.{nextReference};
-ghost use Rattle.rules.specs.Control.{withMemory};
+ghost use Rattle.rules.specs.Control.{withMemory, mostLength};
 ghost use Rattle.rules.specs.Barriers.{allocationRoom, placed, allocated, allocatedReference};
 ghost use Rattle.rules.specs.Calls.{allocate};
 ghost use Rattle.rules.specs.Runs.{apply, Allocate};
@@ -132,7 +132,7 @@ impl Control {
 
     // The reference that the register gets.
     fn allocated_reference(self, level: u32) -> u32
-        requires { ⌜ (self .cursor .current ≤ 1) × (self .cursor .frontier0 ≤ 1048576) × (self .cursor .frontier1 ≤ 1048576) ⌝ }
+        requires { ⌜ (self .cursor .current ≤ 1) × (self .cursor .frontier0 ≤ mostLength) × (self .cursor .frontier1 ≤ mostLength) ⌝ }
         ensures { λ v. ⌜ ((h0 h1 l : List ℕ) → v ≡ allocatedReference (view self h0 h1 l) level) ⌝ }
     {
         let h = self.allocated_half(level);

@@ -2,6 +2,7 @@
 ghost use mathlib.Core.Path.{_≡_};
 ghost use Prim.Native.Nat.{ℕ, _≤_};
 ghost use mathlib.Core.List.{List};
+ghost use Rattle.rules.specs.Cycle.{lastPhase};
 ghost use Rattle.rules.specs.Control.{Store};
 ghost use Rattle.rules.specs.Barriers.{to};
 ghost use Rattle.rules.specs.Collector.{rootFlip, forwardAll, stackFlip};
@@ -61,7 +62,7 @@ fn forward_all<'a>(
 impl Cursor {
     // A half becomes current, and the step moves on.
     fn flip(mut self, half: u32) -> Work
-        requires { ⌜ self .phase ≤ 12 ⌝ }
+        requires { ⌜ self .phase ≤ lastPhase ⌝ }
         ensures { λ r. ⌜ r ≡ Next (movedOn (atHalf self half)) Marks ⌝ }
     {
         self.current = half;

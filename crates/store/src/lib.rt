@@ -4,7 +4,7 @@ ghost use mathlib.Core.Path.{_≡_};
 ghost use Prim.Native.Nat.{ℕ, _≤_};
 ghost use mathlib.Core.List.{List};
 ghost use Rattle.rules.specs.Control.{newStore, nobody};
-ghost use Rattle.rules.specs.Phases.{levelOf};
+ghost use Rattle.rules.specs.Cycle.{lastPhase, levelOf};
 ghost use Rattle.store.specs.View.{view, lengths};
 
 mod making; // making.rt: refusals 1 to 3
@@ -164,7 +164,7 @@ impl Control {
 
     // The level of a phase.
     pub(crate) fn level_of(phase: usize) -> u32
-        requires { ⌜ phase ≤ 12 ⌝ }
+        requires { ⌜ phase ≤ lastPhase ⌝ }
         ensures { λ r. ⌜ r ≡ levelOf phase ⌝ }
     {
         Control::number(Control::LEVELS[phase])

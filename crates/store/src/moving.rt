@@ -3,7 +3,7 @@ ghost use mathlib.Core.Path.{_≡_};
 ghost use Prim.Native.Nat.{ℕ, _≤_};
 ghost use mathlib.Core.List.{List};
 ghost use Rattle.rules.specs.Control.{Store};
-ghost use Rattle.rules.specs.Phases.{nextPhase};
+ghost use Rattle.rules.specs.Cycle.{lastPhase, nextPhase};
 ghost use Rattle.rules.specs.Collector.{haveLevel, rest, handshake};
 ghost use Rattle.store.specs.View.{view};
 ghost use Rattle.store.specs.Steps.{stepped};
@@ -20,7 +20,7 @@ use crate::work::Work;
 impl Control {
     // Whether every attached session has the phase's level.
     pub(crate) fn have_level(self) -> bool
-        requires { ⌜ self .cursor .phase ≤ 12 ⌝ }
+        requires { ⌜ self .cursor .phase ≤ lastPhase ⌝ }
         ensures { λ r. ⌜ ((h0 h1 l : List ℕ) → r ≡ haveLevel (view self h0 h1 l)) ⌝ }
     {
         let phase = self.cursor.phase;
@@ -31,7 +31,7 @@ impl Control {
 
     // The phase after a phase.
     pub(crate) fn next_phase(phase: usize) -> usize
-        requires { ⌜ phase ≤ 12 ⌝ }
+        requires { ⌜ phase ≤ lastPhase ⌝ }
         ensures { λ r. ⌜ r ≡ nextPhase phase ⌝ }
     {
         Control::number(Control::FOLLOWERS[phase]) as usize
@@ -41,7 +41,7 @@ impl Control {
 impl Cursor {
     // The next phase: walk place and field 0, no scanned mark.
     pub(crate) fn move_on(mut self) -> Work
-        requires { ⌜ self .phase ≤ 12 ⌝ }
+        requires { ⌜ self .phase ≤ lastPhase ⌝ }
         ensures { λ r. ⌜ r ≡ Next (movedOn self) Marks ⌝ }
     {
         let phase = self.phase;
@@ -53,7 +53,7 @@ impl Cursor {
 
     // Phase 0: the list emptied, and on to the next phase.
     pub(crate) fn rest(mut self) -> Work
-        requires { ⌜ self .phase ≤ 12 ⌝ }
+        requires { ⌜ self .phase ≤ lastPhase ⌝ }
         ensures { λ r. ⌜ ((s : Store) (h0 h1 l : List ℕ) → worked (having s self h0 h1 l) r
             ≡ stepped (having s self h0 h1 l) (rest (having s self h0 h1 l))) ⌝ }
     {
@@ -64,7 +64,7 @@ impl Cursor {
 
     // Phases 1, 2, 6, 8 and 9: moves on if every attached session has the level (`ready`), else changes nothing.
     pub(crate) fn handshake(self, ready: bool) -> Work
-        requires { ⌜ self .phase ≤ 12 ⌝ }
+        requires { ⌜ self .phase ≤ lastPhase ⌝ }
         ensures { λ r. ⌜ ((s : Store) (h0 h1 l : List ℕ) → ready ≡ haveLevel (having s self h0 h1 l)
             → worked (having s self h0 h1 l) r ≡ stepped (having s self h0 h1 l) (handshake (having s self h0 h1 l))) ⌝ }
     {

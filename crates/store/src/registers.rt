@@ -4,6 +4,7 @@ ghost use mathlib.Core.Path.{_≡_};
 ghost use Prim.Native.Nat.{ℕ, _≤_};
 ghost use mathlib.Core.List.{List};
 ghost use Rattle.rules.specs.Refusals.{refusalOf};
+ghost use Rattle.rules.specs.Control.{lastRegister, lastSession};
 ghost use Rattle.rules.specs.Calls.{withRegister, move, get};
 ghost use Rattle.rules.specs.Runs.{apply, Move, Clear, Get};
 ghost use Rattle.store.specs.View.{view, outcome};
@@ -13,7 +14,7 @@ use crate::Reply;
 impl Control {
     // The control record with register k of session s set.
     pub(crate) fn with_register(mut self, s: u32, k: u32, v: u32) -> Self
-        requires { ⌜ (s ≤ 15) × (k ≤ 7) ⌝ }
+        requires { ⌜ (s ≤ lastSession) × (k ≤ lastRegister) ⌝ }
         ensures { λ r. ⌜ ((h0 h1 l : List ℕ) → view r h0 h1 l ≡ withRegister (view self h0 h1 l) s k v) ⌝ }
     {
         let i = s as usize;

@@ -2,8 +2,8 @@
 ghost use mathlib.Core.Path.{_≡_};
 ghost use Prim.Native.Nat.{ℕ, _+_, _≤_};
 ghost use mathlib.Core.List.{List};
-ghost use Rattle.rules.specs.Memory.{reference, frontier};
-ghost use Rattle.rules.specs.Control.{Store};
+ghost use Rattle.rules.specs.Memory.{header, reference, frontier};
+ghost use Rattle.rules.specs.Control.{Store, mostFields, mostLength};
 ghost use Rattle.rules.specs.Collector.{walked, below};
 ghost use Rattle.heap.specs.View.{memory};
 ghost use Rattle.store.specs.declared.work.Work.the-variants.{Next};
@@ -15,7 +15,7 @@ use crate::work::Work;
 
 // The reference of word k of half h.
 pub(crate) fn reference(h: u32, k: usize) -> u32
-    requires { ⌜ (h ≤ 1) × (k ≤ 1048576) ⌝ }
+    requires { ⌜ (h ≤ 1) × (k ≤ mostLength) ⌝ }
     ensures { λ r. ⌜ r ≡ reference h k ⌝ }
 {
     2 * (k as u32) + 2 + h
@@ -39,7 +39,7 @@ impl Cursor {
 
     // The record at the walk place.
     pub(crate) fn walked(self) -> u32
-        requires { ⌜ (self .current ≤ 1) × (self .place ≤ 1048576) ⌝ }
+        requires { ⌜ (self .current ≤ 1) × (self .place ≤ mostLength) ⌝ }
         ensures { λ r. ⌜ ((s : Store) (h0 h1 l : List ℕ) → r ≡ walked (having s self h0 h1 l)) ⌝ }
     {
         reference(self.current, self.place)
@@ -47,7 +47,7 @@ impl Cursor {
 
     // The walk goes on past a record of n words.
     pub(crate) fn past_record(mut self, n: usize) -> Work
-        requires { ⌜ (self .place ≤ 1048576) × (n ≤ 513) ⌝ }
+        requires { ⌜ (self .place ≤ mostLength) × (n ≤ header + mostFields) ⌝ }
         ensures { λ r. ⌜ r ≡ Next (atWalk self (self .place + n) 0) Nothing ⌝ }
     {
         self.place += n;
@@ -57,7 +57,7 @@ impl Cursor {
 
     // The walk goes on to the next field of its record.
     pub(crate) fn past_field(mut self) -> Work
-        requires { ⌜ self .field ≤ 510 ⌝ }
+        requires { ⌜ self .field ≤ mostFields ⌝ }
         ensures { λ r. ⌜ r ≡ Next (atWalk self (self .place) (self .field + 1)) Nothing ⌝ }
     {
         self.field += 1;

@@ -1,5 +1,5 @@
 -- The table of levels is the rules' table.
-use Rattle.rules.specs.Phases.{levelOf}
+use Rattle.rules.specs.Cycle.{levelOf}
 use borrow.Author.Needs.{needs}
 use Rattle.store.proofs.Control.level_of.Statement.{statement}
 use Rattle.store.proofs.Control.level_of.Tie as tie

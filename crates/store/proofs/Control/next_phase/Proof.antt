@@ -1,5 +1,5 @@
 -- The table of followers is the rules' table.
-use Rattle.rules.specs.Phases.{nextPhase}
+use Rattle.rules.specs.Cycle.{nextPhase}
 use borrow.Author.Needs.{needs}
 use Rattle.store.proofs.Control.next_phase.Statement.{statement}
 use Rattle.store.proofs.Control.next_phase.Tie as tie

@@ -3,13 +3,14 @@ use mathlib.Core.Path.{_≡_}
 use native.Mathlib.Omega.{arith}
 use lib.ListN.{length}
 use lib.Seq.{set-out}
+use Rattle.rules.specs.Control.{globalCount}
 use Rattle.rules.specs.Phases.{sessionAt, withSession}
 use borrow.Author.Needs.{needs}
 use Rattle.store.proofs.Control.step.Statement.{statement}
 use Rattle.store.proofs.Control.step.Tie as tie
 
 -- the number of globals
-count : (c : tie.Start) → length (c .args .t1 .globals) ≡ 32
+count : (c : tie.Start) → length (c .args .t1 .globals) ≡ globalCount
 count c = search needs
 
 work-requires : tie.Need-work-requires

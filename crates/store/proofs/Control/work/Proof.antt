@@ -4,8 +4,9 @@ use mathlib.Core.Path.{_≡_, _∙_, sym, refl}
 use mathlib.Core.Bool.{Bool, true, false}
 use native.Mathlib.Omega.{arith}
 use lib.Dec.{leb}
+use Rattle.rules.specs.Cycle.{atAllocate, atCopy, atHeapMark, atReclaim, atRest, atRootFlip, atRootMark, atStackFlip}
 use Rattle.rules.specs.Refusals.{passed, check, refusalOf, _>>_}
-use Rattle.rules.specs.Control.{Store, inRange}
+use Rattle.rules.specs.Control.{Store, inRange, lastSession}
 use Rattle.rules.specs.Phases.{sessionAt}
 use Rattle.rules.specs.Calls.{sessionOf}
 use Rattle.rules.proofs.Ranges.{InRange, in-range}
@@ -34,11 +35,11 @@ module _ {A : Type 0} (x : A) where
 module _ {g : ℕ} (s : Store) (n : ℕ) (e : g ≡ refusalOf (sessionOf s n)) where
   out : g ≡ 4 → inRange s ≡ false
   unfolding sessionOf
-  out z = failed (sessionAt s n) (inRange s) (leb n 15) (sessionAt s n .attached) (sym e ∙ z)
+  out z = failed (sessionAt s n) (inRange s) (leb n lastSession) (sessionAt s n .attached) (sym e ∙ z)
 
   within : (g ≡ 4 → ⊥) → inRange s ≡ true
   unfolding sessionOf
-  within m = held (sessionAt s n) (inRange s) (leb n 15) (sessionAt s n .attached) (λ z. m (e ∙ z))
+  within m = held (sessionAt s n) (inRange s) (leb n lastSession) (sessionAt s n .attached) (λ z. m (e ∙ z))
 
 -- past test 4 the ranges hold
 module _ (c : tie.Else1) where
@@ -125,7 +126,7 @@ returns-2 c =
     let c1 = c .before in
     let c2 = c1 .before .before in
     let s = entered c2 in
-    step-done s (tested c2) 0 (c1 .match .keys1) (c .rest .ensures s (s .memory .half0) (s .memory .half1) (s .list .words))
+    step-done s (tested c2) atRest (c1 .match .keys1) (c .rest .ensures s (s .memory .half0) (s .memory .half1) (s .list .words))
 
 same-length-7 : tie.Need-same-length-7
 same-length-7 c = search needs
@@ -142,7 +143,7 @@ returns-3 c =
     let c2 = c1 .before .before .before .before .before in
     let c3 = c2 .before .before in
     let s = entered c3 in
-    step-done s (tested c3) 3 (c2 .match .keys2) (c1 .root-mark .ensures s refl)
+    step-done s (tested c3) atRootMark (c2 .match .keys2) (c1 .root-mark .ensures s refl)
 
 same-length-10 : tie.Need-same-length-10
 same-length-10 c = search needs
@@ -159,7 +160,7 @@ returns-4 c =
     let c2 = c1 .before .before .before .before .before in
     let c3 = c2 .before .before in
     let s = entered c3 in
-    step-done s (tested c3) 4 (c2 .match .keys3) (c1 .heap-mark .ensures s refl)
+    step-done s (tested c3) atHeapMark (c2 .match .keys3) (c1 .heap-mark .ensures s refl)
 
 same-length-13 : tie.Need-same-length-13
 same-length-13 c = search needs
@@ -177,7 +178,7 @@ returns-5 c =
     let c3 = c2 .before in
     let c4 = c3 .before .before in
     let s = entered c4 in
-    step-done s (tested c4) 5 (c3 .match .keys4)
+    step-done s (tested c4) atAllocate (c3 .match .keys4)
     (c1 .allocate-shells .ensures s (s .list .words) (c2 .have-level .ensures (s .memory .half0) (s .memory .half1) (s .list .words)))
 
 same-length-16 : tie.Need-same-length-16
@@ -195,7 +196,7 @@ returns-6 c =
     let c2 = c1 .before .before .before in
     let c3 = c2 .before .before in
     let s = entered c3 in
-    step-done s (tested c3) 7 (c2 .match .keys5) (c1 .copy .ensures s (s .list .words))
+    step-done s (tested c3) atCopy (c2 .match .keys5) (c1 .copy .ensures s (s .list .words))
 
 same-length-19 : tie.Need-same-length-19
 same-length-19 c = search needs
@@ -211,7 +212,7 @@ returns-7 c =
     let c1 = c .before .before .before .before in
     let c2 = c1 .before .before in
     let s = entered c2 in
-    step-done s (tested c2) 10 (c1 .match .keys6) (c .root-flip .ensures s (s .list .words) refl)
+    step-done s (tested c2) atRootFlip (c1 .match .keys6) (c .root-flip .ensures s (s .list .words) refl)
 
 same-length-22 : tie.Need-same-length-22
 same-length-22 c = search needs
@@ -227,7 +228,7 @@ returns-8 c =
     let c1 = c .before .before .before .before in
     let c2 = c1 .before .before in
     let s = entered c2 in
-    step-done s (tested c2) 11 (c1 .match .keys7) (c .stack-flip .ensures s (s .list .words) refl)
+    step-done s (tested c2) atStackFlip (c1 .match .keys7) (c .stack-flip .ensures s (s .list .words) refl)
 
 same-length-25 : tie.Need-same-length-25
 same-length-25 c = search needs
@@ -245,7 +246,7 @@ returns-9 c =
     let c3 = c2 .before in
     let c4 = c3 .before .before in
     let s = entered c4 in
-    step-done s (tested c4) 12 (c3 .match .keys8) (c1 .reclaim .ensures s (s .list .words) (c2 .have-level2 .ensures (s .memory .half0) (s .memory .half1) (s .list .words)))
+    step-done s (tested c4) atReclaim (c3 .match .keys8) (c1 .reclaim .ensures s (s .list .words) (c2 .have-level2 .ensures (s .memory .half0) (s .memory .half1) (s .list .words)))
 
 same-length-28 : tie.Need-same-length-28
 same-length-28 c = search needs
