@@ -11,7 +11,7 @@ use Rattle.rules.specs.Memory.{Memory, null, frontier, put, halfOf, inHa
 use Rattle.rules.specs.Phases.{otherHalf}
 use Rattle.rules.specs.Barriers.{Heap, to, shadesAt, copiesAt, barrierShade, replicaFor, ownWord, replicaWord, storeWrites, putBoth}
 use Rattle.rules.proofs.memory.Encoding.{other-differs}
-use Rattle.rules.proofs.memory.Records.{Start, Filled, start-nonnull}
+use Rattle.rules.proofs.memory.Records.{Start, start-nonnull}
 use Rattle.rules.proofs.memory.Put.{frontier-put}
 use Rattle.rules.proofs.invariant.Words.{In, Ok, ok-null, ok-start, fwd}
 use Rattle.rules.proofs.invariant.Laws.{in-or, in-half-yes, in-half-no, in-half-null, fwd-null, fwd-there, fwd-copy}

@@ -67,7 +67,7 @@ module _ {K : ℕ → Type 0} {m : ℕ → ℕ} {s : Store} {f : Free} {x : Sess
         sim = low-sim h a b t w o r;
       }
 
-  -- levels 4 to 6 in phases 6 to 11, the record in the current half
+  -- levels 4 to 6 after Allocate, up to StackFlip, the record in the current half
   stored-from : 4 ≤ l → l ≤ 6 → stAllocate < stage (s .phase) → stage (s .phase) ≤ stStackFlip → In (s .memory) (s .current) v → replica (s .memory) v ≢ null → i < refs (s .memory) v
       → Stored K m s f l v i q p
   unfolding putBoth shade
@@ -98,7 +98,7 @@ module _ {K : ℕ → Type 0} {m : ℕ → ℕ} {s : Store} {f : Free} {x : Sess
             (rw (e, g .same) at (to-sim h (omega arith) hi (w .fits) (pair-here h o g) z (λ y. in-nonnull o (sym e ∙ y))));
       }
 
-  -- level 6 in phase 12: both are in the current half already
+  -- level 6 in Reclaim: both are in the current half already
   stored-reclaim : l ≡ 6 → stage (s .phase) ≡ stReclaim → In (s .memory) (s .current) v → i < refs (s .memory) v → Stored K m s f l v i q p
   unfolding putBoth shade
   stored-reclaim b e o r = eq-or (replica (s .memory) v) null

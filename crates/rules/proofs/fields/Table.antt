@@ -1,4 +1,4 @@
--- Levels 4 to 6 in phases 6 to 11: the word u that the current half's copy of a record gets, and that its replica gets u forwarded.
+-- Levels 4 to 6 after Allocate, up to StackFlip: the word u that the current half's copy of a record gets, and that its replica gets u forwarded.
 use Prim.Native.Nat.{ℕ, _≤_, _<_}
 use mathlib.Core.Path.{_≡_, sym, ap, _∙_}
 use mathlib.Core.Logic.{_≢_, _⊎_, inl, inr}
@@ -130,7 +130,7 @@ module _ {K : ℕ → Type 0} {m : ℕ → ℕ} {s : Store} {f : Free} {x : Sess
         copy = copy-forward (heapOf s) (from-two h) l v (t .ok) held-follow (λ z. omega arith) ∙ rw (to-is, forwarded-again);
       }))
 
-  -- in the other one, from phase 9 on
+  -- in the other one, from PreFlip2 on
   pub to-words : {l v : ℕ} → stPreFlip2 ≤ stage (s .phase) → 5 ≤ l → l ≤ 6 → In (s .memory) away v → ToWords K m s l v q p
   to-words {l} {v} n b c o =
       lt-or l 6
@@ -163,7 +163,7 @@ module _ {K : ℕ → Type 0} {m : ℕ → ℕ} {s : Store} {f : Free} {x : Sess
           (λ r. inr (λ y. other-not h (sym (y .side) ∙ r .side)))
           (λ r. inl r)
 
--- ---- phase 12, level 6: q names tospace, the current half, already
+-- ---- Reclaim, level 6: q names tospace, the current half, already
 module _ {K : ℕ → Type 0} {m : ℕ → ℕ} {s : Store} {f : Free} {x : Session} {q p : ℕ} (h : Sim K m s f) (t : WordFits K m s x q p) (e : stage (s .phase) ≡ stReclaim) where
   there : Names (s .current) q
   there = t .names (omega arith)

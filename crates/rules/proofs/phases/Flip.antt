@@ -1,7 +1,6 @@
 -- The flip: StackFlip's last move makes the other half the current one. Its records hold what the replicated ones held.
 use Prim.Native.Nat.{ℕ, _≤_}
 use mathlib.Core.Path.{_≡_, refl}
-use mathlib.Core.Logic.{inr}
 use native.Mathlib.Omega.{arith}
 use lib.ListN.{getD, length}
 use Rattle.rules.specs.Control.{Store, withCurrent}
@@ -19,10 +18,10 @@ use Rattle.rules.proofs.invariant.Sim.{Sim}
 use Rattle.rules.proofs.invariant.Laws.{other, to-other}
 use Rattle.rules.proofs.invariant.Originals.{original, original-in, original-paired, original-ref, original-plain}
 use Rattle.rules.proofs.invariant.Idle.{agreement-late, list-idle, cleaned-idle, colours-reclaim, roots-home, walking-reclaim}
-use Rattle.rules.proofs.invariant.Unmarked.{unmarked-attached, unmarked-level, unmarked-reg, roots-unmarked}
+use Rattle.rules.proofs.invariant.Unmarked.{unmarked-reg, roots-unmarked}
 use Rattle.rules.proofs.invariant.Range.{range-moved, range-current}
 use Rattle.rules.proofs.invariant.Carried.{kept-carried}
-use Rattle.rules.proofs.phases.Sessions.{all-now, all-marked}
+use Rattle.rules.proofs.phases.Sessions.{all-marked}
 use Rattle.rules.proofs.phases.Moves.{steady}
 use Rattle.rules.proofs.phases.MoveOn.{levels-on}
 

@@ -2,13 +2,12 @@
 -- store rests.
 use Prim.Native.Nat.{ℕ, _≤_, _<_}
 use mathlib.Core.Path.{_≡_, refl, sym, _∙_}
-use mathlib.Core.Logic.{inl}
 use mathlib.Core.Bool.{true}
 use native.Mathlib.Omega.{arith}
 use Rattle.rules.specs.Memory.{Memory, null, halfOf, withFrontier, colour, replica, refs, frontier}
 use Rattle.rules.specs.Control.{Store, withMemory}
 use Rattle.rules.specs.Cycle.{stage}
-use Rattle.rules.specs.Phases.{otherHalf, levelOf, nextPhase, unmarked, moveOn}
+use Rattle.rules.specs.Phases.{otherHalf, nextPhase, moveOn}
 use Rattle.rules.specs.Collector.{haveLevel}
 use Rattle.rules.specs.Free.{Free}
 use Rattle.rules.proofs.memory.Cases.{eq-or}
@@ -19,12 +18,12 @@ use Rattle.rules.proofs.memory.Empty.{Emptied, empty-kept}
 use Rattle.rules.proofs.memory.Total.{total-none}
 use Rattle.rules.proofs.invariant.Stages.{stRest, stReclaim, stage-first}
 use Rattle.rules.proofs.invariant.Words.{In, Ok, ok-null, ok-start, Names, field, plainOf, copied}
-use Rattle.rules.proofs.invariant.Groups.{Values, Roots, Levels, FieldHalves, Pairs}
+use Rattle.rules.proofs.invariant.Groups.{Values, Roots, FieldHalves, Pairs}
 use Rattle.rules.proofs.invariant.Marking.{Colours, Kept}
 use Rattle.rules.proofs.invariant.Sim.{Sim}
 use Rattle.rules.proofs.invariant.Laws.{cur-two, other-not}
 use Rattle.rules.proofs.invariant.Idle.{agreement-early, list-idle, cleaned-idle, walking-idle, roots-home}
-use Rattle.rules.proofs.invariant.Unmarked.{unmarked-attached, unmarked-level, unmarked-reg, roots-unmarked}
+use Rattle.rules.proofs.invariant.Unmarked.{unmarked-reg, roots-unmarked}
 use Rattle.rules.proofs.invariant.Range.{range-moved, range-memory}
 use Rattle.rules.proofs.invariant.Carried.{in-carried, Within, identity-carried, values-carried, roots-carried, kept-carried}
 use Rattle.rules.proofs.invariant.Counted.{copied-none}

@@ -15,7 +15,7 @@ use Rattle.rules.specs.Collector.{forwardAll, stackFlip}
 use Rattle.rules.specs.Free.{Free, freeSession}
 use Rattle.rules.specs.declared.Session.{Session}
 use Rattle.rules.proofs.memory.Cases.{lt-or}
-use Rattle.rules.proofs.memory.Records.{Start, Filled}
+use Rattle.rules.proofs.memory.Records.{Start}
 use Rattle.rules.proofs.invariant.Stages.{stStackFlip}
 use Rattle.rules.proofs.invariant.Words.{Ok, Names, fwd}
 use Rattle.rules.proofs.invariant.Sim.{Sim}

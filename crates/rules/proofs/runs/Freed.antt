@@ -30,7 +30,7 @@ use Rattle.rules.proofs.runs.Runs.{Holds, run-holds, beside-store}
 abbrev pub Living : Free → ℕ → Type 0
 Living f q = Reached f q ⊎ length (f .records) < q
 
--- ---- the step that leaves phase 0
+-- ---- the step that leaves Rest
 
 -- as the step leaves it
 abbrev begun : Beside → Beside
@@ -102,7 +102,7 @@ module _ {K : ℕ → Type 0} (b : Beside) (h : Holds K b) (z : b .store .phase 
     kept = begun-kept;
   }
 
--- ---- back in phase 0
+-- ---- back in Rest
 
 module _ {K : ℕ → Type 0} {e : Beside} (h : Holds K e) (z : e .store .phase ≡ atRest) where
   sizes : (v : ℕ) → Start (e .store .memory) v → halfOf v ≡ e .store .current
