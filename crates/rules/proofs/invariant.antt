@@ -10,6 +10,8 @@ pub mod Marking
 pub mod Sim
 -- which records words name, forwarding, fromspace and tospace
 pub mod Laws
+-- which records can be followed
+pub mod Following
 -- a record and its replica; the original of a record of the other half
 pub mod Pairs
 pub mod Originals

@@ -7,7 +7,7 @@ pub mod Sessions
 pub mod MoveOn
 pub mod Moves
 pub mod Flip
--- 0 Rest, and the phases that wait for the level: 1, 2, 6, 8, 9
+-- 0 Rest, and the phases that only wait for the level
 pub mod Handshakes
 -- 10 RootFlip
 pub mod RootFlip

@@ -24,7 +24,8 @@ use Rattle.rules.proofs.memory.Total.{total-room, total-size}
 use Rattle.rules.proofs.invariant.Stages.{stAllocate}
 use Rattle.rules.proofs.invariant.Words.{In, copied}
 use Rattle.rules.proofs.invariant.Sim.{Sim}
-use Rattle.rules.proofs.invariant.Laws.{cur-two, followed-start}
+use Rattle.rules.proofs.invariant.Laws.{cur-two}
+use Rattle.rules.proofs.invariant.Following.{followed-start, follow-home}
 use Rattle.rules.proofs.invariant.Range.{half-length}
 use Rattle.rules.proofs.invariant.Counted.{copied-none, copied-le}
 use Rattle.rules.proofs.invariant.Walked.{walked-in}
@@ -120,7 +121,7 @@ module _ {K : ℕ → Type 0} {m : ℕ → ℕ} {s : Store} {f : Free} (h : Sim 
   unfolding pastRecord tracked
   unit-stepped l =
       let t = walked-in h (h .walking .at-5 at-5) l in
-      rw (followed-start (h .filled) (t .start))
+      rw (followed-start (follow-home h t))
       (bool-or (needsShell M (walked s))
       (λ e. record {
         after = pastRecord s (withShell M other (walked s));

@@ -11,10 +11,11 @@ use Rattle.rules.specs.Memory.{Memory, null, frontier, put, halfOf, inHa
 use Rattle.rules.specs.Phases.{otherHalf}
 use Rattle.rules.specs.Barriers.{Heap, to, shadesAt, copiesAt, barrierShade, replicaFor, ownWord, replicaWord, storeWrites, putBoth}
 use Rattle.rules.proofs.memory.Encoding.{other-differs}
-use Rattle.rules.proofs.memory.Records.{Start, Filled, start-nonnull}
+use Rattle.rules.proofs.memory.Records.{Start, start-nonnull}
 use Rattle.rules.proofs.memory.Put.{frontier-put}
 use Rattle.rules.proofs.invariant.Words.{In, Ok, ok-null, ok-start, fwd}
-use Rattle.rules.proofs.invariant.Laws.{in-or, in-half-yes, in-half-no, in-half-null, followed-start, other-copy-passed, forward-passed, fwd-null, fwd-there, fwd-copy}
+use Rattle.rules.proofs.invariant.Laws.{in-or, in-half-yes, in-half-no, in-half-null, fwd-null, fwd-there, fwd-copy}
+use Rattle.rules.proofs.invariant.Following.{Followable, followed-start, other-copy-passed, forward-passed}
 
 -- ---- shading by level
 
@@ -37,27 +38,29 @@ module _ (M : Memory) (count : Memory → ℕ → ℕ) (l v i : ℕ) where
   unfolding replicaFor copiesAt
   replica-none b e = rw (le-leb 4 l b, eq-eqb (replica M v) null e)
 
-  pub replica-found : Filled M → 4 ≤ l → Start M (replica M v) → i < count M (replica M v) → replicaFor M count l v i ≡ passed (replica M v)
+  pub replica-found : 4 ≤ l → Followable M (replica M v) → i < count M (replica M v) → replicaFor M count l v i ≡ passed (replica M v)
   unfolding replicaFor copiesAt
-  replica-found f b t k =
-      rw (le-leb 4 l b, ne-eqb (replica M v) null (start-nonnull t), followed-start f t, lt-ltb i (count M (replica M v)) k)
+  replica-found b t k =
+      rw (le-leb 4 l b, ne-eqb (replica M v) null (start-nonnull (t .start)), followed-start t, lt-ltb i (count M (replica M v)) k)
 
 -- the other copy of what is in one half is that word forwarded to the other
-across : {M : Memory} {h q : ℕ} → Filled M → h < 2 → Ok M q → cond (inHalf h q) (otherCopy M q) (passed q) ≡ passed (fwd M (otherHalf h) q)
-across {M} {h} {q} f two (ok-null n) = rw (n, in-half-null, fwd-null)
-across {M} {h} {q} f two (ok-start s) = in-or h two s
-    (λ o. rw (in-half-yes s (o .side), other-copy-passed f s, fwd-copy s (λ n. other-differs h two (sym n ∙ o .side))))
+across : {M : Memory} {h q : ℕ} → h < 2 → Ok M q → (Start M q → halfOf q ≢ otherHalf h → Followable M q)
+    → cond (inHalf h q) (otherCopy M q) (passed q) ≡ passed (fwd M (otherHalf h) q)
+across {M} {h} {q} two (ok-null n) f = rw (n, in-half-null, fwd-null)
+across {M} {h} {q} two (ok-start s) f = in-or h two s
+    (λ o. let d : halfOf q ≢ otherHalf h = λ n. other-differs h two (sym n ∙ o .side) in
+    rw (in-half-yes s (o .side), other-copy-passed (f s d), fwd-copy s d))
     (λ o. rw (in-half-no s (λ n. other-differs h two (sym (o .side) ∙ n)), fwd-there o))
 
--- ---- the words, in a heap whose records fill it
-module _ (z : Heap) (two : z .from < 2) (f : Filled (z .memory)) (l v : ℕ) {q : ℕ} (ok : Ok (z .memory) q) where
+-- ---- the words; q can be followed where it isn't in tospace
+module _ (z : Heap) (two : z .from < 2) (l v : ℕ) {q : ℕ} (ok : Ok (z .memory) q) (f : Start (z .memory) q → halfOf q ≢ to z → Followable (z .memory) q) where
   pub own-plain : l ≢ 5 → l ≢ 6 → ownWord z l v q ≡ passed q
   unfolding ownWord
   own-plain a b = rw (ne-eqb l 6 b, ne-eqb l 5 a)
 
   pub own-6 : l ≡ 6 → ownWord z l v q ≡ passed (fwd (z .memory) (to z) q)
   unfolding ownWord
-  own-6 e = rw (eq-eqb l 6 e) (forward-passed (to z) f ok)
+  own-6 e = rw (eq-eqb l 6 e) (forward-passed (to z) ok f)
 
   -- Table 1(a), the record itself in fromspace
   pub own-from : Start (z .memory) v → halfOf v ≢ to z → l ≡ 5 → ownWord z l v q ≡ passed q
@@ -67,20 +70,20 @@ module _ (z : Heap) (two : z .from < 2) (f : Filled (z .memory)) (l v : ℕ) {q 
   -- and in tospace
   pub own-to : Start (z .memory) v → halfOf v ≡ to z → l ≡ 5 → ownWord z l v q ≡ passed (fwd (z .memory) (to z) q)
   unfolding ownWord
-  own-to t d e = rw (e, in-half-yes t d) (across f two ok)
+  own-to t d e = rw (e, in-half-yes t d) (across two ok f)
 
   pub copy-forward : l ≢ 5 → replicaWord z l v q ≡ passed (fwd (z .memory) (to z) q)
   unfolding replicaWord
-  copy-forward d = rw (ne-eqb l 5 d) (forward-passed (to z) f ok)
+  copy-forward d = rw (ne-eqb l 5 d) (forward-passed (to z) ok f)
 
   pub copy-from : halfOf v ≡ z .from → l ≡ 5 → replicaWord z l v q ≡ passed (fwd (z .memory) (to z) q)
   unfolding replicaWord
-  copy-from d e = rw (e, d) (across f two ok)
+  copy-from d e = rw (e, d) (across two ok f)
 
   -- the record itself in tospace: the other copy where q is there too
-  pub copy-to : halfOf v ≡ to z → l ≡ 5 → In (z .memory) (to z) q → replicaWord z l v q ≡ passed (copyOf (z .memory) q)
+  pub copy-to : halfOf v ≡ to z → l ≡ 5 → In (z .memory) (to z) q → Followable (z .memory) q → replicaWord z l v q ≡ passed (copyOf (z .memory) q)
   unfolding replicaWord
-  copy-to d e o = rw (e, d, in-half-yes (o .start) (o .side)) (other-copy-passed f (o .start))
+  copy-to d e o r = rw (e, d, in-half-yes (o .start) (o .side)) (other-copy-passed r)
 
   pub copy-to-other : halfOf v ≡ to z → l ≡ 5 → (In (z .memory) (to z) q → ⊥) → replicaWord z l v q ≡ passed q
   unfolding replicaWord
@@ -108,12 +111,12 @@ module _ (z : Heap) (l v i q : ℕ) where
   unfolding storeWrites
   store-alone b n e = rw (no-shade b, replica-none (z .memory) refs l v i b n, e)
 
-  pub store-both : {u y : ℕ} → Filled (z .memory) → 4 ≤ l → Start (z .memory) (replica (z .memory) v) → i < refs (z .memory) (replica (z .memory) v)
+  pub store-both : {u y : ℕ} → 4 ≤ l → Followable (z .memory) (replica (z .memory) v) → i < refs (z .memory) (replica (z .memory) v)
       → ownWord z l v q ≡ passed u → replicaWord z l v q ≡ passed y
       → storeWrites z l v i q ≡ passed (record { shade = null; own = u; replica = replica (z .memory) v; copy = y })
   unfolding storeWrites
-  store-both f b t k e c =
-      rw (no-shade b, replica-found (z .memory) refs l v i f b t k, e, ne-eqb (replica (z .memory) v) null (start-nonnull t), c)
+  store-both b t k e c =
+      rw (no-shade b, replica-found (z .memory) refs l v i b t k, e, ne-eqb (replica (z .memory) v) null (start-nonnull (t .start)), c)
 
 -- ---- what is written leaves the frontiers
 pub both-front : (M : Memory) (v j x t k y g : ℕ) → frontier (putBoth M v j x t k y) g ≡ frontier M g

@@ -20,7 +20,8 @@ use Rattle.rules.proofs.memory.Records.{ref-inside, plain-inside}
 use Rattle.rules.proofs.invariant.Stages.{stAllocate, stCopy, stStackFlip}
 use Rattle.rules.proofs.invariant.Words.{In, Ok, field, plainOf, fwd, recOf}
 use Rattle.rules.proofs.invariant.Sim.{Sim}
-use Rattle.rules.proofs.invariant.Laws.{followed-start, forward-passed, marked-black, replica-other, to-other}
+use Rattle.rules.proofs.invariant.Laws.{marked-black, replica-other, to-other}
+use Rattle.rules.proofs.invariant.Following.{followed-start, forward-passed, follow-home, follow-replica, follow-word}
 use Rattle.rules.proofs.invariant.Pairs.{replica-shape}
 use Rattle.rules.proofs.frames.Change.{refs-kept, plains-kept}
 use Rattle.rules.proofs.frames.Kept.{replicas-kept, fwd-kept}
@@ -134,7 +135,7 @@ module _ {K : ℕ → Type 0} {m : ℕ → ℕ} {s : Store} {f : Free} (h : Sim 
         → Stepped K m s f (copy s)
     unfolding copy below pastRecord
     passes-over c b = stepped-same
-        (rw (lt-ltb (s .walk .place) (frontier (s .memory) (s .current)) l, followed-start (h .filled) (at .start), b))
+        (rw (lt-ltb (s .walk .place) (frontier (s .memory) (s .current)) l, followed-start (follow-home h at), b))
         (past-record h e l c) refl
 
     -- a field copied: the step passes with memory M′
@@ -155,7 +156,7 @@ module _ {K : ℕ → Type 0} {m : ℕ → ℕ} {s : Store} {f : Free} (h : Sim 
       unfolding copy below
       to-field = rw (
         lt-ltb (s .walk .place) (frontier (s .memory) (s .current)) l,
-        followed-start (h .filled) (at .start),
+        followed-start (follow-home h at),
         ne-eqb (replica (s .memory) v) null n,
         lt-ltb (s .walk .field) (refs (s .memory) v + plains (s .memory) v) b,
       )
@@ -165,12 +166,12 @@ module _ {K : ℕ → Type 0} {m : ℕ → ℕ} {s : Store} {f : Free} (h : Sim 
           (fwd (s .memory) (otherHalf (s .current)) (field (s .memory) v (s .walk .field))))) (s .walk .place) (s .walk .field + 1))
       unfolding copyField copyRef
       ref-passes r = rw (
-        followed-start (h .filled) (h .pairs .pair v at n .start),
+        followed-start (follow-replica h (follow-home h at) (h .pairs .pair v at n)),
         lt-ltb (s .walk .field) (refs (s .memory) v) r,
         shape .0,
         lt-ltb (s .walk .field) (refs (s .memory) v) r,
         to-other h (λ z. omega arith),
-        forward-passed (otherHalf (s .current)) (h .filled) (h .values .ok v (s .walk .field) at r),
+        forward-passed (otherHalf (s .current)) (h .values .ok v (s .walk .field) at r) (λ o d. follow-word h (λ y. h .field-halves .home y v (s .walk .field) at r) o),
       )
 
       copies-ref : s .walk .field < refs (s .memory) v → Stepped K m s f (copy s)
@@ -190,7 +191,7 @@ module _ {K : ℕ → Type 0} {m : ℕ → ℕ} {s : Store} {f : Free} (h : Sim 
       plain-passes i y r =
           let z : s .walk .field - refs (s .memory) v ≡ i = omega arith in
           rw (
-            followed-start (h .filled) (h .pairs .pair v at n .start),
+            followed-start (follow-replica h (follow-home h at) (h .pairs .pair v at n)),
             le-ltb (s .walk .field) (refs (s .memory) v) (omega arith),
             z,
             shape .1,

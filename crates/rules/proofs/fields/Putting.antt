@@ -1,5 +1,5 @@
 -- The call put: a global takes a register's word.
-use Prim.Native.Nat.{ℕ, _≤_}
+use Prim.Native.Nat.{ℕ, _≤_, _<_}
 use mathlib.Core.Path.{_≡_, refl, ap, _∙_}
 use mathlib.Core.Logic.{_≢_}
 use mathlib.Core.Bool.{Bool, true, false, cond, _&&_}
@@ -19,10 +19,11 @@ use Rattle.rules.specs.Free.{Free, freePut}
 use Rattle.rules.specs.declared.Session.{Session}
 use Rattle.rules.specs.declared.Writes.{Writes}
 use Rattle.rules.proofs.memory.Cases.{eq-or, lt-or, either}
-use Rattle.rules.proofs.invariant.Stages.{stRootFlip, stStackFlip, stReclaim, in-stage}
+use Rattle.rules.proofs.invariant.Stages.{stAllocate, stRootFlip, stStackFlip, stReclaim, in-stage}
 use Rattle.rules.proofs.invariant.Words.{Names}
 use Rattle.rules.proofs.invariant.Sim.{Sim}
 use Rattle.rules.proofs.invariant.Laws.{from-current, from-two, in-half-null}
+use Rattle.rules.proofs.invariant.Following.{follow-word}
 use Rattle.rules.proofs.invariant.Spans.{Allowed, level-from, level-to, level-low, level-last, level-most}
 use Rattle.rules.proofs.relation.Alike.{Alike, both-check, both-passes, alike-done}
 use Rattle.rules.proofs.relation.Tests.{both-session}
@@ -96,14 +97,14 @@ module _ {K : ℕ → Type 0} {m : ℕ → ℕ} {s : Store} {f : Free} {x : Sess
 
   put-places : GlobalPut K m s f l g q p
   put-places = lt-or l 4 (λ c. placed-low (omega arith))
-      (λ c. let lo = level-from 4 (omega arith) (h .range .phases) a c in
+      (λ c. let lo : stAllocate < stage (s .phase) = omega (arith, level-from 4 (omega arith) (h .range .phases) a c) in
       eq-or (stage (s .phase)) stReclaim
       (λ e. placed-high c (reclaim-own h t e (level-last (h .range .phases) a c e) null) (reclaim-fits h t e) (λ y z. absurd (omega arith)))
       (λ n. let hi : stage (s .phase) ≤ stStackFlip = omega (arith, in-stage (h .range)) in
       lt-or l 6
       (λ d. placed-high c (own-global (heapOf s) (λ e. omega arith)) (own-fits h t lo hi) (λ y z. absurd (omega (arith, level-to 5 (omega arith) (h .range .phases) a (omega arith) (omega arith)))))
       (λ d. let e : l ≡ 6 = omega (arith, level-most (s .phase) l (h .range .phases) a) in
-      placed-high c (own-6 (heapOf s) (from-two h) (h .filled) l null (t .ok) e ∙ rw (from-current h n))
+      placed-high c (own-6 (heapOf s) (from-two h) l null (t .ok) (λ o d. follow-word h (t .names) o) e ∙ rw (from-current h n))
       (forwarded-fits h t lo hi (level-from 6 (omega arith) (h .range .phases) a (omega arith))) (λ y z. forwarded-names h t lo hi))))
 
 -- ---- the call

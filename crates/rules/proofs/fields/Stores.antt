@@ -58,7 +58,7 @@ module _ {K : ℕ → Type 0} {m : ℕ → ℕ} {s : Store} {f : Free} {x : Sess
       shaded-fits
       (rw (k .phase) (either (level-low 3 (omega arith) (h .range .phases) a b) (λ z. inl z) (λ z. inr (inl z))))
 
--- ---- phases 6 to 11: the record and its replica, the replica with the forwarded word
+-- ---- after Allocate, up to StackFlip: the record and its replica, the replica with the forwarded word
 module _ {K : ℕ → Type 0} {m : ℕ → ℕ} {s : Store} {f : Free} {u p : ℕ} (h : Sim K m s f) (lo : stAllocate < stage (s .phase)) (hi : stage (s .phase) ≤ stStackFlip) (x : Fits K m s u p) where
   -- the forwarded word may be written to the replica
   pub forwarded-away : (v t : ℕ) → FitsAway s v t u (fwd (s .memory) (otherHalf (s .current)) u)
@@ -84,7 +84,7 @@ module _ {K : ℕ → Type 0} {m : ℕ → ℕ} {s : Store} {f : Free} {u p : �
       ref-write-sim h (written-to h o (refField i) (omega arith) (ref-inside (s .memory) v i l) n u (fwd (s .memory) (otherHalf (s .current)) u)) l x
       (forwarded-away v (replica (s .memory) v))
 
--- ---- phase 12: both copies, the contents of the other half are no longer read
+-- ---- Reclaim: both copies, the contents of the other half are no longer read
 pub reclaim-sim : {K : ℕ → Type 0} {m : ℕ → ℕ} {s : Store} {f : Free} {v i u p : ℕ} → Sim K m s f → stage (s .phase) ≡ stReclaim → Fits K m s u p
     → In (s .memory) (s .current) v → i < refs (s .memory) v → replica (s .memory) v ≢ null → (y : ℕ)
     → Sim K m (withMemory s (put (put (s .memory) v (refField i) u) (replica (s .memory) v) (refField i) y)) (withRecord f (m v) (withRef (recordAt f (m v)) i p))

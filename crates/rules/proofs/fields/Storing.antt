@@ -24,6 +24,7 @@ use Rattle.rules.proofs.invariant.Words.{In, fwd}
 use Rattle.rules.proofs.invariant.Groups.{NoFlip}
 use Rattle.rules.proofs.invariant.Sim.{Sim}
 use Rattle.rules.proofs.invariant.Laws.{cur-two, other-not, in-half, in-or, in-nonnull, has-replica, from-two}
+use Rattle.rules.proofs.invariant.Following.{follow-home, follow-away, follow-replica, follow-word}
 use Rattle.rules.proofs.invariant.Pairs.{pair-shape, replica-shape}
 use Rattle.rules.proofs.invariant.Originals.{pair-here}
 use Rattle.rules.proofs.invariant.Spans.{Allowed, level-most, level-from, level-home, level-late, level-last}
@@ -66,7 +67,7 @@ module _ {K : ℕ → Type 0} {m : ℕ → ℕ} {s : Store} {f : Free} {x : Sess
         sim = low-sim h a b t w o r;
       }
 
-  -- levels 4 to 6 in phases 6 to 11, the record in the current half
+  -- levels 4 to 6 after Allocate, up to StackFlip, the record in the current half
   stored-from : 4 ≤ l → l ≤ lastLevel → stAllocate < stage (s .phase) → stage (s .phase) ≤ stStackFlip → In (s .memory) (s .current) v → replica (s .memory) v ≢ null → i < refs (s .memory) v
       → Stored K m s f l v i q p
   unfolding putBoth shade
@@ -75,7 +76,7 @@ module _ {K : ℕ → Type 0} {m : ℕ → ℕ} {s : Store} {f : Free} {x : Sess
       let away = fwd (s .memory) (otherHalf (s .current)) (w .word) in
       record {
         writes = record { shade = null; own = w .word; replica = replica (s .memory) v; copy = away };
-        passes = store-both (heapOf s) l v i q (h .filled) b (h .pairs .pair v o n .start) (rw (replica-shape h v o n .0) r) (w .own) (w .copy);
+        passes = store-both (heapOf s) l v i q b (follow-replica h (follow-home h o) (h .pairs .pair v o n)) (rw (replica-shape h v o n .0) r) (w .own) (w .copy);
         sim = rw (ne-eqb (replica (s .memory) v) null n) (from-sim h lo hi (w .fits) o r n);
       }
 
@@ -92,12 +93,12 @@ module _ {K : ℕ → Type 0} {m : ℕ → ℕ} {s : Store} {f : Free} {x : Sess
       let away = fwd (s .memory) (otherHalf (s .current)) (w .word) in
       record {
         writes = record { shade = null; own = away; replica = replica (s .memory) v; copy = w .word };
-        passes = store-both (heapOf s) l v i q (h .filled) (omega arith) (g .start) z (w .own) (w .copy);
+        passes = store-both (heapOf s) l v i q (omega arith) (follow-replica h (follow-away h hi o) g) z (w .own) (w .copy);
         sim = rw (ne-eqb (replica (s .memory) v) null n)
             (rw (e, g .same) at (to-sim h (omega arith) hi (w .fits) (pair-here h o g) z (λ y. in-nonnull o (sym e ∙ y))));
       }
 
-  -- level 6 in phase 12: both are in the current half already
+  -- level 6 in Reclaim: both are in the current half already
   stored-reclaim : l ≡ 6 → stage (s .phase) ≡ stReclaim → In (s .memory) (s .current) v → i < refs (s .memory) v → Stored K m s f l v i q p
   unfolding putBoth shade
   stored-reclaim b e o r = eq-or (replica (s .memory) v) null
@@ -108,8 +109,8 @@ module _ {K : ℕ → Type 0} {m : ℕ → ℕ} {s : Store} {f : Free} {x : Sess
       })
       (λ n. record {
         writes = record { shade = null; own = q; replica = replica (s .memory) v; copy = fwd (s .memory) (to (heapOf s)) q };
-        passes = store-both (heapOf s) l v i q (h .filled) (omega arith) (h .pairs .pair v o n .start) (rw (replica-shape h v o n .0) r) (reclaim-own h t e b v)
-            (copy-forward (heapOf s) (from-two h) (h .filled) l v (t .ok) (λ z. omega arith));
+        passes = store-both (heapOf s) l v i q (omega arith) (follow-replica h (follow-home h o) (h .pairs .pair v o n)) (rw (replica-shape h v o n .0) r) (reclaim-own h t e b v)
+            (copy-forward (heapOf s) (from-two h) l v (t .ok) (λ o d. follow-word h (t .names) o) (λ z. omega arith));
         sim = rw (ne-eqb (replica (s .memory) v) null n) (reclaim-sim h e (reclaim-fits h t e) o r n (fwd (s .memory) (to (heapOf s)) q));
       })
 
@@ -120,7 +121,7 @@ module _ {K : ℕ → Type 0} {m : ℕ → ℕ} {s : Store} {f : Free} {x : Sess
       let here : NoFlip (stage (s .phase)) → In (s .memory) (s .current) v = λ y. in-half (r .ok) (start-nonnull o) (r .names y) in
       lt-or l 4
       (λ b. let z = level-home (h .range .phases) a (omega arith) in stored-low (omega arith) (here z) n)
-      (λ b. let lo = level-from 4 (omega arith) (h .range .phases) a b in
+      (λ b. let lo : stAllocate < stage (s .phase) = omega (arith, level-from 4 (omega arith) (h .range .phases) a b) in
       eq-or (stage (s .phase)) stReclaim
       (λ e. stored-reclaim (level-last (h .range .phases) a b e) e (here (omega arith)) n)
       (λ e. let hi : stage (s .phase) ≤ stStackFlip = omega (arith, in-stage (h .range)) in

@@ -1,7 +1,7 @@
--- Levels 4 to 6 in phases 6 to 11: the word u that the current half's copy of a record gets, and that its replica gets u forwarded.
+-- Levels 4 to 6 after Allocate, up to StackFlip: the word u that the current half's copy of a record gets, and that its replica gets u forwarded.
 use Prim.Native.Nat.{ℕ, _≤_, _<_}
 use mathlib.Core.Path.{_≡_, sym, ap, _∙_}
-use mathlib.Core.Logic.{_⊎_, inl, inr}
+use mathlib.Core.Logic.{_≢_, _⊎_, inl, inr}
 use native.Mathlib.Omega.{arith}
 use Rattle.rules.specs.Refusals.{passed}
 use Rattle.rules.specs.Memory.{halfOf, replica}
@@ -13,12 +13,13 @@ use Rattle.rules.specs.Free.{Free}
 use Rattle.rules.specs.declared.Session.{Session}
 use Rattle.rules.proofs.memory.Cases.{lt-or, either}
 use Rattle.rules.proofs.memory.Encoding.{other-other}
-use Rattle.rules.proofs.memory.Records.{start-nonnull}
+use Rattle.rules.proofs.memory.Records.{Start, start-nonnull}
 use Rattle.rules.proofs.invariant.Stages.{stAllocate, stPreFlip2, stStackFlip, stReclaim}
 use Rattle.rules.proofs.invariant.Words.{In, Ok, ok-null, ok-start, Names, fwd}
 use Rattle.rules.proofs.invariant.Groups.{Pair}
 use Rattle.rules.proofs.invariant.Sim.{Sim}
 use Rattle.rules.proofs.invariant.Laws.{cur-two, other-not, in-half, in-or, in-nonnull, fwd-null, fwd-there, fwd-copy, copy-replica, fwd-ok, fwd-place, fwd-names, from-current, from-other, from-two}
+use Rattle.rules.proofs.invariant.Following.{Followable, follow-away, follow-word}
 use Rattle.rules.proofs.invariant.Originals.{original, original-in, original-paired}
 use Rattle.rules.proofs.invariant.Spans.{Allowed, level-from}
 use Rattle.rules.proofs.sessions.Session.{WordFits}
@@ -42,6 +43,9 @@ module _ {K : ℕ → Type 0} {m : ℕ → ℕ} {s : Store} {f : Free} {x : Sess
     (lo : stAllocate < stage (s .phase)) (hi : stage (s .phase) ≤ stStackFlip) where
   abbrev away : ℕ
   away = otherHalf (s .current)
+
+  held-follow : Start (s .memory) q → halfOf q ≢ to (heapOf s) → Followable (s .memory) q
+  held-follow o d = follow-word h (t .names) o
 
   -- ---- what may be written
 
@@ -109,48 +113,48 @@ module _ {K : ℕ → Type 0} {m : ℕ → ℕ} {s : Store} {f : Free} {x : Sess
       (λ g. record {
         word = q;
         fits = own-fits;
-        own = own-plain (heapOf s) (from-two h) (h .filled) l v (t .ok) (λ e. omega arith) (λ e. omega arith);
-        copy = copy-forward (heapOf s) (from-two h) (h .filled) l v (t .ok) (λ e. omega arith) ∙ rw to-is;
+        own = own-plain (heapOf s) (from-two h) l v (t .ok) held-follow (λ e. omega arith) (λ e. omega arith);
+        copy = copy-forward (heapOf s) (from-two h) l v (t .ok) held-follow (λ e. omega arith) ∙ rw to-is;
       })
       (λ g. lt-or l 6
       (λ g6. let e : l ≡ 5 = omega arith in record {
         word = q;
         fits = own-fits;
-        own = own-from (heapOf s) (from-two h) (h .filled) l v (t .ok) (o .start) (λ z. other-not h (sym (z ∙ to-is) ∙ o .side)) e;
-        copy = copy-from (heapOf s) (from-two h) (h .filled) l v (t .ok) (o .side ∙ sym from-is) e ∙ rw to-is;
+        own = own-from (heapOf s) (from-two h) l v (t .ok) held-follow (o .start) (λ z. other-not h (sym (z ∙ to-is) ∙ o .side)) e;
+        copy = copy-from (heapOf s) (from-two h) l v (t .ok) held-follow (o .side ∙ sym from-is) e ∙ rw to-is;
       })
       (λ g6. let e : l ≡ 6 = omega arith in record {
         word = forwarded;
         fits = forwarded-fits (level-from 6 (omega arith) (h .range .phases) a (omega arith));
-        own = own-6 (heapOf s) (from-two h) (h .filled) l v (t .ok) e ∙ rw to-is;
-        copy = copy-forward (heapOf s) (from-two h) (h .filled) l v (t .ok) (λ z. omega arith) ∙ rw (to-is, forwarded-again);
+        own = own-6 (heapOf s) (from-two h) l v (t .ok) held-follow e ∙ rw to-is;
+        copy = copy-forward (heapOf s) (from-two h) l v (t .ok) held-follow (λ z. omega arith) ∙ rw (to-is, forwarded-again);
       }))
 
-  -- in the other one, from phase 9 on
+  -- in the other one, from PreFlip2 on
   pub to-words : {l v : ℕ} → stPreFlip2 ≤ stage (s .phase) → 5 ≤ l → l ≤ lastLevel → In (s .memory) away v → ToWords K m s l v q p
   to-words {l} {v} n b c o =
       lt-or l 6
       (λ g. let e : l ≡ 5 = omega arith in
       let side : halfOf v ≡ to (heapOf s) = o .side ∙ sym to-is in
-      let own = own-to (heapOf s) (from-two h) (h .filled) l v (t .ok) (o .start) side e ∙ rw to-is in
+      let own = own-to (heapOf s) (from-two h) l v (t .ok) held-follow (o .start) side e ∙ rw to-is in
       either (there-or (t .ok))
       (λ r. record {
         word = replica (s .memory) q;
         fits = back-fits r;
         own = own ∙ ap passed (fwd-there r ∙ sym (back-forward r));
-        copy = copy-to (heapOf s) (from-two h) (h .filled) l v (t .ok) side e (rw to-is r) ∙ ap passed (copy-replica (s .memory) q (h .pairs .home hi q r .0));
+        copy = copy-to (heapOf s) (from-two h) l v (t .ok) held-follow side e (rw to-is r) (follow-away h hi r) ∙ ap passed (copy-replica (s .memory) q (h .pairs .home hi q r .0));
       })
       (λ r. record {
         word = q;
         fits = own-fits;
         own = own;
-        copy = copy-to-other (heapOf s) (from-two h) (h .filled) l v (t .ok) side e (λ z. r (rw to-is at z));
+        copy = copy-to-other (heapOf s) (from-two h) l v (t .ok) held-follow side e (λ z. r (rw to-is at z));
       }))
       (λ g. let e : l ≡ 6 = omega arith in record {
         word = forwarded;
         fits = forwarded-fits n;
-        own = own-6 (heapOf s) (from-two h) (h .filled) l v (t .ok) e ∙ rw (to-is, forwarded-again);
-        copy = copy-forward (heapOf s) (from-two h) (h .filled) l v (t .ok) (λ z. omega arith) ∙ rw to-is;
+        own = own-6 (heapOf s) (from-two h) l v (t .ok) held-follow e ∙ rw (to-is, forwarded-again);
+        copy = copy-forward (heapOf s) (from-two h) l v (t .ok) held-follow (λ z. omega arith) ∙ rw to-is;
       })
     where
       there-or : Ok (s .memory) q → In (s .memory) away q ⊎ (In (s .memory) away q → ⊥)
@@ -159,7 +163,7 @@ module _ {K : ℕ → Type 0} {m : ℕ → ℕ} {s : Store} {f : Free} {x : Sess
           (λ r. inr (λ y. other-not h (sym (y .side) ∙ r .side)))
           (λ r. inl r)
 
--- ---- phase 12, level 6: q names tospace, the current half, already
+-- ---- Reclaim, level 6: q names tospace, the current half, already
 module _ {K : ℕ → Type 0} {m : ℕ → ℕ} {s : Store} {f : Free} {x : Session} {q p : ℕ} (h : Sim K m s f) (t : WordFits K m s x q p) (e : stage (s .phase) ≡ stReclaim) where
   there : Names (s .current) q
   there = t .names (omega arith)
@@ -168,7 +172,7 @@ module _ {K : ℕ → Type 0} {m : ℕ → ℕ} {s : Store} {f : Free} {x : Sess
   reclaim-fits = record { is = t .is; held = t .kept; ok = t .ok; side = λ y. there; clean = λ lo hi. absurd (omega arith) }
 
   pub reclaim-own : {l : ℕ} → l ≡ 6 → (v : ℕ) → ownWord (heapOf s) l v q ≡ passed q
-  reclaim-own {l} b v = own-6 (heapOf s) (from-two h) (h .filled) l v (t .ok) b
+  reclaim-own {l} b v = own-6 (heapOf s) (from-two h) l v (t .ok) (λ o d. follow-word h (t .names) o) b
       ∙ rw (ap otherHalf (from-other h e), other-other (s .current) (cur-two h), same (t .ok))
     where
       same : Ok (s .memory) q → fwd (s .memory) (s .current) q ≡ q

@@ -22,6 +22,7 @@ use Rattle.rules.proofs.invariant.Words.{In}
 use Rattle.rules.proofs.invariant.Groups.{NoFlip}
 use Rattle.rules.proofs.invariant.Sim.{Sim}
 use Rattle.rules.proofs.invariant.Laws.{cur-two, other-not, in-half, in-or, in-nonnull}
+use Rattle.rules.proofs.invariant.Following.{follow-home, follow-away, follow-replica}
 use Rattle.rules.proofs.invariant.Pairs.{pair-shape, replica-shape}
 use Rattle.rules.proofs.invariant.Originals.{pair-here}
 use Rattle.rules.proofs.invariant.Spans.{Allowed, level-home, level-low}
@@ -63,7 +64,7 @@ module _ {K : ℕ → Type 0} {m : ℕ → ℕ} {s : Store} {f : Free} {l v i : 
       let e = replica-shape h v o n in
       record {
         other = replica (s .memory) v;
-        passes = replica-found (s .memory) plains l v i (h .filled) b (h .pairs .pair v o n .start) (rw (e .1) r);
+        passes = replica-found (s .memory) plains l v i b (follow-replica h (follow-home h o) (h .pairs .pair v o n)) (rw (e .1) r);
         sim = rw (ne-eqb (replica (s .memory) v) null n, e .0) (plain-write-sim h
             (written-from h o (plainField (refs (s .memory) v) i) (omega arith) (plain-inside (s .memory) v i r) n a a) r);
       }
@@ -79,7 +80,7 @@ module _ {K : ℕ → Type 0} {m : ℕ → ℕ} {s : Store} {f : Free} {l v i : 
       let z : i < plains (s .memory) (replica (s .memory) v) = rw (e .1) r in
       record {
         other = replica (s .memory) v;
-        passes = replica-found (s .memory) plains l v i (h .filled) b (p .start) z;
+        passes = replica-found (s .memory) plains l v i b (follow-replica h (follow-away h hi o) p) z;
         sim = rw (ne-eqb (replica (s .memory) v) null n, e .0) (rw (p .back, e .0, p .same) at (plain-write-sim h
             (written-to h (pair-here h o p) (plainField (refs (s .memory) (replica (s .memory) v)) i) (omega arith) (plain-inside (s .memory) (replica (s .memory) v) i z)
             (λ y. in-nonnull o (sym (p .back) ∙ y)) a a) z));

@@ -47,6 +47,8 @@ pub record Roots (M : Memory) (m : ℕ → ℕ) (xs : List Session) (ys : List F
   pub global-is : (g : ℕ) → getD fgs g null ≡ m (getD gs g null)
 
 -- ---- levels: an attached session has the phase's level or that of the phase before
+
+-- the level of the phase before each, by the phase's number
 unfoldable pub levelBefore : ℕ → ℕ
 levelBefore ph = getD (0 ∷ 0 ∷ 1 ∷ 2 ∷ 2 ∷ 2 ∷ 3 ∷ 4 ∷ 4 ∷ 5 ∷ 6 ∷ 6 ∷ 6 ∷ []) ph 0
 

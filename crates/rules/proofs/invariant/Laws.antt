@@ -2,19 +2,17 @@
 use Prim.Native.Nat.{ℕ, _≤_, _<_}
 use mathlib.Core.Path.{_≡_, refl, sym, _∙_}
 use mathlib.Core.Logic.{_≢_}
-use mathlib.Core.Bool.{Bool, true, false, cond, _||_}
+use mathlib.Core.Bool.{true, false}
 use native.Mathlib.Omega.{arith}
-use lib.Dec.{eqb}
 use borrow.Author.Tests.{eq-eqb, ne-eqb, le-leb}
-use Rattle.rules.specs.Refusals.{passed}
-use Rattle.rules.specs.Memory.{Memory, null, halfOf, inHalf, white, black, colour, replica, followed, copyOf, otherCopy, forward}
+use Rattle.rules.specs.Memory.{Memory, null, halfOf, inHalf, white, black, colour, replica, copyOf}
 use Rattle.rules.specs.Control.{Store}
 use Rattle.rules.specs.Cycle.{stage, atReclaim}
 use Rattle.rules.specs.Phases.{otherHalf, fromspace, tospace}
 use Rattle.rules.specs.Free.{Free}
 use Rattle.rules.proofs.memory.Cases.{eq-or}
 use Rattle.rules.proofs.memory.Encoding.{half-below-2, other-below-2, other-differs, other-other, only-other}
-use Rattle.rules.proofs.memory.Records.{Start, Filled, start-sound, start-nonnull, start-from-2}
+use Rattle.rules.proofs.memory.Records.{Start, start-nonnull, start-from-2}
 use Rattle.rules.proofs.invariant.Stages.{stHeapMark, stAllocate, stStackFlip, stReclaim, stage-is, phase-is}
 use Rattle.rules.proofs.invariant.Words.{In, Ok, ok-null, ok-start, Names, Clean, fwd}
 use Rattle.rules.proofs.invariant.Sim.{Sim}
@@ -33,11 +31,6 @@ in-or {M} {v} h two t f g = eq-or (halfOf v) h
 
 pub in-nonnull : {M : Memory} {h v : ℕ} → In M h v → v ≢ null
 in-nonnull t = start-nonnull (t .start)
-
--- following a record passes
-pub followed-start : {M : Memory} {v : ℕ} → Filled M → Start M v → followed M v ≡ passed tt
-unfolding followed
-followed-start f t = rw (start-sound f t)
 
 -- ---- which half a word is in
 
@@ -75,19 +68,6 @@ copy-replica M v n = rw (ne-eqb (replica M v) null n)
 copy-alone : (M : Memory) (v : ℕ) → replica M v ≡ null → copyOf M v ≡ v
 unfolding copyOf
 copy-alone M v e = rw (eq-eqb (replica M v) null e)
-
-pub other-copy-passed : {M : Memory} {v : ℕ} → Filled M → Start M v → otherCopy M v ≡ passed (copyOf M v)
-unfolding otherCopy
-other-copy-passed f t = rw (followed-start f t)
-
-pub forward-passed : {M : Memory} {v : ℕ} (to : ℕ) → Filled M → Ok M v → forward M to v ≡ passed (fwd M to v)
-unfolding forward fwd
-forward-passed {M} {v} to f (ok-null e) = rw (eq-eqb v null e)
-forward-passed {M} {v} to f (ok-start t) = rw (other-copy-passed f t) (pick (eqb v null || inHalf to v))
-  where
-    pick : (b : Bool) → cond b (passed v) (passed (copyOf M v)) ≡ passed (cond b v (copyOf M v))
-    pick true = refl
-    pick false = refl
 
 -- ---- of a store that keeps the invariant
 module _ {K : ℕ → Type 0} {m : ℕ → ℕ} {s : Store} {f : Free} (h : Sim K m s f) where

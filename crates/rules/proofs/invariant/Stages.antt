@@ -14,6 +14,7 @@ use Rattle.rules.proofs.memory.Cases.{lt-or}
 
 -- ---- the stage of each phase
 
+-- of a phase whose number is given: it computes, where `stage` of a store's phase is one number for omega
 abbrev pub stageOf : ℕ → ℕ
 stageOf ph = getD stages ph 0
 

@@ -13,7 +13,7 @@ use Rattle.rules.proofs.memory.Cases.{lt-or}
 use Rattle.rules.proofs.invariant.Stages.{stHeapMark}
 use Rattle.rules.proofs.invariant.Words.{field}
 use Rattle.rules.proofs.invariant.Sim.{Sim}
-use Rattle.rules.proofs.invariant.Laws.{followed-start}
+use Rattle.rules.proofs.invariant.Following.{followed-start, follow-home}
 use Rattle.rules.proofs.invariant.Alive.{field-alive}
 use Rattle.rules.proofs.frames.Change.{refs-kept}
 use Rattle.rules.proofs.frames.Kept.{field-kept}
@@ -40,7 +40,7 @@ module _ {K : ℕ → Type 0} {m : ℕ → ℕ} {s : Store} {f : Free} (h : Sim 
       let t = oldest-in h is more in
       let w = z .keeps in
       stepped {s′ = withWalk (shade s (z .it)) k (i + 1)}
-      (rw (followed-start (h .filled) (t .start), lt-ltb i (refs (s .memory) (oldest s)) l, z .passes))
+      (rw (followed-start (follow-home h t), lt-ltb i (refs (s .memory) (oldest s)) l, z .passes))
       (past-field (z .sim) (ap stage (w .phase) ∙ is) k i (oldest s) (ap (λ x. x .place) (w .walk)) (ap (λ x. x .field) (w .walk))
       (omega (arith, w .head, w .grows)) (rw (w .head) (w .entries (s .list .head) more)) (rw (refs-kept (w .frame) (t .start)) l)
       (rw (w .current, field-kept (w .frame) (t .start) i l (λ q. let e = q .1 in omega arith)) (z .clean)))
@@ -49,7 +49,7 @@ module _ {K : ℕ → Type 0} {m : ℕ → ℕ} {s : Store} {f : Free} (h : Sim 
   fields-done : refs (s .memory) (oldest s) ≤ s .walk .field → Stepped K m s f (scanRecord s (oldest s))
   unfolding scanRecord
   fields-done l = stepped {s′ = blackened s}
-      (rw (followed-start (h .filled) (oldest-in h is more .start), le-ltb (s .walk .field) (refs (s .memory) (oldest s)) l))
+      (rw (followed-start (follow-home h (oldest-in h is more)), le-ltb (s .walk .field) (refs (s .memory) (oldest s)) l))
       (blacken-sim h is more l) (omega (arith, blacken-kept h is more .front 0)) (omega (arith, blacken-kept h is more .front 1))
 
   pub scan-record-stepped : Stepped K m s f (scanRecord s (oldest s))

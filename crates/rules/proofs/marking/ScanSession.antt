@@ -21,6 +21,7 @@ use Rattle.rules.proofs.invariant.Stages.{stHeapMark}
 use Rattle.rules.proofs.invariant.Words.{Clean}
 use Rattle.rules.proofs.invariant.Sim.{Sim}
 use Rattle.rules.proofs.invariant.Laws.{in-nonnull}
+use Rattle.rules.proofs.invariant.Following.{follow-home}
 use Rattle.rules.proofs.invariant.Alive.{register-alive}
 use Rattle.rules.proofs.relation.Stepped.{Stepped, stepped, stepped-same}
 use Rattle.rules.proofs.sessions.Session.{SessionFits, session-fits, session-sim-same}
@@ -60,7 +61,7 @@ module _ {K : ℕ → Type 0} {m : ℕ → ℕ} {s : Store} {f : Free} (h : Sim 
   -- the white records among its registers
   registers-found : Found (s .memory) (s .current) (λ v. K (m v)) (sessionAt s n .registers)
   unfolding sessionAt
-  registers-found = found (h .filled) (getD (s .sessions) n absent .registers) (h .roots .reg-ok n)
+  registers-found = found (λ v. follow-home h) (getD (s .sessions) n absent .registers) (h .roots .reg-ok n)
       (h .root-halves .regs (omega arith) n) (register-alive h n)
 
   -- none: the session is scanned

@@ -1,4 +1,4 @@
--- Shading a white record of the current half in phases 1 to 4.
+-- Shading a white record of the current half from PreMark1 to HeapMark.
 use Prim.Native.Nat.{ℕ, _+_, _≤_, _<_}
 use mathlib.Core.Path.{_≡_}
 use native.Mathlib.Omega.{arith}

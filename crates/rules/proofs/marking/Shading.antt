@@ -16,12 +16,13 @@ use Rattle.rules.specs.Phases.{absent}
 use Rattle.rules.specs.Barriers.{heapOf, toShade, listRoom, shading, shade}
 use Rattle.rules.specs.Free.{Free}
 use Rattle.rules.proofs.memory.Cases.{eq-or}
-use Rattle.rules.proofs.memory.Records.{Start, Filled, start-nonnull}
+use Rattle.rules.proofs.memory.Records.{Filled, start-nonnull}
 use Rattle.rules.proofs.memory.Put.{PutKept, frontier-put}
 use Rattle.rules.proofs.invariant.Stages.{stRest, stHeapMark}
 use Rattle.rules.proofs.invariant.Words.{In, Ok, ok-null, ok-start, Names, Clean}
 use Rattle.rules.proofs.invariant.Sim.{Sim}
-use Rattle.rules.proofs.invariant.Laws.{in-half, followed-start}
+use Rattle.rules.proofs.invariant.Laws.{in-half}
+use Rattle.rules.proofs.invariant.Following.{Followable, followed-start, follow-home}
 use Rattle.rules.proofs.invariant.Unmarked.{unmarked-at}
 use Rattle.rules.proofs.frames.Frame.{Frame, One}
 use Rattle.rules.proofs.frames.Change.{frame-none, frame-wider}
@@ -117,17 +118,18 @@ to-shade-null : (M : Memory) → toShade M null ≡ passed null
 unfolding toShade
 to-shade-null M = refl
 
-pub to-shade-white : {M : Memory} {v : ℕ} → Filled M → Start M v → colour M v ≡ white → toShade M v ≡ passed v
+pub to-shade-white : {M : Memory} {v : ℕ} → Followable M v → colour M v ≡ white → toShade M v ≡ passed v
 unfolding toShade
-to-shade-white {M} {v} f t e = rw (ne-eqb v null (start-nonnull t), followed-start f t, e)
+to-shade-white {M} {v} t e = rw (ne-eqb v null (start-nonnull (t .start)), followed-start t, e)
 
-to-shade-marked : {M : Memory} {v : ℕ} → Filled M → Start M v → colour M v ≢ white → toShade M v ≡ passed null
+to-shade-marked : {M : Memory} {v : ℕ} → Followable M v → colour M v ≢ white → toShade M v ≡ passed null
 unfolding toShade
-to-shade-marked {M} {v} f t d = rw (ne-eqb v null (start-nonnull t), followed-start f t, ne-eqb (colour M v) white d)
+to-shade-marked {M} {v} t d = rw (ne-eqb v null (start-nonnull (t .start)), followed-start t, ne-eqb (colour M v) white d)
 
-pub to-shade-clean : {M : Memory} {h v : ℕ} → Filled M → Ok M v → Names h v → Clean M h v → toShade M v ≡ passed null
-to-shade-clean {M} f (ok-null e) side c = rw e (to-shade-null M)
-to-shade-clean f (ok-start t) side c = to-shade-marked f t (c (start-nonnull t) (side (start-nonnull t)))
+pub to-shade-clean : {M : Memory} {h v : ℕ} → Ok M v → Names h v → (In M h v → Followable M v) → Clean M h v → toShade M v ≡ passed null
+to-shade-clean {M} (ok-null e) side f c = rw e (to-shade-null M)
+to-shade-clean (ok-start t) side f c =
+    let n = start-nonnull t in to-shade-marked (f (record { start = t; side = side n })) (c n (side n))
 
 -- ---- the rule
 module _ {K : ℕ → Type 0} {m : ℕ → ℕ} {s : Store} {f : Free} {v : ℕ} (h : Sim K m s f) where
@@ -136,7 +138,7 @@ module _ {K : ℕ → Type 0} {m : ℕ → ℕ} {s : Store} {f : Free} {v : ℕ}
   unfolding shading listRoom shade
   shading-clean ok side c = record {
     it = null;
-    passes = rw (to-shade-clean (h .filled) ok side c, le-leb (s .list .tail + 0) (length (s .list .words)) (omega (arith, h .range .ends, h .range .lent2)));
+    passes = rw (to-shade-clean ok side (follow-home h) c, le-leb (s .list .tail + 0) (length (s .list .words)) (omega (arith, h .range .ends, h .range .lent2)));
     sim = h;
     keeps = keeps-none (h .filled);
     clean = c;
@@ -146,9 +148,9 @@ module _ {K : ℕ → Type 0} {m : ℕ → ℕ} {s : Store} {f : Free} {v : ℕ}
   shading-white : stRest < stage (s .phase) → stage (s .phase) ≤ stHeapMark → In (s .memory) (s .current) v → colour (s .memory) v ≡ white → shading (heapOf s) v ≡ passed v
   unfolding shading listRoom
   shading-white lo hi t e =
-      rw (to-shade-white (h .filled) (t .start) e, ne-eqb v null (start-nonnull (t .start)), le-leb (s .list .tail + 1) (length (s .list .words)) (shade-room h lo hi t e))
+      rw (to-shade-white (follow-home h t) e, ne-eqb v null (start-nonnull (t .start)), le-leb (s .list .tail + 1) (length (s .list .words)) (shade-room h lo hi t e))
 
-  -- in phases 1 to 4, a word that is kept alive
+  -- from PreMark1 to HeapMark, a word that is kept alive
   pub shading-marks : stRest < stage (s .phase) → stage (s .phase) ≤ stHeapMark → Ok (s .memory) v → Names (s .current) v → (v ≢ null → K (m v)) → Shaded K m s f v
   shading-marks lo hi ok side k = eq-or v null
       (λ e. shading-clean ok side (λ n. absurd (n e)))

@@ -10,9 +10,9 @@ use Rattle.rules.specs.Refusals.{passed}
 use Rattle.rules.specs.Memory.{Memory, null, white, colour}
 use Rattle.rules.specs.Collector.{without, toShadeAll}
 use Rattle.rules.proofs.memory.Cases.{eq-or}
-use Rattle.rules.proofs.memory.Records.{Filled}
 use Rattle.rules.proofs.invariant.Words.{In, Ok, Names, Clean}
 use Rattle.rules.proofs.invariant.Laws.{in-half, in-nonnull}
+use Rattle.rules.proofs.invariant.Following.{Followable}
 use Rattle.rules.proofs.marking.Shading.{to-shade-white, to-shade-clean}
 
 -- what holds of every entry
@@ -54,12 +54,12 @@ pub record Found (M : Memory) (h : ℕ) (P : ℕ → Type 0) (rs : List ℕ) : T
   pub whites : Whites M h P them
   pub none : them ≡ [] → (k : ℕ) → Clean M h (getD rs k null)
 
-module _ {M : Memory} {h : ℕ} {P : ℕ → Type 0} (f : Filled M) where
+module _ {M : Memory} {h : ℕ} {P : ℕ → Type 0} (follow : (v : ℕ) → In M h v → Followable M v) where
   -- a clean reference before others
   found-clean : {v : ℕ} {rs : List ℕ} → Ok M v → Names h v → Clean M h v → Found M h P rs → Found M h P (v ∷ rs)
   found-clean {v} {rs} ok side c q = record {
     them = q .them;
-    passes = rw (to-shade-clean f ok side c, q .passes);
+    passes = rw (to-shade-clean ok side (follow v) c, q .passes);
     whites = q .whites;
     none = none;
   }
@@ -72,7 +72,7 @@ module _ {M : Memory} {h : ℕ} {P : ℕ → Type 0} (f : Filled M) where
   found-white : {v : ℕ} {rs : List ℕ} → In M h v → colour M v ≡ white → P v → Found M h P rs → Found M h P (v ∷ rs)
   found-white {v} {rs} t c p q = record {
     them = v ∷ without v (q .them);
-    passes = rw (to-shade-white f (t .start) c, q .passes, ne-eqb v null (in-nonnull t));
+    passes = rw (to-shade-white (follow v t) c, q .passes, ne-eqb v null (in-nonnull t));
     whites = one-white t c p (without-absent v (q .them)) (without-whites v (q .whites));
     none = λ e. absurd (let z : suc (length (without v (q .them))) ≡ 0 = ap length e in omega arith);
   }

@@ -25,6 +25,6 @@ module _ {K : ℕ → Type 0} {m : ℕ → ℕ} {s : Store} {f : Free} (h : Sim 
       (λ l. stepped-same (rw l) (k l) refl)
       (λ l. stepped-same (rw l) h refl)
 
-  -- 1, 2, 6, 8, 9
+  -- the phases that only wait
   pub handshake-stepped : Plain (stage (s .phase)) → Stepped K m s f (handshake s)
   handshake-stepped w = waiting-stepped (handshake-moves h w)

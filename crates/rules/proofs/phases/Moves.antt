@@ -78,7 +78,7 @@ module _ {K : ℕ → Type 0} {m : ℕ → ℕ} {s : Store} {f : Free} (h : Sim 
       })
       (omega arith)
 
-  -- ---- 1, 2, 6, 8, 9
+  -- ---- the phases that only wait for the level
   pub handshake-moves : Plain (stage (s .phase)) → haveLevel s ≡ true → Sim K m (moveOn s) f
   handshake-moves p l = moves h
       (record {

@@ -14,7 +14,7 @@ use Rattle.rules.proofs.memory.Cases.{lt-or, bool-or}
 use Rattle.rules.proofs.memory.Put.{frontier-put}
 use Rattle.rules.proofs.invariant.Stages.{stReclaim}
 use Rattle.rules.proofs.invariant.Sim.{Sim}
-use Rattle.rules.proofs.invariant.Laws.{followed-start}
+use Rattle.rules.proofs.invariant.Following.{followed-start, follow-home}
 use Rattle.rules.proofs.relation.Stepped.{Stepped, stepped, stepped-same}
 use Rattle.rules.proofs.phases.Clear.{cleared-in, clear-sim}
 use Rattle.rules.proofs.phases.Reclaimed.{front-less-0, front-less-1, reclaim-moves}
@@ -24,7 +24,7 @@ module _ {K : ℕ → Type 0} {m : ℕ → ℕ} {s : Store} {f : Free} (h : Sim 
   clears : haveLevel s ≡ true → s .walk .place < frontier (s .memory) (s .current) → Stepped K m s f (reclaim s)
   unfolding reclaim below pastRecord
   clears a l = stepped
-      (rw (a, lt-ltb (s .walk .place) (frontier (s .memory) (s .current)) l, followed-start (h .filled) (cleared-in h e l .start)))
+      (rw (a, lt-ltb (s .walk .place) (frontier (s .memory) (s .current)) l, followed-start (follow-home h (cleared-in h e l))))
       (clear-sim h e l)
       (omega (arith, frontier-put (s .memory) (walked s) replicaAt null 0))
       (omega (arith, frontier-put (s .memory) (walked s) replicaAt null 1))

@@ -16,7 +16,8 @@ use Rattle.rules.proofs.invariant.Stages.{stRootFlip, phase-is}
 use Rattle.rules.proofs.invariant.Words.{Names, fwd}
 use Rattle.rules.proofs.invariant.Groups.{over}
 use Rattle.rules.proofs.invariant.Sim.{Sim}
-use Rattle.rules.proofs.invariant.Laws.{other, other-not, forward-passed, fwd-place, fwd-ok, fwd-names, to-other}
+use Rattle.rules.proofs.invariant.Laws.{other, other-not, fwd-place, fwd-ok, fwd-names, to-other}
+use Rattle.rules.proofs.invariant.Following.{forward-passed, follow-word}
 use Rattle.rules.proofs.invariant.Idle.{walking-idle}
 use Rattle.rules.proofs.invariant.Walked.{walk-sim}
 use Rattle.rules.proofs.relation.Stepped.{Stepped, stepped-same}
@@ -70,7 +71,7 @@ module _ {K : ℕ → Type 0} {m : ℕ → ℕ} {s : Store} {f : Free} (h : Sim 
   forwards : s .walk .place < globalCount → Stepped K m s f (rootFlip s)
   unfolding rootFlip
   forwards l = stepped-same
-      (rw (lt-ltb (s .walk .place) globalCount l, to-other h (omega arith), forward-passed (other h) (h .filled) (h .roots .global-ok (s .walk .place))))
+      (rw (lt-ltb (s .walk .place) globalCount l, to-other h (omega arith), forward-passed (other h) (h .roots .global-ok (s .walk .place)) (λ t d. follow-word h (λ y. h .root-halves .globals y (s .walk .place)) t)))
       (next-global (global-sim-same h (s .walk .place) (omega arith) new-fits) e l
       (rw (getD-set-same (s .globals) (s .walk .place) new null (omega (arith, h .roots .globals))) new-names))
       refl

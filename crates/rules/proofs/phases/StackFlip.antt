@@ -15,20 +15,22 @@ use Rattle.rules.specs.Collector.{forwardAll, stackFlip}
 use Rattle.rules.specs.Free.{Free, freeSession}
 use Rattle.rules.specs.declared.Session.{Session}
 use Rattle.rules.proofs.memory.Cases.{lt-or}
-use Rattle.rules.proofs.memory.Records.{Filled}
+use Rattle.rules.proofs.memory.Records.{Start}
 use Rattle.rules.proofs.invariant.Stages.{stStackFlip}
 use Rattle.rules.proofs.invariant.Words.{Ok, Names, fwd}
 use Rattle.rules.proofs.invariant.Sim.{Sim}
-use Rattle.rules.proofs.invariant.Laws.{other, other-not, forward-passed, fwd-null, fwd-place, fwd-ok, fwd-names, to-other}
+use Rattle.rules.proofs.invariant.Laws.{other, other-not, fwd-null, fwd-place, fwd-ok, fwd-names, to-other}
+use Rattle.rules.proofs.invariant.Following.{Followable, forward-passed, follow-word}
 use Rattle.rules.proofs.relation.Stepped.{Stepped, stepped-same}
 use Rattle.rules.proofs.sessions.Session.{WordFits, SessionFits, session-sim-same, register-fits, session-fits}
 use Rattle.rules.proofs.phases.Sessions.{lowest}
 use Rattle.rules.proofs.phases.Flip.{flip-moves}
 
 -- ---- a list of registers forwarded
-forward-all-passed : {M : Memory} (to : ℕ) → Filled M → (vs : List ℕ) → ((k : ℕ) → Ok M (getD vs k null)) → forwardAll M to vs ≡ passed (map (fwd M to) vs)
-forward-all-passed to k [] ok = refl
-forward-all-passed to k (v ∷ vs) ok = rw (forward-passed to k (ok 0), forward-all-passed to k vs (λ i. ok (suc i)))
+forward-all-passed : {M : Memory} (to : ℕ) (vs : List ℕ) → ((k : ℕ) → Ok M (getD vs k null)) → ((k : ℕ) → Start M (getD vs k null) → Followable M (getD vs k null))
+    → forwardAll M to vs ≡ passed (map (fwd M to) vs)
+forward-all-passed to [] ok f = refl
+forward-all-passed to (v ∷ vs) ok f = rw (forward-passed to (ok 0) (λ t d. f 0 t), forward-all-passed to vs (λ i. ok (suc i)) (λ i. f (suc i)))
 
 forwarded-at : (M : Memory) (to : ℕ) (vs : List ℕ) (k : ℕ) → getD (map (fwd M to) vs) k null ≡ fwd M to (getD vs k null)
 forwarded-at M to vs k = rw (fwd-null M to) at (List·getD-map (fwd M to) vs k null)
@@ -73,6 +75,9 @@ module _ {K : ℕ → Type 0} {m : ℕ → ℕ} {s : Store} {f : Free} (h : Sim 
     regs-ok : (k : ℕ) → Ok (s .memory) (getD regs k null)
     regs-ok k = register-fits h n k a .ok
 
+    regs-follow : (k : ℕ) → Start (s .memory) (getD regs k null) → Followable (s .memory) (getD regs k null)
+    regs-follow k = follow-word h (register-fits h n k a .names)
+
   -- ---- the unit
   abbrev low : ℕ
   low = lowestUnmarked (s .sessions)
@@ -87,7 +92,7 @@ module _ {K : ℕ → Type 0} {m : ℕ → ℕ} {s : Store} {f : Free} (h : Sim 
       let b : low ≤ lastSession = omega (arith, h .roots .sessions) in
       let a = low-attached l in
       stepped-same
-      (rw (lt-ltb low (length (s .sessions)) l, to-other h (omega arith), forward-all-passed (other h) (h .filled) (regs low b a) (regs-ok low b a)))
+      (rw (lt-ltb low (length (s .sessions)) l, to-other h (omega arith), forward-all-passed (other h) (regs low b a) (regs-ok low b a) (regs-follow low b a)))
       (session-sim-same h low b (new-fits low b a))
       refl
 

@@ -16,7 +16,7 @@ use Rattle.rules.proofs.Ranges.{in-range-tested}
 use Rattle.rules.proofs.memory.Records.{Start, start-nonnull}
 use Rattle.rules.proofs.invariant.Words.{Ok, ok-null, ok-start}
 use Rattle.rules.proofs.invariant.Sim.{Sim}
-use Rattle.rules.proofs.invariant.Laws.{followed-start}
+use Rattle.rules.proofs.invariant.Following.{Followable, followed-start, follow-word}
 use Rattle.rules.proofs.invariant.Spans.{Allowed}
 use Rattle.rules.proofs.relation.Alike.{Both, refused-both}
 
@@ -57,18 +57,22 @@ module _ {K : ℕ → Type 0} {m : ℕ → ℕ} {s : Store} {f : Free} (h : Sim 
   unfolding freeRegister freeSession register sessionAt
   register-is n r = h .roots .reg-is n r
 
+  register-follow : (n r : ℕ) → Start (s .memory) (register (sessionAt s n) r) → Followable (s .memory) (register (sessionAt s n) r)
+  unfolding register sessionAt
+  register-follow n r = follow-word h (λ y. h .root-halves .regs y n r)
+
   -- 11, 12: the record in register r of session n; its place is the collector-free register
   pub both-record : {A B : Type 0} {R : A → B → Type 0} (n r : ℕ) (k : ℕ → Tested A) (k′ : ℕ → Tested B)
       → (Start (s .memory) (register (sessionAt s n) r) → freeRegister (freeSession f n) r ≡ m (register (sessionAt s n) r)
       → Both R (k (register (sessionAt s n) r)) (k′ (m (register (sessionAt s n) r))))
       → Both R (recordIn s (sessionAt s n) r >>= k) (freeRecordIn (freeSession f n) r >>= k′)
   unfolding recordIn freeRecordIn
-  both-record {A} {B} {R} n r k k′ c = rw (register-is n r) (go (register (sessionAt s n) r) (register-ok n r) (λ t. c t (register-is n r)))
+  both-record {A} {B} {R} n r k k′ c = rw (register-is n r) (go (register (sessionAt s n) r) (register-ok n r) (register-follow n r) (λ t. c t (register-is n r)))
     where
-      go : (v : ℕ) → Ok (s .memory) v → (Start (s .memory) v → Both R (k v) (k′ (m v)))
+      go : (v : ℕ) → Ok (s .memory) v → (Start (s .memory) v → Followable (s .memory) v) → (Start (s .memory) v → Both R (k v) (k′ (m v)))
           → Both R (check (not (eqb v null)) 11 >> (followed (s .memory) v >> passed v) >>= k) (check (not (eqb (m v) null)) 11 >> passed (m v) >>= k′)
-      go v (ok-null e) w =
+      go v (ok-null e) f w =
           rw (e, h .identity .null-place) (refused-both 11 (λ e. omega arith) (λ e. omega arith))
-      go v (ok-start t) w =
-          rw (ne-eqb v null (start-nonnull t), ne-eqb (m v) null (λ e. let l = h .identity .low v t in omega arith), followed-start (h .filled) t)
+      go v (ok-start t) f w =
+          rw (ne-eqb v null (start-nonnull t), ne-eqb (m v) null (λ e. let l = h .identity .low v t in omega arith), followed-start (f t))
           (w t)

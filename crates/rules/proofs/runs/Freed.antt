@@ -27,7 +27,7 @@ use Rattle.rules.proofs.relation.Tracks.{tracked, tracks-none}
 use Rattle.rules.proofs.runs.Call.{one-call}
 use Rattle.rules.proofs.runs.Runs.{Holds, run-holds, beside-store}
 
--- ---- the step that leaves phase 0
+-- ---- the step that leaves Rest
 
 -- as the step leaves it
 abbrev begun : Beside → Beside
@@ -107,7 +107,7 @@ AllKept K e = (v : ℕ) → Start (e .store .memory) v → K (e .place v)
 pub all-listed : {K : ℕ → Type 0} {e : Beside} → Holds K e → AllKept K e → {g : ℕ} → g < 2 → (q : ℕ) → List·Memᴰ q (placesIn e g) → K q
 all-listed {e = e} h all two q i = let l = mapped-start (h .filled) two (e .place) i in rw (l .value) at (all (l .named) (l .start))
 
--- ---- back in phase 0
+-- ---- back in Rest
 
 module _ {K : ℕ → Type 0} {e : Beside} (h : Holds K e) (z : e .store .phase ≡ atRest) where
   -- the current half has only such records, the other none

@@ -24,7 +24,8 @@ use Rattle.rules.proofs.invariant.Stages.{stCopy, stStackFlip, stReclai
 use Rattle.rules.proofs.invariant.Words.{In, Ok, ok-null, ok-start, Names}
 use Rattle.rules.proofs.invariant.Groups.{Pair}
 use Rattle.rules.proofs.invariant.Sim.{Sim}
-use Rattle.rules.proofs.invariant.Laws.{other-not, has-replica, followed-start, from-current, from-other, from-two, in-half-yes, in-half-no, in-half-null}
+use Rattle.rules.proofs.invariant.Laws.{other-not, has-replica, from-current, from-other, from-two, in-half-yes, in-half-no, in-half-null}
+use Rattle.rules.proofs.invariant.Following.{Followable, followed-start, follow-word}
 use Rattle.rules.proofs.invariant.Pairs.{pair-side}
 use Rattle.rules.proofs.invariant.Spans.{Allowed, level-from, level-home}
 use Rattle.rules.proofs.relation.Alike.{Alike, both-check, both-passes, alike-done}
@@ -78,15 +79,16 @@ module _ {K : ℕ → Type 0} {m : ℕ → ℕ} {s : Store} {f : Free} (h : Sim 
             (λ side. h .identity .apart (replica M p) q (c .start) u
             (pair-side two t c .side ∙ sym (only-other from (halfOf q) two (half-below-2 q) side)) (c .same ∙ e))
 
-  pointer-passed : {p q : ℕ} → Ok M p → Ok M q → (In M (fromspace s) p → Pair M m p (replica M p)) → (In M (fromspace s) q → Pair M m q (replica M q))
+  pointer-passed : {p q : ℕ} → Ok M p → Ok M q → (In M (fromspace s) p → Followable M p) → (In M (fromspace s) q → Followable M q)
+      → (In M (fromspace s) p → Pair M m p (replica M p)) → (In M (fromspace s) q → Pair M m q (replica M q))
       → pointerEQ (heapOf s) p q ≡ passed (eqb (m p) (m q))
   unfolding pointerEQ
-  pointer-passed {p} {q} a b cp cq = eq-or p q
+  pointer-passed {p} {q} a b fp fq cp cq = eq-or p q
       (λ e. rw (eq-eqb p q e, eq-eqb (m p) (m q) (ap m e)))
       (λ d. rw (ne-eqb p q d) (side-or (fromspace s) a
-      (λ t i. rw (i, followed-start (h .filled) (t .start), across (fromspace s) (from-two h) t (cp t) b d))
+      (λ t i. rw (i, followed-start (fp t), across (fromspace s) (from-two h) t (cp t) b d))
       (λ o i. rw i (side-or (fromspace s) b
-      (λ t j. rw (j, followed-start (h .filled) (t .start), across (fromspace s) (from-two h) t (cq t) a (λ e. d (sym e)), eqb-swap (m q) (m p)))
+      (λ t j. rw (j, followed-start (fq t), across (fromspace s) (from-two h) t (cq t) a (λ e. d (sym e)), eqb-swap (m q) (m p)))
       (λ o′ j. rw (j, ne-eqb (m p) (m q) (λ e. d (one-half (otherHalf (fromspace s)) a b (there o) (there o′) e))))))))
     where
       there : {v : ℕ} → (v ≢ null → halfOf v ≢ fromspace s) → Names (otherHalf (fromspace s)) v
@@ -107,8 +109,8 @@ module _ {K : ℕ → Type 0} {m : ℕ → ℕ} {s : Store} {f : Free} (h : Sim 
       → sameAt (heapOf s) (x .level) v w ≡ passed (eqb p q)
   unfolding sameAt
   same-passed {x} {v} {w} {p} {q} t u a = rw (t .is, u .is) (lt-or 4 (x .level)
-      (λ k. let lo = level-from 5 (omega arith) (h .range .phases) a k in
-      rw (lt-leb (x .level) 4 k) (pointer-passed (t .ok) (u .ok) (has-copy t lo) (has-copy u lo)))
+      (λ k. let lo : stCopy < stage (s .phase) = omega (arith, level-from 5 (omega arith) (h .range .phases) a k) in
+      rw (lt-leb (x .level) 4 k) (pointer-passed (t .ok) (u .ok) (λ c. follow-word h (t .names) (c .start)) (λ c. follow-word h (u .names) (c .start)) (has-copy t lo) (has-copy u lo)))
       (λ k. let z = level-home (h .range .phases) a k in
       rw (
         le-leb (x .level) 4 k,
