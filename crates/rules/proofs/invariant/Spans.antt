@@ -1,5 +1,5 @@
 -- Levels by phase: what the level of an attached session says of the phase's stage. Both are few, so tests over all of them show it.
-use Prim.Native.Nat.{ℕ, _≤_, _<_, suc}
+use Prim.Native.Nat.{ℕ, suc, _≤_, _<_}
 use mathlib.Core.Path.{_≡_}
 use mathlib.Core.Logic.{_⊎_, inl, inr}
 use mathlib.Core.Bool.{Bool, true, false, _||_, not}
