@@ -1,4 +1,5 @@
 -- Session calls: for each the tests in the table's order, then what it writes. Arguments in the script's order.
+-- Where the two are used apart, a call is a plan, all its tests with what is to be written, and a commit, the store with that written.
 use Prim.Native.Nat.{ℕ, _+_}
 use mathlib.Core.Bool.{Bool, not, _&&_}
 use mathlib.Core.List.{List}
@@ -10,6 +11,8 @@ use Rattle.rules.specs.Control.{Store, withMemory, withGlobals, inRange,
 use Rattle.rules.specs.Phases.{levelOf, sessionAt, withSession, register, withRegisters, withLevel, attachedAt, detached}
 use Rattle.rules.specs.Barriers.{heapOf, shade, replicaFor, storeWrites, putWrites, putBoth, sameAt, allocationRoom, allocated, allocatedReference}
 use Rattle.rules.specs.declared.Session.{Session}
+use Rattle.rules.specs.declared.Operands.{Operands}
+use Rattle.rules.specs.declared.Writes.{Writes}
 use Rattle.rules.specs.declared.Answer.the-variants.{Word, Same}
 
 -- ---- tests that calls share
@@ -34,12 +37,21 @@ isGlobal g = leb g lastGlobal
 abbrev pub isShape : ℕ → ℕ → Bool
 isShape r p = leb r mostCount && leb p mostCount
 
--- 11, 12: the record worked on, in register k
-unfoldable pub recordIn : Store → Session → ℕ → Tested ℕ
-recordIn s x k = do
+-- 4, 5, 6, 8, 11: what a call of session n on the record in register k works with; o is its other register argument, or
+-- k again where it has none
+unfoldable pub operandsOf : Store → ℕ → ℕ → ℕ → Tested Operands
+operandsOf s n k o = do
+  x ← sessionOf s n
+  check (isRegister k && isRegister o) 8
   check (not (eqb (register x k) null)) 11
-  followed (s .memory) (register x k)
-  passed (register x k)
+  passed (record { level = x .level; own = register x k; other = register x o })
+
+-- 4, 5, 6, 8, 11, 12: the same of a sound record
+unfoldable pub recordOf : Store → ℕ → ℕ → ℕ → Tested Operands
+recordOf s n k o = do
+  x ← operandsOf s n k o
+  followed (s .memory) (x .own)
+  passed x
 
 -- the store with register k of session n set to v
 unfoldable pub withRegister : Store → ℕ → ℕ → ℕ → Store
@@ -76,41 +88,70 @@ allocate s n k r p = do
   check (allocationRoom s (x .level) r p) 14
   done (withRegister (withMemory s (allocated s (x .level) r p)) n k (allocatedReference s (x .level)))
 
+-- load: the word that the register gets
+unfoldable pub loadPlan : Store → ℕ → ℕ → ℕ → ℕ → Tested ℕ
+loadPlan s n to k i = do
+  x ← recordOf s n k to
+  check (ltb i (refs (s .memory) (x .own))) 13
+  passed (word (s .memory) (x .own) (refField i))
+
 unfoldable pub load : Store → ℕ → ℕ → ℕ → ℕ → Tested (Outcome Store)
 load s n to k i = do
-  x ← sessionOf s n
-  check (isRegister to && isRegister k) 8
-  v ← recordIn s x k
-  check (ltb i (refs (s .memory) v)) 13
-  done (withRegister s n to (word (s .memory) v (refField i)))
+  w ← loadPlan s n to k i
+  done (withRegister s n to w)
+
+-- store: the record that is written, and what is written to it and its replica
+pub record StorePlan : Type 0 where
+  pub into : ℕ
+  pub writes : Writes
+
+unfoldable pub storePlan : Store → ℕ → ℕ → ℕ → ℕ → Tested StorePlan
+storePlan s n k i from = do
+  x ← recordOf s n k from
+  check (ltb i (refs (s .memory) (x .own))) 13
+  w ← storeWrites (heapOf s) (x .level) (x .own) i (x .other)
+  passed (record { into = x .own; writes = w })
+
+unfoldable pub storeCommit : Store → ℕ → StorePlan → Store
+storeCommit s i q =
+    let w = q .writes in
+    let shaded = shade s (w .shade) in
+    withMemory shaded (putBoth (shaded .memory) (q .into) (refField i) (w .own) (w .replica) (refField i) (w .copy))
 
 unfoldable pub store : Store → ℕ → ℕ → ℕ → ℕ → Tested (Outcome Store)
 store s n k i from = do
-  x ← sessionOf s n
-  check (isRegister k && isRegister from) 8
-  v ← recordIn s x k
-  check (ltb i (refs (s .memory) v)) 13
-  w ← storeWrites (heapOf s) (x .level) v i (register x from)
-  let shaded = shade s (w .shade)
-  done (withMemory shaded (putBoth (shaded .memory) v (refField i) (w .own) (w .replica) (refField i) (w .copy)))
+  q ← storePlan s n k i from
+  done (storeCommit s i q)
 
 unfoldable pub read : Store → ℕ → ℕ → ℕ → Tested (Outcome Store)
 read s n k i = do
-  x ← sessionOf s n
-  check (isRegister k) 8
-  v ← recordIn s x k
-  check (ltb i (plains (s .memory) v)) 13
-  answered s (Word (word (s .memory) v (plainField (refs (s .memory) v) i)))
+  x ← recordOf s n k k
+  check (ltb i (plains (s .memory) (x .own))) 13
+  answered s (Word (word (s .memory) (x .own) (plainField (refs (s .memory) (x .own)) i)))
+
+-- write: the record, its count of reference fields, and its replica, or null where none is written
+pub record WritePlan : Type 0 where
+  pub own : ℕ
+  pub refs : ℕ
+  pub replica : ℕ
+
+unfoldable pub writePlan : Store → ℕ → ℕ → ℕ → Tested WritePlan
+writePlan s n k i = do
+  x ← recordOf s n k k
+  check (ltb i (plains (s .memory) (x .own))) 13
+  t ← replicaFor (s .memory) plains (x .level) (x .own) i
+  passed (record { own = x .own; refs = refs (s .memory) (x .own); replica = t })
 
 -- "plain writes at 4 to 6 go to both"
+unfoldable pub writeCommit : Store → ℕ → ℕ → WritePlan → Store
+writeCommit s i a q =
+    withMemory s
+    (putBoth (s .memory) (q .own) (plainField (q .refs) i) a (q .replica) (plainField (refs (s .memory) (q .replica)) i) a)
+
 unfoldable pub write : Store → ℕ → ℕ → ℕ → ℕ → Tested (Outcome Store)
 write s n k i a = do
-  x ← sessionOf s n
-  check (isRegister k) 8
-  v ← recordIn s x k
-  check (ltb i (plains (s .memory) v)) 13
-  t ← replicaFor (s .memory) plains (x .level) v i
-  done (withMemory s (putBoth (s .memory) v (plainField (refs (s .memory) v) i) a t (plainField (refs (s .memory) t) i) a))
+  q ← writePlan s n k i
+  done (writeCommit s i a q)
 
 unfoldable pub move : Store → ℕ → ℕ → ℕ → Tested (Outcome Store)
 move s n to from = do
@@ -140,18 +181,24 @@ get s n to g = do
   check (isGlobal g) 9
   done (withRegister s n to (getD (s .globals) g null))
 
-unfoldable pub put : Store → ℕ → ℕ → ℕ → Tested (Outcome Store)
-put s n g from = do
+unfoldable pub putPlan : Store → ℕ → ℕ → ℕ → Tested Writes
+putPlan s n g from = do
   x ← sessionOf s n
   check (isRegister from) 8
   check (isGlobal g) 9
-  w ← putWrites (heapOf s) (x .level) (register x from)
-  done (withGlobals (shade s (w .shade)) (set (s .globals) g (w .own)))
+  putWrites (heapOf s) (x .level) (register x from)
+
+unfoldable pub putCommit : Store → ℕ → Writes → Store
+putCommit s g w = withGlobals (shade s (w .shade)) (set (s .globals) g (w .own))
+
+unfoldable pub put : Store → ℕ → ℕ → ℕ → Tested (Outcome Store)
+put s n g from = do
+  w ← putPlan s n g from
+  done (putCommit s g w)
 
 -- "hands back the plain fields of a record as the stretch of whichever half holds it"; its companion has the same tests
 unfoldable pub stretch : Store → ℕ → ℕ → Tested (List ℕ)
 stretch s n k = do
-  x ← sessionOf s n
-  check (isRegister k) 8
-  v ← recordIn s x k
+  x ← recordOf s n k k
+  let v = x .own
   passed (take (plains (s .memory) v) (drop (wordOf v + header + refs (s .memory) v) (half (s .memory) (halfOf v))))

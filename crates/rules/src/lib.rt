@@ -27,6 +27,14 @@ pub enum Answer {
     Phase(usize),
 }
 
+// What a call on the record in a register works with: the session's level, the reference in the register of the record
+// worked on, and what its other register argument holds.
+pub struct Operands {
+    pub level: u32,
+    pub own: u32,
+    pub other: u32,
+}
+
 // What a store or a put writes: the record to shade first (0: none), the word for the record itself or the global,
 // the replica that is written as well (0: none) and the word for it.
 pub struct Writes {

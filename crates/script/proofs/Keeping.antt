@@ -8,8 +8,8 @@ use Rattle.rules.specs.Refusals.{Tested, refused, passed, check, _>>=_, Outcome
 use Rattle.rules.specs.Memory.{put, withHalf, plains}
 use Rattle.rules.specs.Control.{Store, withMemory}
 use Rattle.rules.specs.Phases.{register}
-use Rattle.rules.specs.Barriers.{heapOf, putBoth, replicaFor, sameAt}
-use Rattle.rules.specs.Calls.{sessionOf, isRegister, recordIn, read, write, same}
+use Rattle.rules.specs.Barriers.{heapOf, putBoth, sameAt}
+use Rattle.rules.specs.Calls.{sessionOf, isRegister, recordOf, read, writePlan, writeCommit, write, same}
 use Rattle.rules.specs.Runs.{apply, Read, Write, SameAs}
 use Rattle.store.specs.declared.Control.{Control}
 use Rattle.store.specs.declared.Reply.{Reply}
@@ -43,8 +43,7 @@ module _ (s : Store) (n : ℕ) where
   read-keeps : (k i : ℕ) → Kept s (read s n k i)
   unfolding read
   read-keeps k i =
-      tests-keep s (sessionOf s n) _ (λ x. tests-keep s (check (isRegister k) 8) _ (λ a. tests-keep s (recordIn s x k) _
-      (λ v. tests-keep s (check (ltb i (plains (s .memory) v)) 13) _ (λ b. record { keeps = refl }))))
+      tests-keep s (recordOf s n k k) _ (λ x. tests-keep s (check (ltb i (plains (s .memory) (x .own))) 13) _ (λ b. record { keeps = refl }))
 
   same-keeps : (a b : ℕ) → Kept s (same s n a b)
   unfolding same
@@ -53,11 +52,8 @@ module _ (s : Store) (n : ℕ) where
       (λ u. tests-keep s (sameAt (heapOf s) (x .level) (register x a) (register x b)) _ (λ y. record { keeps = refl })))
 
   write-keeps : (k i a : ℕ) → Kept s (write s n k i a)
-  unfolding write
-  write-keeps k i a =
-      tests-keep s (sessionOf s n) _ (λ x. tests-keep s (check (isRegister k) 8) _ (λ u. tests-keep s (recordIn s x k) _
-      (λ v. tests-keep s (check (ltb i (plains (s .memory) v)) 13) _
-      (λ b. tests-keep s (replicaFor (s .memory) plains (x .level) v i) _ (λ t. record { keeps = both-keep s v _ a t _ a })))))
+  unfolding write writeCommit
+  write-keeps k i a = tests-keep s (writePlan s n k i) _ (λ q. record { keeps = both-keep s (q .own) _ a (q .replica) _ a })
 
 -- so the call answers the same with the control record that it was given
 abbrev keeping : Control → Reply → Reply

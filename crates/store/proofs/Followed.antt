@@ -1,98 +1,21 @@
--- A call on the record in a register, by what following it found: its rule from there on.
-use Prim.Native.Nat.{ℕ, _+_, _-_, _≤_, _<_}
+-- The stretch: the plain fields of a record found are a part of its half.
+use Prim.Native.Nat.{ℕ, _+_, _-_, _≤_}
 use mathlib.Core.Path.{_≡_, ap}
-use mathlib.Core.Bool.{Bool, true, false, cond, _&&_, and-comm, and-self}
+use mathlib.Core.Bool.{Bool, true, false, cond}
 use mathlib.Core.List.{List}
 use native.Mathlib.Omega.{arith}
-use lib.Dec.{ltb, eqb}
+use lib.Dec.{eqb}
 use lib.ListN.{length, take, drop}
-use borrow.Author.Tests.{lt-ltb, le-ltb}
-use Rattle.rules.specs.Refusals.{Tested, refused, passed, check, _>>=_, _>>_, answered, wordsOr}
-use Rattle.rules.specs.Memory.{Memory, half, halfOf, wordOf, header, refs, plains, refField, plainField, word, size, sound, followed}
+use Rattle.rules.specs.Refusals.{wordsOr}
+use Rattle.rules.specs.Memory.{Memory, half, halfOf, wordOf, size}
 use Rattle.rules.specs.Control.{Store}
-use Rattle.rules.specs.Phases.{sessionAt}
-use Rattle.rules.specs.Calls.{sessionOf, isRegister, recordIn, read, stretch}
-use Rattle.rules.specs.declared.Session.{Session}
-use Rattle.rules.specs.declared.Answer.the-variants.{Word}
+use Rattle.rules.specs.Calls.{stretch}
+use Rattle.rules.specs.declared.Operands.{Operands}
 use Rattle.rules.proofs.Ranges.{InRange, fronts}
 use Rattle.heap.proofs.Soundness.{Found}
 use Rattle.heap.proofs.Halves.{frontier-within}
-use Rattle.heap.proofs.Fields.{ref-inside, plain-inside}
-use Rattle.heap.specs.View.{memory, Inside}
-use Rattle.store.specs.Loads.{loadPlan}
-use Rattle.store.proofs.Worked.{Holding}
-
--- ---- a rule whose flag of register numbers is b
-
-module _ {B : Type 0} {v : ℕ} (s : Store) (n k o : ℕ) (b : Bool) (f : Session → ℕ → Tested B) (i : (isRegister k && isRegister o) ≡ b) (h : Holding s n k o v) where
-  -- damage leaves the call there
-  pub rule-lost : sound (s .memory) v ≡ false → (sessionOf s n >>= λ x. check b 8 >> (recordIn s x k >>= f x)) ≡ refused 12
-  unfolding followed
-  rule-lost d = rw (h .found, ← i, h .registers, h .record-in, d)
-
-  -- a sound record: what the rule does with it
-  pub rule-found : sound (s .memory) v ≡ true → (sessionOf s n >>= λ x. check b 8 >> (recordIn s x k >>= f x)) ≡ f (sessionAt s n) v
-  unfolding followed
-  rule-found d = rw (h .found, ← i, h .registers, h .record-in, d)
-
--- ---- the plan of a load
-
-module _ {v : ℕ} (s : Store) (n k to i : ℕ) (h : Holding s n k to v) where
-  pub load-lost : sound (s .memory) v ≡ false → loadPlan s n to k i ≡ refused 12
-  unfolding loadPlan
-  load-lost = rule-lost s n k to (isRegister to && isRegister k) _ (and-comm (isRegister k) (isRegister to)) h
-
-  load-found : sound (s .memory) v ≡ true
-      → loadPlan s n to k i ≡ (check (ltb i (refs (s .memory) v)) 13 >> passed (word (s .memory) v (refField i)))
-  unfolding loadPlan
-  load-found = rule-found s n k to (isRegister to && isRegister k) _ (and-comm (isRegister k) (isRegister to)) h
-
-  module _ {at r p : ℕ} (d : Found (s .memory) v at r p) where
-    pub load-beyond : r ≤ i → loadPlan s n to k i ≡ refused 13
-    load-beyond l = rw (load-found (d .sound), ← d .refs, le-ltb i r l)
-
-    pub loaded : {w : ℕ} → w ≡ word (s .memory) v (refField i) → i < r → loadPlan s n to k i ≡ passed w
-    loaded e l = rw (load-found (d .sound), ← d .refs, lt-ltb i r l, e)
-
-    pub load-inside : i < r → Inside (s .memory .half0) (s .memory .half1) v (3 + i)
-    load-inside l =
-        let q = fronts (h .within .known) in
-        ref-inside _ _ _ _ v (d .sound) (q .0) (q .1) i (rw (d .refs) at l)
-
--- ---- read and the stretch
-
-module _ {v : ℕ} (s : Store) (n k : ℕ) (h : Holding s n k k v) where
-  pub read-lost : (i : ℕ) → sound (s .memory) v ≡ false → read s n k i ≡ refused 12
-  unfolding read
-  read-lost i = rule-lost s n k k (isRegister k) _ (and-self (isRegister k)) h
-
-  read-found : (i : ℕ) → sound (s .memory) v ≡ true
-      → read s n k i ≡ (check (ltb i (plains (s .memory) v)) 13 >> answered s (Word (word (s .memory) v (plainField (refs (s .memory) v) i))))
-  unfolding read
-  read-found i = rule-found s n k k (isRegister k) _ (and-self (isRegister k)) h
-
-  pub stretch-lost : sound (s .memory) v ≡ false → stretch s n k ≡ refused 12
-  unfolding stretch
-  stretch-lost = rule-lost s n k k (isRegister k) _ (and-self (isRegister k)) h
-
-  pub stretch-found : sound (s .memory) v ≡ true
-      → stretch s n k ≡ passed (take (plains (s .memory) v) (drop (wordOf v + header + refs (s .memory) v) (half (s .memory) (halfOf v))))
-  unfolding stretch
-  stretch-found = rule-found s n k k (isRegister k) _ (and-self (isRegister k)) h
-
-  module _ {at r p : ℕ} (i : ℕ) (d : Found (s .memory) v at r p) where
-    pub read-beyond : p ≤ i → read s n k i ≡ refused 13
-    read-beyond l = rw (read-found i (d .sound), ← d .plains, le-ltb i p l)
-
-    pub have-read : {w : ℕ} → w ≡ word (s .memory) v (plainField r i) → i < p → read s n k i ≡ answered s (Word w)
-    have-read e l = rw (read-found i (d .sound), ← d .plains, ← d .refs, lt-ltb i p l, e)
-
-    pub read-inside : i < p → Inside (s .memory .half0) (s .memory .half1) v (3 + r + i)
-    read-inside l =
-        let q = fronts (h .within .known) in
-        rw (d .refs) (plain-inside _ _ _ _ v (d .sound) (q .0) (q .1) i (rw (d .plains) at l))
-
--- ---- the plain fields of a record found are a part of its half
+use Rattle.heap.specs.View.{memory}
+use Rattle.store.proofs.Worked.{Opened}
 
 either-small : (b : Bool) (h0 h1 : List ℕ) (m : ℕ) → length h0 ≤ m → length h1 ≤ m → length (cond b h0 h1) ≤ m
 either-small true h0 h1 m x y = x
@@ -111,22 +34,25 @@ found-size d = omega (arith, d .place, d .refs, d .plains)
 pub span : (a p : ℕ) → a + p - a ≡ p
 span a p = omega arith
 
-module _ {v at r p : ℕ} {W : List ℕ} (s : Store) (k : InRange s) (d : Found (s .memory) v at r p)
-    (e : (f0 f1 : ℕ) → W ≡ half (memory (s .memory .half0) (s .memory .half1) f0 f1) (halfOf v)) where
-  part-of : W ≡ half (s .memory) (halfOf v)
+module _ {s : Store} {n k o at r p : ℕ} {x : Operands} {W : List ℕ} (d : Opened s n k o x at r p)
+    (e : (f0 f1 : ℕ) → W ≡ half (memory (s .memory .half0) (s .memory .half1) f0 f1) (halfOf (x .own))) where
+  part-of : W ≡ half (s .memory) (halfOf (x .own))
   part-of = e (s .memory .frontier0) (s .memory .frontier1)
 
   pub stretch-within : at + 3 + r + p ≤ length W
   stretch-within =
-      let q = fronts k in
-      let f = frontier-within (s .memory .half0) (s .memory .half1) (s .memory .frontier0) (s .memory .frontier1) v (q .0) (q .1) in
-      let l : length W ≡ length (half (s .memory) (halfOf v)) = ap length part-of in
-      omega (arith, found-size d, d .below, f, l)
+      let q = fronts (d .known) in
+      let f = frontier-within (s .memory .half0) (s .memory .half1) (s .memory .frontier0) (s .memory .frontier1) (x .own) (q .0) (q .1) in
+      let l : length W ≡ length (half (s .memory) (halfOf (x .own))) = ap length part-of in
+      omega (arith, found-size (d .found), d .found .below, f, l)
 
   pub stretch-small : at + 3 + r + p ≤ 1048576
   stretch-small =
-      let l : length W ≡ length (half (s .memory) (halfOf v)) = ap length part-of in
-      omega (arith, stretch-within, half-small k (halfOf v), l)
+      let l : length W ≡ length (half (s .memory) (halfOf (x .own))) = ap length part-of in
+      omega (arith, stretch-within, half-small (d .known) (halfOf (x .own)), l)
 
-  pub stretched : (n o : ℕ) → Holding s n o o v → take p (drop (at + 3 + r) W) ≡ wordsOr (stretch s n o)
-  stretched n o h = rw (stretch-found s n o h (d .sound), part-of, d .place, ← d .plains, ← d .refs)
+pub stretched : {s : Store} {n k at r p : ℕ} {x : Operands} {W : List ℕ} (d : Opened s n k k x at r p)
+    → ((f0 f1 : ℕ) → W ≡ half (memory (s .memory .half0) (s .memory .half1) f0 f1) (halfOf (x .own)))
+    → take p (drop (at + 3 + r) W) ≡ wordsOr (stretch s n k)
+unfolding stretch
+stretched d e = rw (d .tests, part-of d e, d .found .place, ← d .found .plains, ← d .found .refs)

@@ -1,135 +1,104 @@
--- A call on the record in a register, by what `held` answered: its rule from there on.
-use Prim.Native.Nat.{ℕ, _≤_}
-use mathlib.Core.Path.{_≡_, _∙_, sym, refl, ap}
-use mathlib.Core.Bool.{Bool, true, false, not, _&&_, and-comm, and-self}
-use native.Mathlib.Omega.{arith}
-use lib.Dec.{leb, eqb}
-use borrow.Author.Tests.{leb-true, eqb-false, not-true}
-use Rattle.rules.specs.Refusals.{Tested, refused, passed, check, _>>=_, _>>_}
-use Rattle.rules.specs.Memory.{null, followed}
+-- A call on the record in a register: what its opening gives, the tests of `held` and then what following found.
+use Prim.Native.Nat.{ℕ, _+_, _≤_, _<_}
+use mathlib.Core.Path.{_≡_, _∙_, sym, ap}
+use mathlib.Core.Bool.{true, false, _&&_}
+use lib.Dec.{leb, ltb}
+use lib.ListN.{length}
+use borrow.Author.Tests.{leb-true, lt-ltb, le-ltb}
+use Rattle.rules.specs.Refusals.{refused, passed}
+use Rattle.rules.specs.Memory.{refs, plains, sound, follow, followed}
 use Rattle.rules.specs.Control.{Store}
-use Rattle.rules.specs.Phases.{register, sessionAt}
-use Rattle.rules.specs.Calls.{sessionOf, isRegister, recordIn, store, read, write, stretch}
-use Rattle.rules.specs.declared.Session.{Session}
-use Rattle.rules.proofs.Ranges.{both, InSession, in-session, after-check}
+use Rattle.rules.specs.Calls.{sessionOf, isRegister, operandsOf, recordOf}
+use Rattle.rules.specs.declared.Operands.{Operands}
+use Rattle.rules.specs.declared.Followed.{Followed}
+use Rattle.rules.specs.declared.Followed.the-variants.{Sound, Damage}
+use Rattle.rules.proofs.Ranges.{InRange, both, in-session, fronts, after-check}
+use Rattle.heap.specs.View.{Inside}
 use Rattle.heap.proofs.Passed.{bind-passed, same-passed}
-use Rattle.store.specs.Operands.{tested, holding}
-use Rattle.store.specs.Loads.{loadPlan}
+use Rattle.heap.proofs.Soundness.{Found, found, lost}
+use Rattle.heap.proofs.Fields.{found-header, found-ref, found-plain}
+use Rattle.store.specs.Plans.{tested}
 use Rattle.store.specs.declared.operands.Held.{Held}
 use Rattle.store.specs.declared.operands.Held.the-variants as held
-use Rattle.store.specs.declared.operands.Operands.{Operands}
 
 -- ---- the tests passed
 
--- what holds where `held` answered with the reference v of the record worked on
-pub record Holding (s : Store) (n k o v : ℕ) : Type 0 where
-  pub within : InSession s n (sessionAt s n)
-  pub found : sessionOf s n ≡ passed (sessionAt s n)
-  pub registers : (isRegister k && isRegister o) ≡ true
+-- what holds where 4, 5, 6, 8 and 11 passed
+pub record Worked (s : Store) (n k o : ℕ) : Type 0 where
+  pub known : InRange s
+  pub number : n ≤ 15
   pub first : k ≤ 7
   pub second : o ≤ 7
-  pub held : register (sessionAt s n) k ≡ v
-  pub there : v ≡ 0 → ⊥
-  pub record-in : recordIn s (sessionAt s n) k ≡ (followed (s .memory) v >> passed v)
 
-worked-on : (s : Store) (x : Session) (k : ℕ) {v : ℕ} → register x k ≡ v → not (eqb (register x k) null) ≡ true
-    → recordIn s x k ≡ (followed (s .memory) v >> passed v)
-unfolding recordIn
-worked-on s x k e t = rw (t, e)
+worked : {x : Operands} (s : Store) (n k o : ℕ) → operandsOf s n k o ≡ passed x → Worked s n k o
+unfolding operandsOf
+worked s n k o e =
+    let a = bind-passed (sessionOf s n) _ e in
+    let b = both (leb k 7) (leb o 7) (after-check (isRegister k && isRegister o) 8 _ (a .2) .0) in
+    let c = in-session s n (a .1) in
+    record { known = c .known; number = c .number; first = leb-true k 7 (b .0); second = leb-true o 7 (b .1) }
 
--- what `held` hands out of session x
-abbrev given : Session → ℕ → ℕ → Operands
-given x k o = record { level = x .level; own = register x k; other = register x o }
+-- and 12
+pub recorded : {x : Operands} (s : Store) (n k o : ℕ) → recordOf s n k o ≡ passed x → Worked s n k o × (sound (s .memory) (x .own) ≡ true)
+unfolding recordOf followed
+recorded s n k o e =
+    let a = bind-passed (operandsOf s n k o) _ e in
+    let b = after-check (sound (s .memory) (a .0 .own)) 12 (passed (a .0)) (a .2) in
+    (worked s n k o (a .1), rw (same-passed (b .1)) at (b .0))
 
--- what holds where `held` answered w
-pub record Handed (s : Store) (n k o : ℕ) (w : Operands) : Type 0 where
-  pub holding : Holding s n k o (w .own)
-  pub level : w .level ≡ sessionAt s n .level
-  pub other : w .other ≡ register (sessionAt s n) o
+-- ---- the opening
 
-pub holding-passed : {w : Operands} (s : Store) (n k o : ℕ) → holding s n k o ≡ passed w → Handed s n k o w
-unfolding holding
-holding-passed {w} s n k o e =
-    let p = bind-passed (sessionOf s n) _ e in
-    let x = sessionAt s n in
-    let f : sessionOf s n ≡ passed x = p .1 ∙ ap passed (in-session s n (p .1) .session) in
-    let q = after-check (isRegister k && isRegister o) 8 _ (rw f at e) in
-    let r = after-check (not (eqb (register x k) null)) 11 _ (q .1) in
-    let b = both (leb k 7) (leb o 7) (q .0) in
-    let g : given x k o ≡ w = same-passed (r .1) in
-    let h : register x k ≡ w .own = ap (λ (y : Operands). y .own) g in
-    record {
-      holding = record {
-        within = in-session s n f;
-        found = f;
-        registers = q .0;
-        first = leb-true _ _ (b .0);
-        second = leb-true _ _ (b .1);
-        held = h;
-        there = λ z. eqb-false _ _ (not-true (eqb (register x k) null) (r .0)) (h ∙ z);
-        record-in = worked-on s x k h (r .0);
-      };
-      level = ap (λ (y : Operands). y .level) (sym g);
-      other = ap (λ (y : Operands). y .other) (sym g);
-    }
+-- what a call works with, x, and the record found: its tests passed, and its words are words of its half
+pub record Opened (s : Store) (n k o : ℕ) (x : Operands) (at r p : ℕ) : Type 0 where
+  pub tests : recordOf s n k o ≡ passed x
+  pub known : InRange s
+  pub found : Found (s .memory) (x .own) at r p
+  pub header : (j : ℕ) → j < 3 → Inside (s .memory .half0) (s .memory .half1) (x .own) j
+  pub ref : (i : ℕ) → i < r → Inside (s .memory .half0) (s .memory .half1) (x .own) (3 + i)
+  pub plain : (i : ℕ) → i < p → Inside (s .memory .half0) (s .memory .half1) (x .own) (3 + r + i)
 
--- ---- a test failed
+-- by what the code's `held` answered
+module _ {h : Held} (s : Store) (n k o : ℕ) (e : tested h ≡ operandsOf s n k o) where
+  pub away : {g : ℕ} → h ≡ held.Refusal g → recordOf s n k o ≡ refused g
+  unfolding recordOf
+  away m = rw (← e, m)
 
--- the tests on one session x: register numbers, then a null register
-stopped : {A B : Type 0} {g : ℕ} (s : Store) (x : Session) (k : ℕ) (a : A) (f : Session → ℕ → Tested B) (b : Bool)
-    → (check b 8 >> (check (not (eqb (register x k) null)) 11 >> passed a)) ≡ refused g
-    → (check b 8 >> (recordIn s x k >>= f x)) ≡ refused g
-unfolding recordIn
-stopped {g = g} s x k a f false e = cc
-stopped {g = g} s x k a f true e = null-case (not (eqb (register x k) null)) e
-  where
-    null-case : (n : Bool) → (check n 11 >> passed a) ≡ refused g
-        → ((check n 11 >> (followed (s .memory) (register x k) >> passed (register x k))) >>= f x) ≡ refused g
-    null-case true e = absurd (let z : _≡_ {A = ℕ} 0 1 = cc in omega arith)
-    null-case false e = cc
+  module _ {x : Operands} (m : h ≡ held.Operands x) where
+    passes : operandsOf s n k o ≡ passed x
+    passes = sym e ∙ ap tested m
 
--- the tests of a rule whose flag of register numbers is b
-pub holding-refused : {B : Type 0} {g : ℕ} (s : Store) (n k o : ℕ) (b : Bool) (f : Session → ℕ → Tested B)
-    → (isRegister k && isRegister o) ≡ b → holding s n k o ≡ refused g
-    → (sessionOf s n >>= λ x. check b 8 >> (recordIn s x k >>= f x)) ≡ refused g
-unfolding holding
-holding-refused {g = g} s n k o b f i e = by-session (sessionOf s n) (rw i at e)
-  where
-    by-session : (t : Tested Session)
-        → (t >>= λ x. check b 8 >> (check (not (eqb (register x k) null)) 11 >> passed (given x k o))) ≡ refused g
-        → (t >>= λ x. check b 8 >> (recordIn s x k >>= f x)) ≡ refused g
-    by-session (refused m) e = cc
-    by-session (passed x) e = stopped s x k (given x k o) f b e
+    pub lent : (s .memory .frontier0 ≤ length (s .memory .half0)) × (s .memory .frontier1 ≤ length (s .memory .half1))
+    lent = fronts (worked s n k o passes .known)
 
-module _ {g : ℕ} (s : Store) (n k : ℕ) where
-  pub load-refused : (to i : ℕ) → holding s n k to ≡ refused g → loadPlan s n to k i ≡ refused g
-  unfolding loadPlan
-  load-refused to i = holding-refused s n k to (isRegister to && isRegister k) _ (and-comm (isRegister k) (isRegister to))
+    -- and by what following found
+    module _ {y : Followed} (f : y ≡ follow (s .memory) (x .own)) where
+      pub unsound : y ≡ Damage → recordOf s n k o ≡ refused 12
+      unfolding recordOf followed
+      unsound d = rw (passes, lost (s .memory) (x .own) f d)
 
-  pub store-refused : (i from : ℕ) → holding s n k from ≡ refused g → store s n k i from ≡ refused g
-  unfolding store
-  store-refused i from = holding-refused s n k from (isRegister k && isRegister from) _ refl
+      pub opened : {at r p : ℕ} → y ≡ Sound at r p → Opened s n k o x at r p
+      unfolding recordOf followed
+      opened {at} {r} {p} d =
+          let a : Found (s .memory) (x .own) at r p = found (s .memory) (x .own) f d in
+          record {
+            tests = rw (passes, a .sound);
+            known = worked s n k o passes .known;
+            found = a;
+            header = found-header _ _ _ _ _ a (lent .0) (lent .1);
+            ref = found-ref _ _ _ _ _ a (lent .0) (lent .1);
+            plain = found-plain _ _ _ _ _ a (lent .0) (lent .1);
+          }
 
-  pub read-refused : (i : ℕ) → holding s n k k ≡ refused g → read s n k i ≡ refused g
-  unfolding read
-  read-refused i = holding-refused s n k k (isRegister k) _ (and-self (isRegister k))
+-- 13: a field number beyond the count, or below it
+module _ {s : Store} {n k o at r p : ℕ} {x : Operands} (d : Opened s n k o x at r p) (i : ℕ) where
+  pub ref-out : r ≤ i → ltb i (refs (s .memory) (x .own)) ≡ false
+  ref-out l = rw (← d .found .refs) (le-ltb i r l)
 
-  pub write-refused : (i a : ℕ) → holding s n k k ≡ refused g → write s n k i a ≡ refused g
-  unfolding write
-  write-refused i a = holding-refused s n k k (isRegister k) _ (and-self (isRegister k))
+  pub ref-in : i < r → ltb i (refs (s .memory) (x .own)) ≡ true
+  ref-in l = rw (← d .found .refs) (lt-ltb i r l)
 
-  pub stretch-refused : holding s n k k ≡ refused g → stretch s n k ≡ refused g
-  unfolding stretch
-  stretch-refused = holding-refused s n k k (isRegister k) _ (and-self (isRegister k))
+  pub plain-out : p ≤ i → ltb i (plains (s .memory) (x .own)) ≡ false
+  plain-out l = rw (← d .found .plains) (le-ltb i p l)
 
--- ---- what the code's answer says
-
-module _ {r : Held} (s : Store) (n k o : ℕ) (e : tested r ≡ holding s n k o) where
-  pub away : {g : ℕ} → r ≡ held.Refusal g → holding s n k o ≡ refused g
-  away m = sym e ∙ ap tested m
-
-  pub handed : {w : Operands} → r ≡ held.Operands w → Handed s n k o w
-  handed m = holding-passed s n k o (sym e ∙ ap tested m)
-
-  pub holds : {w : Operands} → r ≡ held.Operands w → Holding s n k o (w .own)
-  holds m = handed m .holding
+  pub plain-in : i < p → ltb i (plains (s .memory) (x .own)) ≡ true
+  plain-in l = rw (← d .found .plains) (lt-ltb i p l)

@@ -2,14 +2,8 @@
 pub mod View
 -- The sessions that are looked for.
 pub mod Searching
--- The register of the record worked on.
-pub mod Operands
--- What a load puts into its register.
-pub mod Loads
--- Where a write of a plain field goes.
-pub mod Plain
--- What a store and a put write.
-pub mod Stores
+-- The code's answers of a plan as the rules' answers.
+pub mod Plans
 -- What a collector step leaves.
 pub mod Steps
 -- The collector's numbers.

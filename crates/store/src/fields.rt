@@ -1,8 +1,9 @@
 // The calls that read a field of the record in a register: load and read.
 ghost use mathlib.Core.Path.{_≡_};
+ghost use Rattle.rules.specs.Calls.{loadPlan};
 ghost use Rattle.rules.specs.Runs.{apply, Load, Read};
 ghost use Rattle.store.specs.View.{view, outcome};
-ghost use Rattle.store.specs.Loads.{loading, loadPlan};
+ghost use Rattle.store.specs.Plans.{loading};
 use crate::Control;
 use crate::Reply;
 use crate::operands::Held;

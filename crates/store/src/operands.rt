@@ -1,21 +1,15 @@
 // What a call on the record in a register needs of its session, for load, store, read, write and the stretch.
 ghost use mathlib.Core.Path.{_≡_};
+ghost use Rattle.rules.specs.Calls.{operandsOf};
 ghost use Rattle.store.specs.View.{view};
-ghost use Rattle.store.specs.Operands.{tested, holding};
+ghost use Rattle.store.specs.Plans.{tested};
 use crate::Control;
 
-// The session's level, the reference in the register of the record worked on, and what the other register holds. They
-// are handed out at once: each further read of a session would copy all sixteen.
-pub struct Operands {
-    pub level: u32,
-    pub own: u32,
-    pub other: u32,
-}
-
-// What the call needs of its session, or the number of the first test that fails.
+// What the call needs of its session, or the number of the first test that fails. It is handed out at once: each
+// further read of a session would copy all sixteen.
 pub enum Held {
     Refusal(u32),
-    Operands(Operands),
+    Operands(rules::Operands),
 }
 
 impl Control {
@@ -30,7 +24,7 @@ impl Control {
         register: u32,
         other: u32,
     ) -> Held
-        ensures { λ r. ⌜ tested r ≡ holding (view self (now (h0 .entry)) (now (h1 .entry)) (now (list .entry))) s register other ⌝ }
+        ensures { λ r. ⌜ tested r ≡ operandsOf (view self (now (h0 .entry)) (now (h1 .entry)) (now (list .entry))) s register other ⌝ }
     {
         let refusal = self.session_tests(h0, h1, list, s);
         if refusal != 0 {
@@ -50,7 +44,7 @@ impl Control {
         if reference == 0 {
             return Held::Refusal(11);
         }
-        Held::Operands(Operands {
+        Held::Operands(rules::Operands {
             level: session.level,
             own: reference,
             other: word,

@@ -1,9 +1,10 @@
 // The calls that write a reference: store, to a field of a record, and put, to a global. Each makes all its tests in a
 // plan that only reads, and then writes what the plan says.
 ghost use mathlib.Core.Path.{_≡_};
+ghost use Rattle.rules.specs.Calls.{storePlan, putPlan};
 ghost use Rattle.rules.specs.Runs.{apply, StoreRef, Put};
 ghost use Rattle.store.specs.View.{view, outcome};
-ghost use Rattle.store.specs.Stores.{storing, storePlan, putPlan};
+ghost use Rattle.store.specs.Plans.{storing, putting};
 use crate::Control;
 use crate::Reply;
 use crate::operands::Held;
@@ -99,7 +100,7 @@ impl Control {
         global: u32,
         from: u32,
     ) -> Storing
-        ensures { λ r. ⌜ storing r ≡ putPlan (view self (now (h0 .entry)) (now (h1 .entry)) (now (list .entry))) s global from ⌝ }
+        ensures { λ r. ⌜ putting r ≡ putPlan (view self (now (h0 .entry)) (now (h1 .entry)) (now (list .entry))) s global from ⌝ }
     {
         let refusal = self.session_tests(h0, h1, list, s);
         if refusal != 0 {

@@ -1,8 +1,9 @@
 // Write: where a write of a plain field goes, then the words written.
 ghost use mathlib.Core.Path.{_≡_};
+ghost use Rattle.rules.specs.Calls.{writePlan};
 ghost use Rattle.rules.specs.Runs.{apply, Write};
 ghost use Rattle.store.specs.View.{view, outcome};
-ghost use Rattle.store.specs.Plain.{targeted, writing};
+ghost use Rattle.store.specs.Plans.{targeted};
 use crate::Control;
 use crate::Reply;
 use crate::operands::Held;
@@ -30,7 +31,7 @@ impl Control {
         register: u32,
         field: u32,
     ) -> Target
-        ensures { λ r. ⌜ targeted r ≡ writing (view self (now (h0 .entry)) (now (h1 .entry)) (now (list .entry))) s register field ⌝ }
+        ensures { λ r. ⌜ targeted r ≡ writePlan (view self (now (h0 .entry)) (now (h1 .entry)) (now (list .entry))) s register field ⌝ }
     {
         let operands = match self.held(h0, h1, list, s, register, register) {
             Held::Refusal(n) => {

@@ -8,13 +8,13 @@ use lib.Dec.{eqb}
 use lib.ListN.{set}
 use borrow.Author.Tests.{leb-true, ne-eqb}
 use Rattle.rules.specs.Refusals.{passed}
-use Rattle.rules.specs.Memory.{null, inHalf, otherCopy}
-use Rattle.rules.specs.Control.{Store, withGlobals, lastGlobal}
+use Rattle.rules.specs.Memory.{null, inHalf, otherCopy, frontier}
+use Rattle.rules.specs.Control.{Store, lastGlobal}
 use Rattle.rules.specs.Cycle.{stage}
 use Rattle.rules.specs.Phases.{otherHalf}
 use Rattle.rules.specs.Barriers.{Heap, heapOf, shade, barrierShade, ownWord, putWrites}
 use Rattle.rules.specs.Calls as calls
-use Rattle.rules.specs.Calls.{isRegister, isGlobal}
+use Rattle.rules.specs.Calls.{isRegister, isGlobal, putCommit}
 use Rattle.rules.specs.Free.{Free, freePut}
 use Rattle.rules.specs.declared.Session.{Session}
 use Rattle.rules.specs.declared.Writes.{Writes}
@@ -25,7 +25,7 @@ use Rattle.rules.proofs.invariant.Sim.{Sim}
 use Rattle.rules.proofs.invariant.Laws.{from-current, from-two, in-half-null}
 use Rattle.rules.proofs.invariant.Following.{follow-word}
 use Rattle.rules.proofs.invariant.Spans.{Allowed, level-from, level-to, level-low, level-last, level-most}
-use Rattle.rules.proofs.relation.Alike.{Alike, both-check, both-passes, alike-done}
+use Rattle.rules.proofs.relation.Alike.{Alike, passed-both, both-check, both-commit, left-done}
 use Rattle.rules.proofs.relation.Tests.{both-session}
 use Rattle.rules.proofs.sessions.Session.{WordFits, GlobalFits, withFreeGlobals, global-sim}
 use Rattle.rules.proofs.sessions.Registers.{held-fits}
@@ -68,12 +68,18 @@ put-writes z l q e c = rw (e, c)
 pub record GlobalPut (K : ℕ → Type 0) (m : ℕ → ℕ) (s : Store) (f : Free) (l g q p : ℕ) : Type 0 where
   pub writes : Writes
   pub passes : putWrites (heapOf s) l q ≡ passed writes
-  pub sim : Sim K m (withGlobals (shade s (writes .shade)) (set (s .globals) g (writes .own))) (withFreeGlobals f (set (f .globals) g p))
+  pub sim : Sim K m (putCommit s g writes) (withFreeGlobals f (set (f .globals) g p))
+
+-- the frontiers stay
+put-front : (s : Store) (g : ℕ) (w : Writes) (h : ℕ) → frontier (putCommit s g w .memory) h ≡ frontier (s .memory) h
+unfolding putCommit
+put-front s g w h = shade-front s (w .shade) h
 
 module _ {K : ℕ → Type 0} {m : ℕ → ℕ} {s : Store} {f : Free} {x : Session} {l q p : ℕ} (h : Sim K m s f) (t : WordFits K m s x q p)
     (a : Allowed (s .phase) l) (g : ℕ) (b : g ≤ lastGlobal) where
   -- levels 0 to 3: after shading
   placed-low : l ≤ 3 → GlobalPut K m s f l g q p
+  unfolding putCommit
   placed-low c =
       let w = barred h a c t in
       let k = w .keeps in
@@ -88,7 +94,7 @@ module _ {K : ℕ → Type 0} {m : ℕ → ℕ} {s : Store} {f : Free} {x : Sess
   -- levels 4 to 6: nothing is shaded
   placed-high : {u : ℕ} → 4 ≤ l → ownWord (heapOf s) l null q ≡ passed u → Fits K m s u p
       → (stRootFlip ≤ stage (s .phase) → stage (s .phase) ≤ stStackFlip → Names (otherHalf (s .current)) u) → GlobalPut K m s f l g q p
-  unfolding shade
+  unfolding shade putCommit
   placed-high {u} c e y n = record {
     writes = record { shade = null; own = u; replica = null; copy = null };
     passes = put-writes (heapOf s) l q (no-shade (heapOf s) l null 0 q c) e;
@@ -109,8 +115,8 @@ module _ {K : ℕ → Type 0} {m : ℕ → ℕ} {s : Store} {f : Free} {x : Sess
 
 -- ---- the call
 pub put-alike : {K : ℕ → Type 0} {m : ℕ → ℕ} {s : Store} {f : Free} → Sim K m s f → (n g from q : ℕ) → Alike K q m s (calls.put s n g from) (freePut f n g from)
-unfolding calls.put freePut
-put-alike {s = s} h n g from q = both-session h n _ _ (λ a. both-check (isRegister from) 8 tt
+unfolding calls.put calls.putPlan freePut
+put-alike {s = s} h n g from q = both-commit _ (both-session h n _ _ (λ a. both-check (isRegister from) 8 tt
     (λ b. both-check (isGlobal g) 9 tt
     (λ c. let w = put-places h (held-fits h n from a) (a .allowed) g (leb-true _ _ c) in
-    both-passes _ (w .writes) (w .passes) _ (alike-done (w .sim) refl (shade-front s (w .writes .shade) 0) (shade-front s (w .writes .shade) 1)))))
+    rw (w .passes) (passed-both (left-done (w .sim) refl (put-front s g (w .writes) 0) (put-front s g (w .writes) 1)))))))

@@ -8,12 +8,12 @@ use lib.Dec.{ltb}
 use borrow.Author.Tests.{ne-eqb, ltb-true}
 use Rattle.rules.specs.Refusals.{passed}
 use Rattle.rules.specs.Memory.{null, frontier, replica, refs, refField}
-use Rattle.rules.specs.Control.{Store, withMemory, lastLevel}
+use Rattle.rules.specs.Control.{Store, lastLevel}
 use Rattle.rules.specs.Cycle.{stage}
 use Rattle.rules.specs.Phases.{otherHalf}
 use Rattle.rules.specs.Barriers.{heapOf, to, shade, storeWrites, putBoth}
 use Rattle.rules.specs.Calls as calls
-use Rattle.rules.specs.Calls.{isRegister}
+use Rattle.rules.specs.Calls.{isRegister, storeCommit}
 use Rattle.rules.specs.Free.{Free, recordAt, withRecord, freeStore}
 use Rattle.rules.specs.declared.Session.{Session}
 use Rattle.rules.specs.declared.Writes.{Writes}
@@ -28,8 +28,8 @@ use Rattle.rules.proofs.invariant.Following.{follow-home, follow-away, 
 use Rattle.rules.proofs.invariant.Pairs.{pair-shape, replica-shape}
 use Rattle.rules.proofs.invariant.Originals.{pair-here}
 use Rattle.rules.proofs.invariant.Spans.{Allowed, level-most, level-from, level-home, level-late, level-last}
-use Rattle.rules.proofs.relation.Alike.{Alike, both-check, both-check-eq, both-passes, alike-done}
-use Rattle.rules.proofs.relation.Tests.{both-session, both-record}
+use Rattle.rules.proofs.relation.Alike.{Alike, passed-both, both-check-eq, both-passes, both-commit, left-done}
+use Rattle.rules.proofs.relation.Tests.{both-record}
 use Rattle.rules.proofs.sessions.Session.{WordFits}
 use Rattle.rules.proofs.sessions.Registers.{held-fits}
 use Rattle.rules.proofs.sessions.Values.{free-refs}
@@ -41,8 +41,8 @@ use Rattle.rules.proofs.fields.Stores.{alone-sim, low-sim, from-sim, to
 use Rattle.rules.proofs.fields.Table.{from-words, to-words, reclaim-fits, reclaim-own}
 
 -- the store after the writes w
-abbrev pub stored : Store → ℕ → ℕ → Writes → Store
-stored s v i w = withMemory (shade s (w .shade)) (putBoth (shade s (w .shade) .memory) v (refField i) (w .own) (w .replica) (refField i) (w .copy))
+abbrev stored : Store → ℕ → ℕ → Writes → Store
+stored s v i w = storeCommit s i (record { into = v; writes = w })
 
 -- a store of q, for the place p, into field i of v passes its tests, and what it writes keeps the invariant
 pub record Stored (K : ℕ → Type 0) (m : ℕ → ℕ) (s : Store) (f : Free) (l v i q p : ℕ) : Type 0 where
@@ -52,13 +52,14 @@ pub record Stored (K : ℕ → Type 0) (m : ℕ → ℕ) (s : Store) (f : Free) 
 
 -- the frontiers stay
 stored-front : (s : Store) (v i : ℕ) (w : Writes) (g : ℕ) → frontier (stored s v i w .memory) g ≡ frontier (s .memory) g
+unfolding storeCommit
 stored-front s v i w g = both-front (shade s (w .shade) .memory) v (refField i) (w .own) (w .replica) (refField i) (w .copy) g ∙ shade-front s (w .shade) g
 
 module _ {K : ℕ → Type 0} {m : ℕ → ℕ} {s : Store} {f : Free} {x : Session} {l q p : ℕ} (h : Sim K m s f) (t : WordFits K m s x q p)
     (a : Allowed (s .phase) l) {v i : ℕ} where
   -- levels 0 to 3
   stored-low : l ≤ 3 → In (s .memory) (s .current) v → i < refs (s .memory) v → Stored K m s f l v i q p
-  unfolding putBoth
+  unfolding putBoth storeCommit
   stored-low b o r =
       let w = barred h a b t in
       record {
@@ -70,7 +71,7 @@ module _ {K : ℕ → Type 0} {m : ℕ → ℕ} {s : Store} {f : Free} {x : Sess
   -- levels 4 to 6 after Allocate, up to StackFlip, the record in the current half
   stored-from : 4 ≤ l → l ≤ lastLevel → stAllocate < stage (s .phase) → stage (s .phase) ≤ stStackFlip → In (s .memory) (s .current) v → replica (s .memory) v ≢ null → i < refs (s .memory) v
       → Stored K m s f l v i q p
-  unfolding putBoth shade
+  unfolding putBoth shade storeCommit
   stored-from b c lo hi o n r =
       let w = from-words h t lo hi a b c o in
       let away = fwd (s .memory) (otherHalf (s .current)) (w .word) in
@@ -82,7 +83,7 @@ module _ {K : ℕ → Type 0} {m : ℕ → ℕ} {s : Store} {f : Free} {x : Sess
 
   -- the record in the other half
   stored-to : 5 ≤ l → l ≤ lastLevel → stPreFlip2 ≤ stage (s .phase) → stage (s .phase) ≤ stStackFlip → In (s .memory) (otherHalf (s .current)) v → i < refs (s .memory) v → Stored K m s f l v i q p
-  unfolding putBoth shade
+  unfolding putBoth shade storeCommit
   stored-to b c lo hi o r =
       let w = to-words h t (omega arith) hi lo b c o in
       let home = h .pairs .home hi v o in
@@ -100,7 +101,7 @@ module _ {K : ℕ → Type 0} {m : ℕ → ℕ} {s : Store} {f : Free} {x : Sess
 
   -- level 6 in Reclaim: both are in the current half already
   stored-reclaim : l ≡ 6 → stage (s .phase) ≡ stReclaim → In (s .memory) (s .current) v → i < refs (s .memory) v → Stored K m s f l v i q p
-  unfolding putBoth shade
+  unfolding putBoth shade storeCommit
   stored-reclaim b e o r = eq-or (replica (s .memory) v) null
       (λ n. record {
         writes = record { shade = null; own = q; replica = null; copy = null };
@@ -134,8 +135,9 @@ module _ {K : ℕ → Type 0} {m : ℕ → ℕ} {s : Store} {f : Free} {x : Sess
 -- ---- the call
 module _ {K : ℕ → Type 0} {m : ℕ → ℕ} {s : Store} {f : Free} (h : Sim K m s f) where
   pub store-alike : (n k i from q : ℕ) → Alike K q m s (calls.store s n k i from) (freeStore f n k i from)
-  unfolding calls.store freeStore
-  store-alike n k i from q = both-session h n _ _ (λ a. both-check (isRegister k && isRegister from) 8 tt
-      (λ b. both-record h n k _ _ (λ z e. both-check-eq _ _ 13 (ap (ltb i) (sym (free-refs h z))) tt
+  unfolding calls.store calls.storePlan freeStore
+  store-alike n k i from q = both-commit _ (both-record h n k from (isRegister k && isRegister from) refl _ _
+      (λ a b z e. both-check-eq _ _ 13 (ap (ltb i) (sym (free-refs h z))) tt
       (λ l. let w = store-writes h (held-fits h n from a) (a .allowed) (held-fits h n k a) z (ltb-true _ _ l) in
-      both-passes _ (w .writes) (w .passes) _ (alike-done (w .sim) refl (stored-front s _ i (w .writes) 0) (stored-front s _ i (w .writes) 1))))))
+      both-passes _ (w .writes) (w .passes) _
+      (passed-both (left-done (w .sim) refl (stored-front s _ i (w .writes) 0) (stored-front s _ i (w .writes) 1))))))

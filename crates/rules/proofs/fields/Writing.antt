@@ -2,17 +2,18 @@
 use Prim.Native.Nat.{ℕ, _≤_, _<_}
 use mathlib.Core.Path.{_≡_, refl, sym, ap, _∙_}
 use mathlib.Core.Logic.{_≢_}
+use mathlib.Core.Bool.{and-self}
 use native.Mathlib.Omega.{arith}
 use lib.Dec.{ltb}
 use borrow.Author.Tests.{ne-eqb, ltb-true}
 use Rattle.rules.specs.Refusals.{passed}
-use Rattle.rules.specs.Memory.{null, replica, refs, plains, plainField}
-use Rattle.rules.specs.Control.{Store, withMemory}
+use Rattle.rules.specs.Memory.{null, replica, refs, plains, plainField, frontier}
+use Rattle.rules.specs.Control.{Store}
 use Rattle.rules.specs.Cycle.{stage}
 use Rattle.rules.specs.Phases.{otherHalf}
 use Rattle.rules.specs.Barriers.{replicaFor, putBoth}
 use Rattle.rules.specs.Calls as calls
-use Rattle.rules.specs.Calls.{isRegister}
+use Rattle.rules.specs.Calls.{isRegister, writeCommit}
 use Rattle.rules.specs.Free.{Free, recordAt, withRecord, freeWrite}
 use Rattle.rules.specs.declared.Session.{Session}
 use Rattle.rules.proofs.memory.Cases.{eq-or, lt-or, either}
@@ -26,8 +27,8 @@ use Rattle.rules.proofs.invariant.Following.{follow-home, follow-away, 
 use Rattle.rules.proofs.invariant.Pairs.{pair-shape, replica-shape}
 use Rattle.rules.proofs.invariant.Originals.{pair-here}
 use Rattle.rules.proofs.invariant.Spans.{Allowed, level-home, level-low}
-use Rattle.rules.proofs.relation.Alike.{Alike, both-check, both-check-eq, both-passes, alike-done}
-use Rattle.rules.proofs.relation.Tests.{both-session, both-record}
+use Rattle.rules.proofs.relation.Alike.{Alike, passed-both, both-check-eq, both-passes, both-commit, left-done}
+use Rattle.rules.proofs.relation.Tests.{both-record}
 use Rattle.rules.proofs.sessions.Session.{WordFits}
 use Rattle.rules.proofs.sessions.Registers.{held-fits}
 use Rattle.rules.proofs.sessions.Values.{free-plains}
@@ -36,8 +37,8 @@ use Rattle.rules.proofs.fields.Plain.{withPlain, plain-write-sim}
 use Rattle.rules.proofs.fields.Barrier.{replica-low, replica-none, replica-found, both-front}
 
 -- the store after a plain write of a to field i of v, and of its replica t where that isn't null
-abbrev pub rewritten : Store → ℕ → ℕ → ℕ → ℕ → Store
-rewritten s v i t a = withMemory s (putBoth (s .memory) v (plainField (refs (s .memory) v) i) a t (plainField (refs (s .memory) t) i) a)
+abbrev rewritten : Store → ℕ → ℕ → ℕ → ℕ → Store
+rewritten s v i t a = writeCommit s i a (record { own = v; refs = refs (s .memory) v; replica = t })
 
 -- the write passes its tests and keeps the invariant
 pub record Rewritten (K : ℕ → Type 0) (m : ℕ → ℕ) (s : Store) (f : Free) (l v i a : ℕ) : Type 0 where
@@ -49,7 +50,7 @@ module _ {K : ℕ → Type 0} {m : ℕ → ℕ} {s : Store} {f : Free} {l v i : 
   -- the record alone
   alone : In (s .memory) (s .current) v → (stCopy ≤ stage (s .phase) → stage (s .phase) ≤ stStackFlip → replica (s .memory) v ≢ null → ⊥)
       → replicaFor (s .memory) plains l v i ≡ passed null → Rewritten K m s f l v i a
-  unfolding putBoth
+  unfolding putBoth writeCommit
   alone o none e = record {
     other = null;
     passes = e;
@@ -59,7 +60,7 @@ module _ {K : ℕ → Type 0} {m : ℕ → ℕ} {s : Store} {f : Free} {l v i : 
 
   -- the record and its replica
   from : 4 ≤ l → In (s .memory) (s .current) v → replica (s .memory) v ≢ null → Rewritten K m s f l v i a
-  unfolding putBoth
+  unfolding putBoth writeCommit
   from b o n =
       let e = replica-shape h v o n in
       record {
@@ -71,7 +72,7 @@ module _ {K : ℕ → Type 0} {m : ℕ → ℕ} {s : Store} {f : Free} {l v i : 
 
   -- the record is the replica of one of the current half
   to : 4 ≤ l → stage (s .phase) ≤ stStackFlip → In (s .memory) (otherHalf (s .current)) v → Rewritten K m s f l v i a
-  unfolding putBoth
+  unfolding putBoth writeCommit
   to b hi o =
       let home = h .pairs .home hi v o in
       let n = home .0 in
@@ -101,11 +102,17 @@ module _ {K : ℕ → Type 0} {m : ℕ → ℕ} {s : Store} {f : Free} {l v i : 
       (λ q. to b (lt-or (stage (s .phase)) stReclaim (λ g. omega arith)
       (λ g. absurd (other-not h (sym (q .side) ∙ here (omega arith) .side)))) q))
 
+-- the frontiers stay
+rewritten-front : (s : Store) (v i t a g : ℕ) → frontier (rewritten s v i t a .memory) g ≡ frontier (s .memory) g
+unfolding writeCommit
+rewritten-front s v i t a g = both-front (s .memory) v (plainField (refs (s .memory) v) i) a t (plainField (refs (s .memory) t) i) a g
+
 -- ---- the call
 module _ {K : ℕ → Type 0} {m : ℕ → ℕ} {s : Store} {f : Free} (h : Sim K m s f) where
   pub write-alike : (n k i a q : ℕ) → Alike K q m s (calls.write s n k i a) (freeWrite f n k i a)
-  unfolding calls.write freeWrite
-  write-alike n k i a q = both-session h n _ _ (λ c. both-check (isRegister k) 8 tt
-      (λ b. both-record h n k _ _ (λ z e. both-check-eq _ _ 13 (ap (ltb i) (sym (free-plains h z))) tt
+  unfolding calls.write calls.writePlan freeWrite
+  write-alike n k i a q = both-commit _ (both-record h n k k (isRegister k) (and-self (isRegister k)) _ _
+      (λ c b z e. both-check-eq _ _ 13 (ap (ltb i) (sym (free-plains h z))) tt
       (λ l. let w = plain-writes h a (ltb-true _ _ l) (c .allowed) (held-fits h n k c) z in
-      both-passes _ (w .other) (w .passes) _ (alike-done (w .sim) refl (both-front (s .memory) _ _ a (w .other) _ a 0) (both-front (s .memory) _ _ a (w .other) _ a 1))))))
+      both-passes _ (w .other) (w .passes) _
+      (passed-both (left-done (w .sim) refl (rewritten-front s _ i (w .other) a 0) (rewritten-front s _ i (w .other) a 1))))))

@@ -42,6 +42,12 @@ pub both-passes : {A B C : Type 0} {R : B → C → Type 0} (t : Tested A) (a : 
     → Both R (k a) u → Both R (t >>= k) u
 both-passes t a e k c = rw e c
 
+-- a plan with its commit on the store's side
+pub both-commit : {A B C : Type 0} {R : B → C → Type 0} (j : A → B) {t : Tested A} {u : Tested C}
+    → Both (λ a. R (j a)) t u → Both R (t >>= λ a. passed (j a)) u
+both-commit j (refused-both n x y) = refused-both n x y
+both-commit j (passed-both r) = passed-both r
+
 -- ---- a session call on both stores: where it passes, with the same reply and the invariant kept; q is the place of a record that
 -- the call may have written
 
@@ -55,7 +61,10 @@ abbrev pub Alike : (K : ℕ → Type 0) (q : ℕ) (m : ℕ → ℕ) (s : Store) 
 Alike K q m s = Both (Left K q m s)
 
 -- a call that ends with one reply on both sides and moves no frontier
-pub alike-done : {K : ℕ → Type 0} {q : ℕ} {m : ℕ → ℕ} {s t : Store} {g : Free} {r r′ : Reply} → Sim K m t g → r ≡ r′
-    → frontier (t .memory) 0 ≡ frontier (s .memory) 0 → frontier (t .memory) 1 ≡ frontier (s .memory) 1
-    → Alike K q m s (passed (record { store = t; reply = r })) (passed (record { store = g; reply = r′ }))
-alike-done {K} {q} {m} {s} {t} h e a b = passed-both (record { place = m; sim = h; reply = e; tracks = tracks-stay q m (s .memory) (t .memory) (omega arith) (omega arith) })
+module _ {K : ℕ → Type 0} {q : ℕ} {m : ℕ → ℕ} {s t : Store} {g : Free} {r r′ : Reply} (h : Sim K m t g) (e : r ≡ r′)
+    (a : frontier (t .memory) 0 ≡ frontier (s .memory) 0) (b : frontier (t .memory) 1 ≡ frontier (s .memory) 1) where
+  pub left-done : Left K q m s (record { store = t; reply = r }) (record { store = g; reply = r′ })
+  left-done = record { place = m; sim = h; reply = e; tracks = tracks-stay q m (s .memory) (t .memory) (omega arith) (omega arith) }
+
+  pub alike-done : Alike K q m s (passed (record { store = t; reply = r })) (passed (record { store = g; reply = r′ }))
+  alike-done = passed-both left-done

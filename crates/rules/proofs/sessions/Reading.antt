@@ -1,7 +1,7 @@
 -- The calls that read a record: load, read, the stretch and its companion.
 use Prim.Native.Nat.{ℕ, zero, suc, _+_, _-_, _≤_, _<_}
 use mathlib.Core.Path.{_≡_, refl, sym, ap, _∙_}
-use mathlib.Core.Bool.{true, _&&_}
+use mathlib.Core.Bool.{true, _&&_, and-comm, and-self}
 use mathlib.Core.List.{List}
 use native.Mathlib.Omega.{arith}
 use lib.Dec.{ltb}
@@ -22,9 +22,9 @@ use Rattle.rules.proofs.memory.Records.{Start, Filled, start-inside, si
 use Rattle.rules.proofs.invariant.Stages.{stHeapMark}
 use Rattle.rules.proofs.invariant.Words.{plainOf}
 use Rattle.rules.proofs.invariant.Sim.{Sim}
-use Rattle.rules.proofs.relation.Alike.{Alike, Both, passed-both, both-check, both-check-eq, alike-done}
-use Rattle.rules.proofs.relation.Tests.{Attached, both-session, both-record}
-use Rattle.rules.proofs.sessions.Registers.{set-alike, held-fits}
+use Rattle.rules.proofs.relation.Alike.{Alike, Both, passed-both, both-check-eq, both-commit, alike-done}
+use Rattle.rules.proofs.relation.Tests.{Attached, both-record}
+use Rattle.rules.proofs.sessions.Registers.{set-left, held-fits}
 use Rattle.rules.proofs.sessions.Values.{Fields, record-values}
 
 module _ {K : ℕ → Type 0} {m : ℕ → ℕ} {s : Store} {f : Free} (h : Sim K m s f) where
@@ -38,18 +38,18 @@ module _ {K : ℕ → Type 0} {m : ℕ → ℕ} {s : Store} {f : Free} (h : Sim 
   held-values n k a z = record-values h (held-fits h n k a) z (list-done n a)
 
   pub load-alike : (n to k i q : ℕ) → Alike K q m s (calls.load s n to k i) (freeLoad f n to k i)
-  unfolding calls.load freeLoad
-  load-alike n to k i q = both-session h n _ _ (λ a. both-check (isRegister to && isRegister k) 8 tt
-      (λ b. both-record h n k _ _ (λ z p. let w = held-values n k a z in
+  unfolding calls.load calls.loadPlan freeLoad
+  load-alike n to k i q = both-commit _ (both-record h n k to (isRegister to && isRegister k) (and-comm (isRegister k) (isRegister to)) _ _
+      (λ a b z p. let w = held-values n k a z in
       both-check-eq _ _ 13 (ap (ltb i) (sym (w .nrefs))) tt
-      (λ l. set-alike h n to a (both _ _ b .0) (w .ref i (ltb-true _ _ l))))))
+      (λ l. passed-both (set-left h n to a (both _ _ b .0) (w .ref i (ltb-true _ _ l))))))
 
   pub read-alike : (n k i q : ℕ) → Alike K q m s (calls.read s n k i) (freeRead f n k i)
   unfolding calls.read freeRead
-  read-alike n k i q = both-session h n _ _ (λ a. both-check (isRegister k) 8 tt
-      (λ b. both-record h n k _ _ (λ z p. let w = held-values n k a z in
+  read-alike n k i q = both-record h n k k (isRegister k) (and-self (isRegister k)) _ _
+      (λ a b z p. let w = held-values n k a z in
       both-check-eq _ _ 13 (ap (ltb i) (sym (w .nplains))) tt
-      (λ l. alike-done h (ap (λ u. answer (Word u)) (sym (w .plain i (ltb-true _ _ l)))) refl refl))))
+      (λ l. alike-done h (ap (λ u. answer (Word u)) (sym (w .plain i (ltb-true _ _ l)))) refl refl))
 
 -- ---- the stretch
 
@@ -73,7 +73,7 @@ module _ {M : Memory} (f : Filled M) {v : ℕ} (z : Start M v) where
 module _ {K : ℕ → Type 0} {m : ℕ → ℕ} {s : Store} {f : Free} (h : Sim K m s f) where
   pub stretch-both : (n k : ℕ) → Both (λ a b. a ≡ b) (calls.stretch s n k) (freeStretch f n k)
   unfolding calls.stretch freeStretch
-  stretch-both n k = both-session h n _ _ (λ a. both-check (isRegister k) 8 tt
-      (λ b. both-record h n k _ _ (λ z p. let w = held-values h n k a z in passed-both
+  stretch-both n k = both-record h n k k (isRegister k) (and-self (isRegister k)) _ _
+      (λ a b z p. let w = held-values h n k a z in passed-both
       (ext-getD 0 _ _ (stretch-length (h .filled) z ∙ sym (w .nplains))
-      (λ i l. stretch-word (h .filled) z i (omega (arith, stretch-length (h .filled) z)) ∙ sym (w .plain i (omega (arith, stretch-length (h .filled) z))))))))
+      (λ i l. stretch-word (h .filled) z i (omega (arith, stretch-length (h .filled) z)) ∙ sym (w .plain i (omega (arith, stretch-length (h .filled) z))))))

@@ -3,15 +3,16 @@ use Prim.Native.Nat.{ℕ, _≤_}
 use mathlib.Core.Path.{_≡_, refl}
 use mathlib.Core.Bool.{true, _&&_}
 use borrow.Author.Tests.{leb-true}
-use Rattle.rules.specs.Refusals.{done}
+use Rattle.rules.specs.Refusals.{done, answer}
 use Rattle.rules.specs.Control.{Store, lastRegister}
 use Rattle.rules.specs.Phases.{sessionAt, withSession, register}
 use Rattle.rules.specs.Calls as calls
 use Rattle.rules.specs.Calls.{isRegister, isGlobal, withRegister}
 use Rattle.rules.specs.Free.{Free, freeSession, freeRegister, withFreeRegister, freeMove, freeClear, freeGet}
+use Rattle.rules.specs.declared.Answer.the-variants.{Done}
 use Rattle.rules.proofs.Ranges.{both}
 use Rattle.rules.proofs.invariant.Sim.{Sim}
-use Rattle.rules.proofs.relation.Alike.{Alike, both-check, alike-done}
+use Rattle.rules.proofs.relation.Alike.{Left, Alike, passed-both, both-check, left-done}
 use Rattle.rules.proofs.relation.Tests.{Attached, both-session}
 use Rattle.rules.proofs.sessions.Session.{WordFits, register-sim, register-fits, global-fits, null-fits}
 
@@ -21,10 +22,14 @@ is-register k e = leb-true k lastRegister e
 
 module _ {K : ℕ → Type 0} {m : ℕ → ℕ} {s : Store} {f : Free} (h : Sim K m s f) where
   -- a register of the call's session set to a word that fits ends the call alike
-  pub set-alike : {q : ℕ} (n to : ℕ) → Attached s n → isRegister to ≡ true → {v p : ℕ} → WordFits K m s (sessionAt s n) v p
-      → Alike K q m s (done (withRegister s n to v)) (done (withFreeRegister f n to p))
+  pub set-left : {q : ℕ} (n to : ℕ) → Attached s n → isRegister to ≡ true → {v p : ℕ} → WordFits K m s (sessionAt s n) v p
+      → Left K q m s (record { store = withRegister s n to v; reply = answer Done }) (record { store = withFreeRegister f n to p; reply = answer Done })
   unfolding withRegister withSession
-  set-alike n to a e t = alike-done (register-sim h n to (a .number) (is-register to e) (a .attached) t) refl refl refl
+  set-left n to a e t = left-done (register-sim h n to (a .number) (is-register to e) (a .attached) t) refl refl refl
+
+  set-alike : {q : ℕ} (n to : ℕ) → Attached s n → isRegister to ≡ true → {v p : ℕ} → WordFits K m s (sessionAt s n) v p
+      → Alike K q m s (done (withRegister s n to v)) (done (withFreeRegister f n to p))
+  set-alike n to a e t = passed-both (set-left n to a e t)
 
   -- what a register of the session holds fits
   pub held-fits : (n k : ℕ) → Attached s n → WordFits K m s (sessionAt s n) (register (sessionAt s n) k) (freeRegister (freeSession f n) k)

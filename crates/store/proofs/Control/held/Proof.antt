@@ -3,7 +3,7 @@ use native.Mathlib.Omega.{arith}
 use lib.ListN.{getD}
 use borrow.Author.Tests.{eq-eqb, ne-eqb}
 use Rattle.rules.specs.Phases.{register, sessionAt, absent}
-use Rattle.store.specs.Operands.{holding}
+use Rattle.rules.specs.Calls.{operandsOf}
 use Rattle.store.proofs.Guards.{turned-away, let-in, known, registers-out, registers-in, registers-known}
 use borrow.Author.Needs.{needs}
 use Rattle.store.proofs.Control.held.Statement.{statement}
@@ -13,11 +13,11 @@ session-tests-requires : tie.Need-session-tests-requires
 session-tests-requires c κs = search needs
 
 returns : tie.Need-returns
-unfolding holding
+unfolding operandsOf
 returns c = rw (turned-away _ _ (c .before .session-tests .ensures) (c .if1 .taken))
 
 returns-2 : tie.Need-returns-2
-unfolding holding
+unfolding operandsOf
 returns-2 c =
     let a = c .before .before .before .before .before .before .args in
     rw (
@@ -52,7 +52,7 @@ element-copy-out-word c =
     omega arith
 
 returns-3 : tie.Need-returns-3
-unfolding holding register sessionAt
+unfolding operandsOf register sessionAt
 returns-3 c =
     let c1 = c .before .before .before .before .before in
     let c2 = c1 .before in
@@ -67,7 +67,7 @@ returns-3 c =
     )
 
 returns-4 : tie.Need-returns-4
-unfolding holding register sessionAt
+unfolding operandsOf register sessionAt
 returns-4 c =
     let c1 = c .before .before .before .before .before in
     let c2 = c1 .before in

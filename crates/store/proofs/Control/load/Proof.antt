@@ -22,7 +22,7 @@ mul-session c = search needs
 element-copy-out-session : tie.Need-element-copy-out-session
 element-copy-out-session c =
     let k = load-known _ _ _ _ _ (c .before .before .before .load-plan .ensures) (c .before .plan2 .given .1) in
-    omega (arith, k .0)
+    omega (arith, k .number)
 
 mul-session-2 : tie.Need-mul-session-2
 mul-session-2 c = search needs
@@ -30,7 +30,7 @@ mul-session-2 c = search needs
 element-write-session : tie.Need-element-write-session
 element-write-session c =
     let k = load-known _ _ _ _ _ (c .before .before .before .before .load-plan .ensures) (c .before .before .plan2 .given .1) in
-    omega (arith, k .1)
+    omega (arith, k .second)
 
 mul-t19 : tie.Need-mul-t19
 mul-t19 c = search needs
@@ -38,7 +38,7 @@ mul-t19 c = search needs
 element-set-from-self : tie.Need-element-set-from-self
 element-set-from-self c =
     let k = load-known _ _ _ _ _ (c .before .before .before .before .load-plan .ensures) (c .before .before .plan2 .given .1) in
-    omega (arith, k .0)
+    omega (arith, k .number)
 
 returns : tie.Need-returns
 returns c = rw (load-away _ _ _ _ _ (c .before .before .before .load-plan .ensures) (c .before .plan .given .1))

@@ -1,7 +1,7 @@
 -- The tests of a put in order, then what it writes.
 use native.Mathlib.Omega.{arith}
 use Rattle.rules.specs.Phases.{register, sessionAt}
-use Rattle.store.specs.Stores.{putPlan}
+use Rattle.rules.specs.Calls.{putPlan}
 use Rattle.store.proofs.Guards.{turned-away, let-in, known}
 use Rattle.store.proofs.Shaded.{within}
 use Rattle.store.proofs.Storing.{put-register, put-global, put-unwritable, put-made}

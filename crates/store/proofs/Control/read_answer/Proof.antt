@@ -1,8 +1,6 @@
 -- What a read answers: the tests in order, then the field's word.
-use Rattle.rules.proofs.Ranges.{fronts}
-use Rattle.heap.proofs.Soundness.{found, lost}
-use Rattle.store.proofs.Worked.{away, holds, read-refused}
-use Rattle.store.proofs.Followed.{read-lost, read-beyond, have-read, read-inside}
+use Rattle.rules.specs.Calls.{read}
+use Rattle.store.proofs.Worked.{away, lent, unsound, opened, plain-out, plain-in}
 use borrow.Author.Needs.{needs}
 use Rattle.store.proofs.Control.read_answer.Statement.{statement}
 use Rattle.store.proofs.Control.read_answer.Tie as tie
@@ -14,19 +12,14 @@ enum-known-n : tie.Need-enum-known-n
 enum-known-n c = search needs
 
 returns : tie.Need-returns
-returns c =
-    let c1 = c .before in
-    let c2 = c1 .before .before in
-    let c3 = c2 .before .before .before .before in
-    rw (read-refused _ _ _ (c3 .args .field) (away _ _ _ _ (c2 .held .ensures) (c1 .n .given .1)))
+unfolding read
+returns c = rw (away _ _ _ _ (c .before .before .before .held .ensures) (c .before .n .given .1))
 
 enum-known-operands : tie.Need-enum-known-operands
 enum-known-operands c = search needs
 
 follow-requires : tie.Need-follow-requires
-follow-requires c κs =
-    let h = holds _ _ _ _ (c .before .before .before .held .ensures) (c .before .operands .given .1) in
-    fronts (h .within .known)
+follow-requires c κs = lent _ _ _ _ (c .before .before .before .held .ensures) (c .before .operands .given .1)
 
 enum-known-r : tie.Need-enum-known-r
 enum-known-r c = search needs
@@ -35,24 +28,22 @@ enum-told : tie.Need-enum-told
 enum-told c = search needs
 
 returns-2 : tie.Need-returns-2
+unfolding read
 returns-2 c =
     let c1 = c .before .before in
     let c2 = c1 .before .before in
     let c3 = c2 .before .before in
-    let c4 = c3 .before .before .before .before in
-    let h = holds _ _ _ _ (c3 .held .ensures) (c2 .operands .given .1) in
-    rw (read-lost _ _ _ h (c4 .args .field) (lost _ _ (c1 .follow .ensures) (c .enum-told .given .1)))
+    rw (unsound _ _ _ _ (c3 .held .ensures) (c2 .operands .given .1) (c1 .follow .ensures) (c .enum-told .given .1))
 
 returns-3 : tie.Need-returns-3
+unfolding read
 returns-3 c =
     let c1 = c .before .before in
     let c2 = c1 .before .before in
     let c3 = c2 .before .before in
     let c4 = c3 .before .before in
-    let c5 = c4 .before .before .before .before in
-    let h = holds _ _ _ _ (c4 .held .ensures) (c3 .operands .given .1) in
-    let d = found _ _ (c2 .follow .ensures) (c1 .r .given .1) in
-    rw (read-beyond _ _ _ h (c5 .args .field) d (c .if1 .taken))
+    let d = opened _ _ _ _ (c4 .held .ensures) (c3 .operands .given .1) (c2 .follow .ensures) (c1 .r .given .1) in
+    rw (d .tests, plain-out d _ (c .if1 .taken))
 
 cast-get-word : tie.Need-cast-get-word
 cast-get-word c = search needs
@@ -69,22 +60,19 @@ get-word-requires c κs =
     let c2 = c1 .before .before in
     let c3 = c2 .before .before in
     let c4 = c3 .before .before in
-    let c5 = c4 .before .before .before .before in
-    let h = holds _ _ _ _ (c4 .held .ensures) (c3 .operands .given .1) in
-    let d = found _ _ (c2 .follow .ensures) (c1 .r .given .1) in
-    read-inside _ _ _ h (c5 .args .field) d (c .if1 .left)
+    let d = opened _ _ _ _ (c4 .held .ensures) (c3 .operands .given .1) (c2 .follow .ensures) (c1 .r .given .1) in
+    d .plain _ (c .if1 .left)
 
 returns-4 : tie.Need-returns-4
+unfolding read
 returns-4 c =
     let c1 = c .before in
     let c2 = c1 .before .before in
     let c3 = c2 .before .before in
     let c4 = c3 .before .before in
     let c5 = c4 .before .before in
-    let c6 = c5 .before .before .before .before in
-    let h = holds _ _ _ _ (c5 .held .ensures) (c4 .operands .given .1) in
-    let d = found _ _ (c3 .follow .ensures) (c2 .r .given .1) in
-    rw (have-read _ _ _ h (c6 .args .field) d (c .get-word .ensures _ _) (c1 .if1 .left))
+    let d = opened _ _ _ _ (c5 .held .ensures) (c4 .operands .given .1) (c3 .follow .ensures) (c2 .r .given .1) in
+    rw (d .tests, plain-in d _ (c1 .if1 .left), ← d .found .refs, ← c .get-word .ensures)
 
 pub read-answer-spec : {M : Type 1} → statement M
 read-answer-spec =

@@ -1,9 +1,8 @@
 -- The stretch: the tests in order, then the plain fields as a part of the half.
 use native.Mathlib.Omega.{arith}
-use Rattle.rules.proofs.Ranges.{fronts}
-use Rattle.heap.proofs.Soundness.{found, lost}
-use Rattle.store.proofs.Worked.{away, holds, stretch-refused}
-use Rattle.store.proofs.Followed.{span, stretch-lost, stretch-within, stretch-small, stretched}
+use Rattle.rules.specs.Calls.{stretch}
+use Rattle.store.proofs.Worked.{away, lent, unsound, opened}
+use Rattle.store.proofs.Followed.{span, stretch-within, stretch-small, stretched}
 use borrow.Author.Needs.{needs}
 use Rattle.store.proofs.Control.stretch.Statement.{statement}
 use Rattle.store.proofs.Control.stretch.Tie as tie
@@ -21,12 +20,11 @@ slice-aggregate-result : tie.Need-slice-aggregate-result
 slice-aggregate-result c = search needs
 
 returns : tie.Need-returns
-returns c = simp (stretch-refused _ _ _ (away _ _ _ _ (c .before .before .before .held .ensures) (c .before .enum-told .given .1)))
+unfolding stretch
+returns c = simp (away _ _ _ _ (c .before .before .before .held .ensures) (c .before .enum-told .given .1))
 
 follow-requires : tie.Need-follow-requires
-follow-requires c κs =
-    let h = holds _ _ _ _ (c .before .before .before .held .ensures) (c .before .operands .given .1) in
-    fronts (h .within .known)
+follow-requires c κs = lent _ _ _ _ (c .before .before .before .held .ensures) (c .before .operands .given .1)
 
 enum-known-at : tie.Need-enum-known-at
 enum-known-at c = search needs
@@ -38,13 +36,13 @@ slice-aggregate-result-2 : tie.Need-slice-aggregate-result-2
 slice-aggregate-result-2 c = search needs
 
 returns-2 : tie.Need-returns-2
+unfolding stretch
 returns-2 c =
     let c1 = c .before in
     let c2 = c1 .before .before in
     let c3 = c2 .before .before in
     let c4 = c3 .before .before in
-    let h = holds _ _ _ _ (c4 .held .ensures) (c3 .operands .given .1) in
-    simp (stretch-lost _ _ _ h (lost _ _ (c2 .follow .ensures) (c1 .enum-told2 .given .1)))
+    simp (unsound _ _ _ _ (c4 .held .ensures) (c3 .operands .given .1) (c2 .follow .ensures) (c1 .enum-told2 .given .1))
 
 half-of-requires : tie.Need-half-of-requires
 half-of-requires c κs = search needs
@@ -55,9 +53,8 @@ add-start c =
     let c2 = c1 .before .before in
     let c3 = c2 .before .before in
     let c4 = c3 .before .before in
-    let h = holds _ _ _ _ (c4 .held .ensures) (c3 .operands .given .1) in
-    let d = found _ _ (c2 .follow .ensures) (c1 .at .given .1) in
-    omega (arith, stretch-small _ (h .within .known) d (c .half-of .ensures))
+    let d = opened _ _ _ _ (c4 .held .ensures) (c3 .operands .given .1) (c2 .follow .ensures) (c1 .at .given .1) in
+    omega (arith, stretch-small d (c .half-of .ensures))
 
 cast-start : tie.Need-cast-start
 cast-start c = search needs
@@ -68,9 +65,8 @@ add-start-2 c =
     let c2 = c1 .before .before in
     let c3 = c2 .before .before in
     let c4 = c3 .before .before in
-    let h = holds _ _ _ _ (c4 .held .ensures) (c3 .operands .given .1) in
-    let d = found _ _ (c2 .follow .ensures) (c1 .at .given .1) in
-    omega (arith, stretch-small _ (h .within .known) d (c .half-of .ensures))
+    let d = opened _ _ _ _ (c4 .held .ensures) (c3 .operands .given .1) (c2 .follow .ensures) (c1 .at .given .1) in
+    omega (arith, stretch-small d (c .half-of .ensures))
 
 cast-end : tie.Need-cast-end
 cast-end c = search needs
@@ -81,9 +77,8 @@ add-end c =
     let c2 = c1 .before .before in
     let c3 = c2 .before .before in
     let c4 = c3 .before .before in
-    let h = holds _ _ _ _ (c4 .held .ensures) (c3 .operands .given .1) in
-    let d = found _ _ (c2 .follow .ensures) (c1 .at .given .1) in
-    omega (arith, stretch-small _ (h .within .known) d (c .half-of .ensures))
+    let d = opened _ _ _ _ (c4 .held .ensures) (c3 .operands .given .1) (c2 .follow .ensures) (c1 .at .given .1) in
+    omega (arith, stretch-small d (c .half-of .ensures))
 
 mul-result : tie.Need-mul-result
 mul-result c =
@@ -91,9 +86,8 @@ mul-result c =
     let c2 = c1 .before .before in
     let c3 = c2 .before .before in
     let c4 = c3 .before .before in
-    let h = holds _ _ _ _ (c4 .held .ensures) (c3 .operands .given .1) in
-    let d = found _ _ (c2 .follow .ensures) (c1 .at .given .1) in
-    omega (arith, stretch-small _ (h .within .known) d (c .half-of .ensures))
+    let d = opened _ _ _ _ (c4 .held .ensures) (c3 .operands .given .1) (c2 .follow .ensures) (c1 .at .given .1) in
+    omega (arith, stretch-small d (c .half-of .ensures))
 
 sub-result : tie.Need-sub-result
 sub-result c = search needs
@@ -107,9 +101,8 @@ part-result-end c =
     let c2 = c1 .before .before in
     let c3 = c2 .before .before in
     let c4 = c3 .before .before in
-    let h = holds _ _ _ _ (c4 .held .ensures) (c3 .operands .given .1) in
-    let d = found _ _ (c2 .follow .ensures) (c1 .at .given .1) in
-    omega (arith, stretch-within _ (h .within .known) d (c .half-of .ensures))
+    let d = opened _ _ _ _ (c4 .held .ensures) (c3 .operands .given .1) (c2 .follow .ensures) (c1 .at .given .1) in
+    omega (arith, stretch-within d (c .half-of .ensures))
 
 returns-3 : tie.Need-returns-3
 returns-3 c =
@@ -118,9 +111,8 @@ returns-3 c =
     let c3 = c2 .before .before in
     let c4 = c3 .before .before in
     let c5 = c4 .before .before in
-    let h = holds _ _ _ _ (c5 .held .ensures) (c4 .operands .given .1) in
-    let d = found _ _ (c3 .follow .ensures) (c2 .at .given .1) in
-    rw span (stretched _ (h .within .known) d (c1 .half-of .ensures) _ _ h)
+    let d = opened _ _ _ _ (c5 .held .ensures) (c4 .operands .given .1) (c3 .follow .ensures) (c2 .at .given .1) in
+    rw span (stretched d (c1 .half-of .ensures))
 
 pub stretch-spec : {M : Type 1} → statement M
 stretch-spec =

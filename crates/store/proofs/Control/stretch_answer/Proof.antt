@@ -1,8 +1,6 @@
 -- The companion of the stretch: the same tests.
-use Rattle.rules.proofs.Ranges.{fronts}
-use Rattle.heap.proofs.Soundness.{found, lost}
-use Rattle.store.proofs.Worked.{away, holds, stretch-refused}
-use Rattle.store.proofs.Followed.{stretch-lost, stretch-found}
+use Rattle.rules.specs.Calls.{stretch}
+use Rattle.store.proofs.Worked.{away, lent, unsound, opened}
 use borrow.Author.Needs.{needs}
 use Rattle.store.proofs.Control.stretch_answer.Statement.{statement}
 use Rattle.store.proofs.Control.stretch_answer.Tie as tie
@@ -14,15 +12,14 @@ enum-known-n : tie.Need-enum-known-n
 enum-known-n c = search needs
 
 returns : tie.Need-returns
-returns c = rw (stretch-refused _ _ _ (away _ _ _ _ (c .before .before .before .held .ensures) (c .before .n .given .1)))
+unfolding stretch
+returns c = rw (away _ _ _ _ (c .before .before .before .held .ensures) (c .before .n .given .1))
 
 enum-known-operands : tie.Need-enum-known-operands
 enum-known-operands c = search needs
 
 follow-requires : tie.Need-follow-requires
-follow-requires c κs =
-    let h = holds _ _ _ _ (c .before .before .before .held .ensures) (c .before .operands .given .1) in
-    fronts (h .within .known)
+follow-requires c κs = lent _ _ _ _ (c .before .before .before .held .ensures) (c .before .operands .given .1)
 
 enum-told : tie.Need-enum-told
 enum-told c = search needs
@@ -31,20 +28,20 @@ enum-told-2 : tie.Need-enum-told-2
 enum-told-2 c = search needs
 
 returns-2 : tie.Need-returns-2
+unfolding stretch
 returns-2 c =
     let c1 = c .before .before in
     let c2 = c1 .before .before in
     let c3 = c2 .before .before in
-    let h = holds _ _ _ _ (c3 .held .ensures) (c2 .operands .given .1) in
-    rw (stretch-lost _ _ _ h (lost _ _ (c1 .follow .ensures) (c .enum-told2 .given .1)))
+    rw (unsound _ _ _ _ (c3 .held .ensures) (c2 .operands .given .1) (c1 .follow .ensures) (c .enum-told2 .given .1))
 
 returns-3 : tie.Need-returns-3
+unfolding stretch
 returns-3 c =
     let c1 = c .before .before in
     let c2 = c1 .before .before in
     let c3 = c2 .before .before in
-    let h = holds _ _ _ _ (c3 .held .ensures) (c2 .operands .given .1) in
-    rw (stretch-found _ _ _ h (found _ _ (c1 .follow .ensures) (c .enum-told .given .1) .sound))
+    rw (opened _ _ _ _ (c3 .held .ensures) (c2 .operands .given .1) (c1 .follow .ensures) (c .enum-told .given .1) .tests)
 
 pub stretch-answer-spec : {M : Type 1} → statement M
 stretch-answer-spec =
