@@ -4,3 +4,7 @@
 pub mod Runs
 -- the claims of the code
 pub mod Claims
+-- the methods' contracts are the cases of a run
+pub mod Contracts
+-- a run that the checker computes
+pub mod Example

@@ -1,6 +1,5 @@
 -- The claims 2 to 4 of the rules (`Claims.antt` there), said of the code: of the replies of its calls, and of the control records
 -- and words that they leave.
-use Prim.Native.Nat.{ℕ}
 use mathlib.Core.Path.{_≡_}
 use mathlib.Core.Logic.{_≢_}
 use mathlib.Core.Bool.{cond}

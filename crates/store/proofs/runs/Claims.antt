@@ -1,16 +1,15 @@
 -- The claims of the rules about runs, of the code.
-use Prim.Native.Nat.{ℕ}
 use mathlib.Core.Path.{_≡_, refl, sym, ap, ap₂, subst, _∙_}
-use mathlib.Core.Bool.{true, false, cond}
+use mathlib.Core.Bool.{cond}
 use mathlib.Core.List.{List, [], _∷_, _++_}
 use Rattle.rules.specs.Refusals.{Reply}
 use Rattle.rules.specs.Control.{Store}
-use Rattle.rules.specs.Runs.{Call, Step, apply, run, after, isSession, isAllocation, sessionRun, Fed, fedBy, feeds}
+use Rattle.rules.specs.Runs.{Call, Step, apply, run, after, isSession, isAllocation, sessionRun, fedBy, feeds}
 use Rattle.rules.specs.Tracking.{Beside, besideCall, beside, newBeside}
 use Rattle.rules.specs.Claims.{Answers, NoDamage, TwoRuns, Freed, FreedBetween, leftIn}
 use Rattle.rules.proofs.runs.Runs.{beside-store}
 use Rattle.rules.proofs.runs.Claims.{answers, no-damage, two-runs, freed}
-use Rattle.store.specs.CodeRuns.{Lent, viewed, CodeMade, Called, CodeRun, ended, next}
+use Rattle.store.specs.CodeRuns.{Lent, viewed, CodeRun, ended, next}
 use Rattle.store.specs.CodeClaims.{sessionReplies, fedReplies, CodeAnswers, CodeNoDamage, CodeTwoRuns, besideCode, CodeFreed}
 use Rattle.store.proofs.runs.Runs.{called-applies, code-made, run-applies}
 

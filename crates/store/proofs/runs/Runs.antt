@@ -1,9 +1,8 @@
 -- A run of the code is a run of the rules.
 use Prim.Native.Nat.{ℕ}
 use mathlib.Core.Path.{_≡_, refl, sym, ap, ap₂, _∙_}
-use mathlib.Core.List.{List, [], _∷_}
-use Rattle.rules.specs.Refusals.{Outcome, Reply, answer, words}
-use Rattle.rules.specs.Control.{Store}
+use mathlib.Core.List.{List, _∷_}
+use Rattle.rules.specs.Refusals.{Reply, answer, words}
 use Rattle.rules.specs.Runs.{Call, apply, run, after}
 use Rattle.rules.specs.Claims.{Made}
 use Rattle.store.specs.View.{view}
