@@ -42,8 +42,9 @@ pub data CodeMade : Lent → Type 0 where
 
 -- A call of the code on the control record self and the words h0, h1 and list: the call, its reply, and what the next call gets.
 -- Each case is one method of `Control`, with its contract as its `ensures` has it: h0, h1 and list for the words at entry, h0′,
--- h1′ and list′ for those that were lent by `&mut`, at exit, and r for what the method hands out. Words lent by `&` stay. The
--- stretch and its companion hand no control record back, so the next call gets the same one.
+-- h1′ and list′ for those that were lent by `&mut`, at exit, and r (of allocate a) for what the method hands out. Words lent by
+-- `&` stay. The stretch and its companion hand no control record back, so the next call gets the same one. That the contract of
+-- each method, as the checker has it, gives its case is shown in `proofs/runs/Contracts.antt`.
 pub data Called (self : Control) (h0 h1 list : List ℕ) : Call → Reply → Lent → Type 0 where
   by-attach : (s : ℕ) (r : code.Reply)
       → outcome r h0 h1 list ≡ apply (view self h0 h1 list) (Attach s)
@@ -104,7 +105,7 @@ pub data CodeRun : Lent → List Call → List Reply → Lent → Type 0 where
       → CodeRun b cs rs e
       → CodeRun a (c ∷ cs) (r ∷ rs) e
 
--- A run of the code is a run of the rules: its store is newly made, the replies are the same and so is the last store
+-- a run of the code is a run of the rules: from a newly made store, with the same replies and the same last store
 unfoldable pub CodeRuns : Type 0
 CodeRuns =
     (a e : Lent) (cs : List Call) (rs : List Reply) → CodeMade a → CodeRun a cs rs e
