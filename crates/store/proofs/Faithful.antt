@@ -11,7 +11,7 @@ use Rattle.store.specs.declared.Control.{Control}
 use Rattle.store.specs.declared.Reply as code
 
 -- the control record of a store
-abbrev controlOf : Store → Control
+abbrev pub controlOf : Store → Control
 controlOf s =
     record {
       length0 = s .lengths .half0;
@@ -32,7 +32,7 @@ controlOf s =
     }
 
 -- the answer of a reply that has one
-abbrev answerOf : Reply → Answer
+abbrev pub answerOf : Reply → Answer
 answerOf (answer a) = a
 answerOf (words ws) = Done
 

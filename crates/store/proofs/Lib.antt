@@ -49,3 +49,5 @@ pub mod FieldCopies
 pub mod Stacks
 -- the collector step by the number of its phase
 pub mod Units
+-- runs of the code, and the claims about them
+pub mod runs

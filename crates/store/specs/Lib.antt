@@ -20,3 +20,7 @@ pub mod Allocation
 pub mod Copies
 -- Registers forwarded.
 pub mod Flips
+-- Runs of the code, and that they are runs of the rules.
+pub mod CodeRuns
+-- The claims about runs, said of the code.
+pub mod CodeClaims

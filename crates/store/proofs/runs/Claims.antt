@@ -1,0 +1,77 @@
+-- The claims of the rules about runs, of the code.
+use mathlib.Core.Path.{_≡_, refl, sym, ap, ap₂, subst, _∙_}
+use mathlib.Core.Bool.{cond}
+use mathlib.Core.List.{List, [], _∷_, _++_}
+use Rattle.rules.specs.Refusals.{Reply}
+use Rattle.rules.specs.Control.{Store}
+use Rattle.rules.specs.Runs.{Call, Step, apply, run, after, isSession, isAllocation, sessionRun, fedBy, feeds}
+use Rattle.rules.specs.Tracking.{Beside, besideCall, beside, newBeside}
+use Rattle.rules.specs.Claims.{Answers, NoDamage, TwoRuns, Freed, FreedBetween, leftIn}
+use Rattle.rules.proofs.runs.Runs.{beside-store}
+use Rattle.rules.proofs.runs.Claims.{answers, no-damage, two-runs, freed}
+use Rattle.store.specs.CodeRuns.{Lent, viewed, CodeRun, ended, next}
+use Rattle.store.specs.CodeClaims.{sessionReplies, fedReplies, CodeAnswers, CodeNoDamage, CodeTwoRuns, besideCode, CodeFreed}
+use Rattle.store.proofs.runs.Runs.{called-applies, code-made, run-applies}
+
+-- of the replies of a run of the rules, the session answers and what is fed
+pub session-replies : (s : Store) (cs : List Call) → sessionReplies cs (run s cs) ≡ sessionRun s cs
+session-replies s [] = refl
+session-replies s (c ∷ cs) =
+    ap (λ x. cond (isSession c) (apply s c .reply ∷ x) x) (session-replies (apply s c .store) cs)
+
+pub fed-replies : (s : Store) (cs : List Call) → fedReplies cs (run s cs) ≡ feeds s cs
+fed-replies s [] = refl
+fed-replies s (c ∷ cs) =
+    ap (λ x. cond (isAllocation c) (fedBy (apply s c .reply) ∷ x) x) (fed-replies (apply s c .store) cs)
+
+module _ {a e : Lent} {cs : List Call} {rs : List Reply} (calls : CodeRun a cs rs e) where
+  -- the same of the replies of the code
+  answers-of : sessionReplies cs rs ≡ sessionRun (viewed a) cs
+  answers-of = ap (sessionReplies cs) (run-applies calls .0) ∙ session-replies (viewed a) cs
+
+  fed-of : fedReplies cs rs ≡ feeds (viewed a) cs
+  fed-of = ap (fedReplies cs) (run-applies calls .0) ∙ fed-replies (viewed a) cs
+
+  -- what the code holds is the store of the run beside
+  beside-code : beside (newBeside (viewed a)) cs ≡ besideCode a cs e
+  beside-code =
+      let b = beside (newBeside (viewed a)) cs in
+      ap (λ s. record { store = s; free = b .free; place = b .place }) (beside-store (newBeside (viewed a)) cs ∙ sym (run-applies calls .1))
+
+pub code-answers : CodeAnswers
+unfolding CodeAnswers Answers
+code-answers a e cs rs made calls = rw (answers-of calls, fed-of calls) (answers (viewed a) (code-made made) cs)
+
+pub code-no-damage : CodeNoDamage
+unfolding CodeNoDamage NoDamage
+code-no-damage a e f cs rs c r made calls called =
+    let q : r ≡ apply (after (viewed a) cs) c .reply =
+    ap (λ o. o .reply) (called-applies called) ∙ ap (λ s. apply s c .reply) (run-applies calls .1) in
+    rw q (no-damage (viewed a) (code-made made) cs c)
+
+pub code-two-runs : CodeTwoRuns
+unfolding CodeTwoRuns TwoRuns
+code-two-runs a d b e cs ds rs qs makes makes′ calls calls′ same =
+    rw (answers-of calls, fed-of calls, answers-of calls′, fed-of calls′)
+    (two-runs (viewed a) (viewed b) (code-made makes) (code-made makes′) cs ds same)
+
+-- calls after calls
+beside-more : (b : Beside) (cs ds : List Call) → beside b (cs ++ ds) ≡ beside (beside b cs) ds
+beside-more b [] ds = refl
+beside-more b (c ∷ cs) ds = beside-more (besideCall b c) cs ds
+
+run-more : {a b e : Lent} {cs ds : List Call} {rs qs : List Reply}
+    → CodeRun a cs rs b → CodeRun b ds qs e → CodeRun a (cs ++ ds) (rs ++ qs) e
+run-more ended calls′ = calls′
+run-more (next called calls) calls′ = next called (run-more calls calls′)
+
+freed-same : {b b′ e e′ : Beside} → b ≡ b′ → e ≡ e′ → FreedBetween b e (leftIn e) → FreedBetween b′ e′ (leftIn e′)
+freed-same x y k = subst (λ (z : Beside × Beside). FreedBetween (z .0) (z .1) (leftIn (z .1))) (ap₂ (λ u v. (u, v)) x y) k
+
+pub code-freed : CodeFreed
+unfolding CodeFreed Freed
+code-freed a b e cs ds rs qs made calls calls′ begins ends =
+    let held : viewed b ≡ after (viewed a) cs = run-applies calls .1 in
+    let left : viewed e ≡ after (after (viewed a) cs) (Step ∷ ds) = run-applies calls′ .1 ∙ ap (λ s. after s (Step ∷ ds)) held in
+    let k = freed (viewed a) (code-made made) cs ds (sym (ap (λ s. s .phase) held) ∙ begins) (sym (ap (λ s. s .phase) left) ∙ ends) in
+    freed-same (beside-code calls) (sym (beside-more (newBeside (viewed a)) cs (Step ∷ ds)) ∙ beside-code (run-more calls calls′)) k

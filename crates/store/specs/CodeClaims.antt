@@ -1,0 +1,64 @@
+-- The claims 2 to 4 of the rules (`Claims.antt` there), said of the code: of the replies of its calls, and of the control records
+-- and words that they leave.
+use mathlib.Core.Path.{_≡_}
+use mathlib.Core.Logic.{_≢_}
+use mathlib.Core.Bool.{cond}
+use mathlib.Core.List.{List, [], _∷_, _++_}
+use Rattle.rules.specs.Refusals.{Reply, answer}
+use Rattle.rules.specs.Runs.{Call, Step, isSession, isAllocation, sessionCalls, Fed, fedBy}
+use Rattle.rules.specs.Free.{newFree, freeRun}
+use Rattle.rules.specs.Tracking.{Beside, newBeside, beside}
+use Rattle.rules.specs.Claims.{FreedBetween, leftIn}
+use Rattle.rules.specs.declared.Answer.the-variants.{Refused}
+use Rattle.store.specs.CodeRuns.{Lent, viewed, CodeMade, Called, CodeRun}
+
+-- the session answers among the replies of calls
+abbrev pub sessionReplies : List Call → List Reply → List Reply
+sessionReplies [] rs = []
+sessionReplies (c ∷ cs) [] = []
+sessionReplies (c ∷ cs) (r ∷ rs) = cond (isSession c) (r ∷ sessionReplies cs rs) (sessionReplies cs rs)
+
+-- for each allocation, what its reply feeds the collector-free store
+abbrev pub fedReplies : List Call → List Reply → List Fed
+fedReplies [] rs = []
+fedReplies (c ∷ cs) [] = []
+fedReplies (c ∷ cs) (r ∷ rs) = cond (isAllocation c) (fedBy r ∷ fedReplies cs rs) (fedReplies cs rs)
+
+-- ---- 2. Answers
+unfoldable pub CodeAnswers : Type 0
+CodeAnswers =
+    (a e : Lent) (cs : List Call) (rs : List Reply) → CodeMade a → CodeRun a cs rs e
+    → sessionReplies cs rs ≡ freeRun newFree (sessionCalls cs) (fedReplies cs rs)
+
+-- no call that follows a run is refused with 4 or 12, collector steps included
+unfoldable pub CodeNoDamage : Type 0
+CodeNoDamage =
+    (a e f : Lent) (cs : List Call) (rs : List Reply) (c : Call) (r : Reply) → CodeMade a → CodeRun a cs rs e
+    → Called (e .control) (e .half0) (e .half1) (e .list) c r f
+    → (r ≢ answer (Refused 4)) × (r ≢ answer (Refused 12))
+
+-- ---- 3. Two runs
+-- collector steps, safe points, lengths and first words are each run's own
+unfoldable pub CodeTwoRuns : Type 0
+CodeTwoRuns =
+    (a d b e : Lent) (cs ds : List Call) (rs qs : List Reply) → CodeMade a → CodeMade b → CodeRun a cs rs d → CodeRun b ds qs e
+    → sessionCalls cs ≡ sessionCalls ds
+    → (sessionReplies cs rs ≡ sessionReplies ds qs → fedReplies cs rs ≡ fedReplies ds qs)
+    × (fedReplies cs rs ≡ fedReplies ds qs → sessionReplies cs rs ≡ sessionReplies ds qs)
+
+-- ---- 4. Freed
+-- what the code holds after calls from a, with the collector-free store and the places of the run beside it
+abbrev pub besideCode : Lent → List Call → Lent → Beside
+besideCode a cs e =
+    record {
+      store = viewed e;
+      free = beside (newBeside (viewed a)) cs .free;
+      place = beside (newBeside (viewed a)) cs .place;
+    }
+
+-- b is what the code holds as a step leaves phase 0, e as a later one has come back to it
+unfoldable pub CodeFreed : Type 0
+CodeFreed =
+    (a b e : Lent) (cs ds : List Call) (rs qs : List Reply) → CodeMade a → CodeRun a cs rs b → CodeRun b (Step ∷ ds) qs e
+    → b .control .cursor .phase ≡ 0 → e .control .cursor .phase ≡ 0
+    → FreedBetween (besideCode a cs b) (besideCode a (cs ++ (Step ∷ ds)) e) (leftIn (besideCode a (cs ++ (Step ∷ ds)) e))
