@@ -8,7 +8,7 @@ use lib.Dec.{eqb}
 use lib.ListN.{length, length-set}
 use Rattle.rules.specs.Memory.{Memory, half, halfOf, wordOf, withHalf, word, put, refs, plains, size, sound, header, shapeAt}
 use Rattle.heap.specs.View.{memory, Inside, HasPlain}
-use Rattle.heap.proofs.Soundness.{sound-inside, header-inside}
+use Rattle.heap.proofs.Soundness.{Found, sound-inside, header-inside}
 
 refs-any : (h0 h1 : List ℕ) (f0 f1 v : ℕ) → refs (memory h0 h1 f0 f1) v ≡ refs (memory h0 h1 0 0) v
 unfolding refs word half
@@ -35,6 +35,17 @@ module _ (h0 h1 : List ℕ) (f0 f1 v : ℕ) (s : sound (memory h0 h1 f0 f1) v �
         shape = header-inside h0 h1 f0 f1 v s a b shapeAt (omega arith);
         field = rw (← refs-any h0 h1 f0 f1 v) (plain-inside i l);
       }
+
+-- the same of a record that was followed
+module _ (h0 h1 : List ℕ) (f0 f1 v : ℕ) {at r p : ℕ} (f : Found (memory h0 h1 f0 f1) v at r p) (a : f0 ≤ length h0) (b : f1 ≤ length h1) where
+  pub found-header : (j : ℕ) → j < header → Inside h0 h1 v j
+  found-header = header-inside h0 h1 f0 f1 v (f .sound) a b
+
+  pub found-ref : (i : ℕ) → i < r → Inside h0 h1 v (header + i)
+  found-ref i l = ref-inside h0 h1 f0 f1 v (f .sound) a b i (rw (f .refs) at l)
+
+  pub found-plain : (i : ℕ) → i < p → Inside h0 h1 v (header + r + i)
+  found-plain i l = rw (f .refs) (plain-inside h0 h1 f0 f1 v (f .sound) a b i (rw (f .plains) at l))
 
 -- ---- lengths
 

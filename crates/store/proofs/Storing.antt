@@ -10,7 +10,7 @@ use lib.ListN.{length, set}
 use borrow.Author.Tests.{leb-true, ltb-true, le-leb, lt-leb}
 use Rattle.rules.specs.Refusals.{refused, passed, done}
 use Rattle.rules.specs.Memory.{Memory, refs, sound, refField, colourAt}
-use Rattle.rules.specs.Control.{Store, withMemory, withGlobals}
+use Rattle.rules.specs.Control.{Store, withMemory, withGlobals, lastGlobal, lastRegister}
 use Rattle.rules.specs.Phases.{register, sessionAt}
 use Rattle.rules.specs.Barriers.{Heap, heapOf, shade, storeWrites, putWrites, putBoth}
 use Rattle.rules.specs.Calls.{sessionOf, isRegister, isGlobal, recordOf, StorePlan, storePlan, storeCommit, store, putPlan, putCommit, put}
@@ -51,27 +51,27 @@ module _ {s : Store} {n k from at r p : ℕ} {o : Operands} {z : Heap} {y : Plan
 -- ---- the arms of a put's plan
 
 module _ (s : Store) (n o from : ℕ) (a : sessionOf s n ≡ passed (sessionAt s n)) where
-  pub put-register : 7 < from → refused 8 ≡ putPlan s n o from
+  pub put-register : lastRegister < from → refused 8 ≡ putPlan s n o from
   unfolding putPlan
-  put-register l = rw (a, lt-leb from 7 l)
+  put-register l = rw (a, lt-leb from lastRegister l)
 
-  pub put-global : from ≤ 7 → 31 < o → refused 9 ≡ putPlan s n o from
+  pub put-global : from ≤ lastRegister → lastGlobal < o → refused 9 ≡ putPlan s n o from
   unfolding putPlan
-  put-global l m = rw (a, le-leb from 7 l, lt-leb o 31 m)
+  put-global l m = rw (a, le-leb from lastRegister l, lt-leb o lastGlobal m)
 
-  module _ {z : Heap} {y : Planned} (l : from ≤ 7) (m : o ≤ 31) (c : z ≡ heapOf s)
+  module _ {z : Heap} {y : Planned} (l : from ≤ lastRegister) (m : o ≤ lastGlobal) (c : z ≡ heapOf s)
       (u : planned y ≡ putWrites z (sessionAt s n .level) (register (sessionAt s n) from)) where
     pub put-unwritable : y ≡ plan.Damage → refused 12 ≡ putPlan s n o from
     unfolding putPlan
     put-unwritable d =
         let t : putWrites (heapOf s) (sessionAt s n .level) (register (sessionAt s n) from) ≡ refused 12 = rw (← c) (sym u ∙ ap planned d) in
-        rw (a, le-leb from 7 l, le-leb o 31 m, t)
+        rw (a, le-leb from lastRegister l, le-leb o lastGlobal m, t)
 
     pub put-made : {w : Writes} → y ≡ plan.Plan w → passed w ≡ putPlan s n o from
     unfolding putPlan
     put-made {w} d =
         let t : putWrites (heapOf s) (sessionAt s n .level) (register (sessionAt s n) from) ≡ passed w = rw (← c) (sym u ∙ ap planned d) in
-        rw (a, le-leb from 7 l, le-leb o 31 m, t)
+        rw (a, le-leb from lastRegister l, le-leb o lastGlobal m, t)
 
 -- ---- what a plan says of the records that it writes
 
@@ -115,7 +115,7 @@ storable {q} s n k i from e =
       copy = λ m. field-inside s (w .replica) i (b .0 .known) (st .copied m .sound) (st .copied m .field);
     }
 
-putable : {w : Writes} (s : Store) (n g from : ℕ) → putPlan s n g from ≡ passed w → (g ≤ 31) × ((w .shade ≡ 0 → ⊥) → Ready s (w .shade))
+putable : {w : Writes} (s : Store) (n g from : ℕ) → putPlan s n g from ≡ passed w → (g ≤ lastGlobal) × ((w .shade ≡ 0 → ⊥) → Ready s (w .shade))
 unfolding putPlan
 putable {w} s n g from e =
     let a = bind-passed (sessionOf s n) _ e in
@@ -162,7 +162,7 @@ module _ {y : Storing} (s : Store) (n : ℕ) where
     unfolding put
     put-away d = rw (← e, d)
 
-    pub put-known-by : {v : ℕ} {w : Writes} → y ≡ Into v w → (g ≤ 31) × ((w .shade ≡ 0 → ⊥) → Ready s (w .shade))
+    pub put-known-by : {v : ℕ} {w : Writes} → y ≡ Into v w → (g ≤ lastGlobal) × ((w .shade ≡ 0 → ⊥) → Ready s (w .shade))
     put-known-by d = putable s n g from (sym e ∙ ap putting d)
 
     pub put-done : {v : ℕ} {w : Writes} {t : Store} → y ≡ Into v w → t ≡ shade s (w .shade)

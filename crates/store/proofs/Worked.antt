@@ -6,8 +6,8 @@ use lib.Dec.{leb, ltb}
 use lib.ListN.{length}
 use borrow.Author.Tests.{leb-true, lt-ltb, le-ltb}
 use Rattle.rules.specs.Refusals.{refused, passed}
-use Rattle.rules.specs.Memory.{refs, plains, sound, follow, followed}
-use Rattle.rules.specs.Control.{Store}
+use Rattle.rules.specs.Memory.{refs, plains, sound, follow, followed, header}
+use Rattle.rules.specs.Control.{Store, lastRegister, lastSession}
 use Rattle.rules.specs.Calls.{sessionOf, isRegister, operandsOf, recordOf}
 use Rattle.rules.specs.declared.Operands.{Operands}
 use Rattle.rules.specs.declared.Followed.{Followed}
@@ -26,15 +26,15 @@ use Rattle.store.specs.declared.operands.Held.the-variants as held
 -- what holds where 4, 5, 6, 8 and 11 passed
 pub record Worked (s : Store) (n k o : ℕ) : Type 0 where
   pub known : InRange s
-  pub number : n ≤ 15
-  pub first : k ≤ 7
-  pub second : o ≤ 7
+  pub number : n ≤ lastSession
+  pub first : k ≤ lastRegister
+  pub second : o ≤ lastRegister
 
 worked : {x : Operands} (s : Store) (n k o : ℕ) → operandsOf s n k o ≡ passed x → Worked s n k o
 unfolding operandsOf
 worked s n k o e =
     let a = bind-passed (sessionOf s n) _ e in
-    let b = both (leb k 7) (leb o 7) (after-check (isRegister k && isRegister o) 8 _ (a .2) .0) in
+    let b = both (leb k lastRegister) (leb o lastRegister) (after-check (isRegister k && isRegister o) 8 _ (a .2) .0) in
     let c = in-session s n (a .1) in
     record { known = c .known; number = c .number; first = leb-true k 7 (b .0); second = leb-true o 7 (b .1) }
 
@@ -53,9 +53,9 @@ pub record Opened (s : Store) (n k o : ℕ) (x : Operands) (at r p : ℕ) : Type
   pub tests : recordOf s n k o ≡ passed x
   pub known : InRange s
   pub found : Found (s .memory) (x .own) at r p
-  pub header : (j : ℕ) → j < 3 → Inside (s .memory .half0) (s .memory .half1) (x .own) j
-  pub ref : (i : ℕ) → i < r → Inside (s .memory .half0) (s .memory .half1) (x .own) (3 + i)
-  pub plain : (i : ℕ) → i < p → Inside (s .memory .half0) (s .memory .half1) (x .own) (3 + r + i)
+  pub head : (j : ℕ) → j < header → Inside (s .memory .half0) (s .memory .half1) (x .own) j
+  pub ref : (i : ℕ) → i < r → Inside (s .memory .half0) (s .memory .half1) (x .own) (header + i)
+  pub plain : (i : ℕ) → i < p → Inside (s .memory .half0) (s .memory .half1) (x .own) (header + r + i)
 
 -- by what the code's `held` answered
 module _ {h : Held} (s : Store) (n k o : ℕ) (e : tested h ≡ operandsOf s n k o) where
@@ -84,7 +84,7 @@ module _ {h : Held} (s : Store) (n k o : ℕ) (e : tested h ≡ operandsOf s n k
             tests = rw (passes, a .sound);
             known = worked s n k o passes .known;
             found = a;
-            header = found-header _ _ _ _ _ a (lent .0) (lent .1);
+            head = found-header _ _ _ _ _ a (lent .0) (lent .1);
             ref = found-ref _ _ _ _ _ a (lent .0) (lent .1);
             plain = found-plain _ _ _ _ _ a (lent .0) (lent .1);
           }

@@ -5,6 +5,7 @@ use mathlib.Core.Logic.{_≢_}
 use mathlib.Core.Bool.{cond}
 use mathlib.Core.List.{List, [], _∷_, _++_}
 use Rattle.rules.specs.Refusals.{Reply, answer}
+use Rattle.rules.specs.Cycle.{atRest}
 use Rattle.rules.specs.Runs.{Call, Step, isSession, isAllocation, sessionCalls, Fed, fedBy}
 use Rattle.rules.specs.Free.{newFree, freeRun}
 use Rattle.rules.specs.Tracking.{Beside, newBeside, beside}
@@ -60,5 +61,5 @@ besideCode a cs e =
 unfoldable pub CodeFreed : Type 0
 CodeFreed =
     (a b e : Lent) (cs ds : List Call) (rs qs : List Reply) → CodeMade a → CodeRun a cs rs b → CodeRun b (Step ∷ ds) qs e
-    → b .control .cursor .phase ≡ 0 → e .control .cursor .phase ≡ 0
+    → b .control .cursor .phase ≡ atRest → e .control .cursor .phase ≡ atRest
     → FreedBetween (besideCode a cs b) (besideCode a (cs ++ (Step ∷ ds)) e) (leftIn (besideCode a (cs ++ (Step ∷ ds)) e))

@@ -1,5 +1,6 @@
 -- The tests of a store in order, then what it writes.
 use native.Mathlib.Omega.{arith}
+use Rattle.rules.specs.Memory.{replicaAt}
 use Rattle.rules.specs.Calls.{storePlan}
 use Rattle.store.proofs.Shaded.{within}
 use Rattle.store.proofs.Worked.{away, lent, unsound, opened, ref-out}
@@ -58,7 +59,7 @@ store-writes-requires c κs =
     let c3 = c2 .before .before in
     let c4 = c3 .before .before in
     let d = opened _ _ _ _ (c4 .held .ensures) (c3 .operands .given .1) (c2 .follow .ensures) (c1 .r .given .1) in
-    (within _ _ (c .bounds .ensures _ _ _ (d .known .lent2)) (d .known), d .header 2 (omega arith))
+    (within _ _ (c .bounds .ensures _ _ _ (d .known .lent2)) (d .known), d .head replicaAt (omega arith))
 
 enum-known-w : tie.Need-enum-known-w
 enum-known-w c = search needs

@@ -1,5 +1,6 @@
 -- Where a write goes: the tests of a write in order.
 use native.Mathlib.Omega.{arith}
+use Rattle.rules.specs.Memory.{replicaAt}
 use Rattle.rules.specs.Calls.{writePlan}
 use Rattle.heap.proofs.Answers.{word-refused, word-passed}
 use Rattle.store.proofs.Shaded.{within}
@@ -59,7 +60,7 @@ replica-for-requires c κs =
     let c3 = c2 .before .before in
     let c4 = c3 .before .before in
     let d = opened _ _ _ _ (c4 .held .ensures) (c3 .operands .given .1) (c2 .follow .ensures) (c1 .r .given .1) in
-    (within _ _ (c .bounds .ensures _ _ _ (d .known .lent2)) (d .known), d .header 2 (omega arith))
+    (within _ _ (c .bounds .ensures _ _ _ (d .known .lent2)) (d .known), d .head replicaAt (omega arith))
 
 enum-known-t : tie.Need-enum-known-t
 enum-known-t c = search needs
