@@ -1,0 +1,103 @@
+#!/usr/bin/env python3
+"""Every call of the store, the stretch and its companion too, on any control record and any memory: the probe program writes, word for
+word, what document 01 gives, by the store in Python. Directed cases (edges of every range, every way to meet damage, both halves, both
+copies) and random damaged stores. Mistakes built into the store in Python are seen.
+
+    python3 tests/test_probe.py write    writes crates/probe/stdin and stdout anew, both from document 01 alone
+"""
+import os
+import sys
+import time
+
+import damage
+import probe
+import sapphire
+from model import ATTACH, DETACH, SAFE, ALLOCATE, LOAD, STORE, READ, WRITE, MOVE, CLEAR, SAME, GET, PUT, STEP
+
+CRATE = os.path.join(os.path.dirname(os.path.abspath(__file__)), "..", "crates", "probe")
+RANDOM = 24000
+# the refusals that each call has, by document 01's table
+SESSION = {4, 5, 6}
+RECORD = SESSION | {8, 11, 12}
+REFUSALS = {probe.MAKE: {1, 2, 3}, ATTACH: {4, 5, 7}, DETACH: SESSION, SAFE: SESSION, ALLOCATE: SESSION | {8, 10, 14}, LOAD: RECORD | {13},
+            STORE: RECORD | {13}, READ: RECORD | {13}, WRITE: RECORD | {13}, MOVE: SESSION | {8}, CLEAR: SESSION | {8}, SAME: SESSION | {8, 12},
+            GET: SESSION | {8, 9}, PUT: SESSION | {8, 9, 12}, STEP: {4, 12}, probe.COMPANION: RECORD, probe.STRETCH: set()}
+
+
+def files():
+    """What crates/probe/stdin and stdout must hold."""
+    cases = [case for _, case in damage.few_stretches()]
+    return b"".join(cases), b"".join(probe.expected(case) for case in cases)
+
+
+def held(name):
+    with open(os.path.join(CRATE, name), "rb") as file:
+        return file.read()
+
+
+def compare(cases, seen):
+    """Runs the program on the cases; its whole output must be what document 01 gives. Counts the answers by kind into `seen`."""
+    written = probe.run(b"".join(case for _, case in cases))
+    at = 0
+    for name, case in cases:
+        want = probe.expected(case)
+        got = written[at:at + len(want)]
+        if got != want:
+            sys.exit(f"test_probe: {name}: word {probe.place(got, want)} of the reply differs from document 01's:\n{probe.told(got)}\n{probe.told(want)}")
+        at += len(want)
+        kind, number = probe.CALL.unpack_from(case)[0], probe.ANSWER.unpack_from(want)[0]
+        seen[kind, number] = seen.get((kind, number), 0) + 1
+    if at != len(written):
+        sys.exit(f"test_probe: the program wrote {len(written)} bytes, not {at}")
+
+
+def cut_cases():
+    """A case that is cut short, or lends more than the program has, is not answered, and ends the program."""
+    _, case = next(damage.few_stretches())
+    want = probe.expected(case)
+    for n in (0, 1, 31, 32, 947, 948, len(case) - 1):
+        if probe.run(case + case[:n]) != want:
+            sys.exit(f"test_probe: a case cut after {n} bytes is answered")
+    for at in (20, 24, 28):
+        if probe.run(case + case[:at] + (1025).to_bytes(4, "big") + case[at + 4:] + case * 9) != want:
+            sys.exit("test_probe: a case that lends too much is answered")
+
+
+def slips_seen():
+    """Each mistake built into the store in Python must show in some case."""
+    cases = [*damage.directed(), *damage.random_cases(4000)]
+    for slip in sapphire.DAMAGE_SLIPS:
+        seen = next((name for name, case in cases if probe.expected(case, slip) != probe.expected(case)), None)
+        if seen is None:
+            sys.exit(f"test_probe: the slip '{slip}' is not seen")
+        print(f"test_probe: '{slip}' is seen by: {seen}")
+
+
+def main():
+    began = time.time()
+    if (held("stdin"), held("stdout")) != files():
+        sys.exit("test_probe: crates/probe/stdin and stdout are not those that this test writes")
+    cut_cases()
+    totals = []
+    for name, cases in [("directed", list(damage.directed())), ("random", list(damage.random_cases(RANDOM)))]:
+        seen = {}
+        compare(cases, seen)
+        numbers = {}
+        for (_, number), count in seen.items():
+            numbers[number] = numbers.get(number, 0) + count
+        print(f"test_probe: {len(cases)} {name} cases, refusals {dict(sorted(numbers.items()))}")
+        totals.append(seen)
+        lacking = [kind for kind, refusals in REFUSALS.items() if {number for k, number in seen if k == kind} != refusals | {0}]
+        if lacking:
+            sys.exit(f"test_probe: the {name} cases of the kinds {lacking} do not have just the refusals of document 01's table")
+    slips_seen()
+    print(f"test_probe: {time.time() - began:.0f} s")
+
+
+if __name__ == "__main__":
+    if sys.argv[1:] == ["write"]:
+        for name, data in zip(("stdin", "stdout"), files()):
+            with open(os.path.join(CRATE, name), "wb") as file:
+                file.write(data)
+    else:
+        main()
