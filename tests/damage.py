@@ -1,10 +1,10 @@
-"""Cases for the probe program: the stretch and its companion, arguments and numbers at the edges of their ranges, each way to meet
-damage, and random damaged stores. Everything is made from a seed. A case is a name with the bytes of tests/probe.py."""
-import random
+"""Directed cases for the probe program: the stretch and its companion, arguments and numbers at the edges of their ranges, steps at the
+end of their walks, and each way to meet damage. A case is a name with the bytes of tests/probe.py."""
+import itertools
 
 from model import ATTACH, DETACH, SAFE, ALLOCATE, LOAD, STORE, READ, WRITE, MOVE, CLEAR, SAME, GET, PUT, STEP
-from probe import COMPANION, COUNTS, MAKE, encode
-from sapphire import LEVELS, STRETCH, Sapphire
+from probe import MAKE, encode
+from sapphire import COMPANION, LEVELS, STRETCH, Sapphire
 
 TOP = (1 << 32) - 1
 HUGE = (1 << 64) - 1
@@ -64,8 +64,12 @@ def set_word(h, k, word):
     return lambda store: store.half[h].__setitem__(k, word)
 
 
-def set_number(name, value):
-    return lambda store: setattr(store, name, value)
+def setting(**numbers):
+    """A change of a store: these numbers of its control record."""
+    def change(store):
+        for name, value in numbers.items():
+            setattr(store, name, value)
+    return change
 
 
 def set_item(name, i, value):
@@ -105,7 +109,8 @@ def stretches():
               [(0, 0, 16), (13, 0, 16), (0, 13, 16), (255, 255, 513), (255, 0, 1024), (0, 255, 1024)]]
     calls += [(f"session {s}, register {k}", pairs(), s, k) for s in (0, 1, 15, 16, 255, 256, TOP) for k in (0, 1, 5, 6, 7, 8, 256, TOP)]
     for level, phase in LEVEL_PHASES:
-        calls += [(f"level {level}, phase {phase}, register {k}", pairs(level, phase, current), 0, k) for current in (0, 1) for k in range(8)]
+        calls += [(f"level {level}, phase {phase}, register {k}", pairs(level, phase, current), 0, k)
+                  for current in (0, 1) for k in range(8)]
     for name, store, s, k in calls:
         for kind in (STRETCH, COMPANION):
             yield f"{name}, kind {kind}", encode(store, kind, [s, k])
@@ -114,8 +119,8 @@ def stretches():
 # ---- arguments and numbers at the edges
 
 CALLS = [(MAKE, []), (ATTACH, [1]), (DETACH, [0]), (SAFE, [0]), (ALLOCATE, [0, 7, 1, 1]), (LOAD, [0, 7, 0, 1]), (STORE, [0, 0, 1, 2]),
-         (READ, [0, 0, 1]), (WRITE, [0, 0, 1, 9]), (MOVE, [0, 7, 0]), (CLEAR, [0, 0]), (SAME, [0, 0, 1]), (GET, [0, 7, 0]), (PUT, [0, 0, 2]),
-         (STEP, []), (STRETCH, [0, 0]), (COMPANION, [0, 0])]
+         (READ, [0, 0, 1]), (WRITE, [0, 0, 1, 9]), (MOVE, [0, 7, 0]), (CLEAR, [0, 0]), (SAME, [0, 0, 1]), (GET, [0, 7, 0]),
+         (PUT, [0, 0, 2]), (STEP, []), (STRETCH, [0, 0]), (COMPANION, [0, 0])]
 
 
 def arguments():
@@ -127,6 +132,16 @@ def arguments():
     for r, p in [(255, 255), (256, 0), (0, 256), (255, TOP)]:
         for level, phase in LEVEL_PHASES:
             yield f"allocate {r} and {p} at level {level}", encode(pairs(level, phase, n=1024, capacity=400), ALLOCATE, [0, 7, r, p])
+
+
+def rooms():
+    """Allocations that just fit in a half, or just do not."""
+    for level, phase in LEVEL_PHASES:
+        for current in (0, 1):
+            for frontier in [(43, 43), (43, 44), (44, 43), (44, 44), (48, 0), (0, 48)]:
+                store = pairs(level, phase, current)
+                store.frontier = list(frontier)
+                yield f"allocate at level {level} in phase {phase}, frontiers {frontier}", encode(store, ALLOCATE, [0, 7, 1, 1])
 
 
 def edges():
@@ -141,16 +156,16 @@ def edges():
                          ("place", (0, 47, 48, 49, HUGE)), ("field", (0, 509, 510, 511, HUGE)), ("tail", (0, 15, 16, 17, HUGE)),
                          ("head", (0, 1, HUGE))]:
         for value in values:
-            yield usual, f"{name} is {value}", set_number(name, value)
+            yield usual, f"{name} is {value}", setting(**{name: value})
     for head, tail in [(3, 3), (4, 3), (3, 4), (16, 16), (17, 16), (17, 17)]:
-        yield usual, f"list from {head} to {tail}", lambda s, head=head, tail=tail: (set_number("head", head)(s), set_number("tail", tail)(s))
+        yield usual, f"list from {head} to {tail}", setting(head=head, tail=tail)
     for s in (0, 1, 15):
         for value in (6, 7, TOP):
             yield usual, f"level {value} of session {s}", set_item("level", s, value)
     for phase in (3, 4, 10, 11):
         for value in (16, 17, 32, 33, 48, 49):
             for start in (usual, least):
-                yield start, f"phase {phase}, place {value}", lambda s, p=phase, v=value: (set_number("phase", p)(s), set_number("place", v)(s))
+                yield start, f"phase {phase}, place {value}", setting(phase=phase, place=value)
 
 
 def lengths():
@@ -174,20 +189,33 @@ def ranges():
             yield f"kind {kind}, {name}", encode(store, kind, args)
 
 
+def endings():
+    """Steps at the end of what their phase has to do, with sessions at the phase's level and at another."""
+    places = [0, END - 1, END, END + 1, 32, 48]
+    for phase, place, scanned, current in itertools.product(range(13), places, (False, True), (0, 1)):
+        level = LEVELS[phase]
+        for who, attached, other in [("nobody", [0, 0], 6), ("two at the level", [1, 1], level),
+                                     ("one at another", [1, 1], (level + 6) % 7), ("an absent one at another", [1, 0], (level + 1) % 7)]:
+            store = pairs(0, phase, current)
+            store.place, store.field, store.tail, store.head = place, 2, 3, 3
+            store.attached[:2], store.level[:2], store.scanned = attached, [level, other], [scanned] * 16
+            yield f"step in phase {phase} at {place}, {who}, scanned {scanned}, current half {current}", encode(store, STEP, [])
+
+
 # ---- each way to meet damage
 
 def session_calls():
-    """Calls that follow references, by level: a store, what to call it, kind and arguments."""
+    """Calls that follow references: level, phase, name, kind, arguments, and what is set before the call."""
+    reading = [(LOAD, [0, 7, 0, 1]), (READ, [0, 1, 1]), (STRETCH, [0, 0]), (COMPANION, [0, 1])]
+    by_level = [(SAME, [0, 2, 1]), (SAME, [0, 3, 4]), (SAME, [0, 4, 6]), (WRITE, [0, 0, 1, 7]), (WRITE, [0, 1, 1, 7]), (PUT, [0, 0, 2]),
+                (PUT, [0, 0, 3]), (PUT, [0, 0, 4]), *((STORE, [0, k, 1, source]) for k in (0, 1) for source in (2, 3, 4, 6))]
     for level, phase in LEVEL_PHASES:
-        calls = [(LOAD, [0, 7, 0, 1]), (READ, [0, 1, 1]), (STRETCH, [0, 0]), (COMPANION, [0, 1]), (SAME, [0, 2, 1]), (SAME, [0, 3, 4]),
-                 (SAME, [0, 4, 6]), (WRITE, [0, 0, 1, 7]), (WRITE, [0, 1, 1, 7]), (PUT, [0, 0, 2]), (PUT, [0, 0, 3]), (PUT, [0, 0, 4])]
-        calls += [(STORE, [0, k, 1, source]) for k in (0, 1) for source in (2, 3, 4, 6)]
-        for kind, args in calls:
+        for kind, args in by_level + reading * (level in (0, 5)):
             yield level, phase, f"{kind} {args}", kind, args, lambda store: None
 
 
 def steps():
-    """Collector steps that follow references: with what is set before each."""
+    """Collector steps that follow references, in the same form."""
     def listed(store):
         store.list[:3], store.tail = [store.registers[0][0], store.registers[0][4], store.registers[0][0]], 3
 
@@ -212,8 +240,8 @@ def injuries(n=48, capacity=16):
     """Ways to damage a store of `pairs`, and those just short of damage."""
     for h in (0, 1):
         for at in (X, Y, Z):
-            for name, k, word in [("shape 65536", 0, 65536), ("shape 65535", 0, 65535), ("no field", 0, 0), ("only plain", 0, 3), ("colour 3", 1, 3),
-                                  ("colour", 1, TOP), ("white", 1, 0), ("black", 1, 2)]:
+            for name, k, word in [("shape 65536", 0, 65536), ("shape 65535", 0, 65535), ("no field", 0, 0), ("only plain", 0, 3),
+                                  ("colour 3", 1, 3), ("colour", 1, TOP), ("white", 1, 0), ("black", 1, 2)]:
                 yield f"{name} at {h}:{at}", set_word(h, at + k, word)
             for word in (0, 1, ref(h, at), ref(1 - h, Z), ref(h, n), TOP):
                 yield f"replica {word} at {h}:{at}", set_word(h, at + 2, word)
@@ -225,95 +253,21 @@ def injuries(n=48, capacity=16):
         for h in (0, 1):
             for at in (X + 4, Z + 3):
                 yield f"field at {h}:{at} is {word}", set_word(h, at, word)
-        yield f"globals are {word}", lambda store, word=word: setattr(store, "globals", [word] * 32)
-        yield f"list holds {word}", lambda store, word=word: setattr(store, "list", [word] * capacity)
+        yield f"globals are {word}", setting(globals=[word] * 32)
+        yield f"list holds {word}", setting(list=[word] * capacity)
     for head, tail in [(0, capacity), (capacity, capacity), (capacity - 1, capacity - 1), (capacity - 2, capacity - 2), (0, capacity - 1)]:
-        yield f"list from {head} to {tail}", lambda s, head=head, tail=tail: (set_number("head", head)(s), set_number("tail", tail)(s))
+        yield f"list from {head} to {tail}", setting(head=head, tail=tail)
 
 
 def injured():
     for level, phase, name, kind, args, set_up in [*session_calls(), *steps()]:
         for turn, (injury, change) in enumerate(injuries()):
             # the halves change roles from injury to injury in the session calls; steps get both
-            for current in (0, 1) if kind == STEP else (turn + level) % 2,:
+            for current in [0, 1] if kind == STEP else [(turn + level) % 2]:
                 store = changed(changed(pairs(level, phase, current), set_up), change)
                 yield f"{name} at level {level} in phase {phase}, current half {current}, {injury}", encode(store, kind, args)
 
 
-# ---- random damaged stores
-
-SHAPES = [(0, 0), (1, 0), (0, 1), (1, 1), (2, 1), (1, 2), (3, 2), (0, 4), (5, 5)]
-KINDS = [STEP] * 16 + [STORE] * 8 + [WRITE, PUT, SAME, ALLOCATE, LOAD] * 3 + [READ, STRETCH, COMPANION] * 2 + [MOVE, CLEAR, GET, ATTACH, DETACH, SAFE, MAKE]
-EDGES = list(edges())
-
-
-def world(rng):
-    """A store of random records that name each other, in which now and then a word is none that belongs there."""
-    n = rng.choice([16, 17, 24, 32, 33, 48])
-    store = Sapphire(n, n // 3 + rng.choice([0, 0, 1, 3]))
-    shapes = [rng.choice(SHAPES) for _ in range(14)]
-    starts = [[], []]
-    for h in (0, 1):
-        store.half[h] = rng.choices(range(12), k=n)
-        limit, at = rng.choice([n, n, n - 4, n // 2]), 0
-        for r, p in shapes:
-            if at + 3 + r + p > limit:
-                break
-            store.half[h][at:at + 2] = [256 * r + p, rng.choice([0, 0, 1, 2, 2])]
-            starts[h].append((at, r))
-            at += 3 + r + p
-        store.frontier[h] = at
-    heads = [ref(h, at) for h in (0, 1) for at, _ in starts[h]]
-    pool = heads * 3 + [0, 0, 0, 0, 1, ref(0, rng.randrange(n)), ref(1, rng.randrange(n)), ref(rng.randrange(2), n)]
-    for h in (0, 1):
-        for i, (at, r) in enumerate(starts[h]):
-            style = rng.random()
-            twin = ref(1 - h, starts[1 - h][i][0]) if i < len(starts[1 - h]) else 0
-            store.half[h][at + 2] = twin if style < 0.6 else 0 if style < 0.85 else rng.choice(pool)
-            store.half[h][at + 3:at + 3 + r] = rng.choices(pool, k=r)
-    for _ in range(rng.choice([0, 0, 1, 2, 4])):
-        store.half[rng.randrange(2)][rng.randrange(n)] = rng.choice([65536, 65535, 3, 1, 256, 512, TOP, rng.choice(pool)])
-    store.list, store.globals = rng.choices(pool, k=len(store.list)), rng.choices(pool, k=32)
-    flat = rng.choices(pool, k=128)
-    store.registers = [flat[at:at + 8] for at in range(0, 128, 8)]
-    return store, pool
-
-
-def numbers(rng, store):
-    """Random numbers of the control record, most of them in range."""
-    n = len(store.half[0])
-    store.length, store.capacity = [n, n], len(store.list)
-    store.phase, store.current, store.field = rng.randrange(13), rng.randrange(2), rng.choice([0, 0, 0, 1, 1, 2, 3, 4, 6])
-    store.place = rng.choice([0, 0, rng.randrange(n), store.frontier[store.current], rng.choice([3, 4, 5, 7, 8, 9])])
-    store.tail = rng.choice([0, rng.randrange(store.capacity + 1), store.capacity - 1, store.capacity])
-    store.head = rng.choice([0, store.tail, rng.randrange(store.tail + 1)])
-    level = LEVELS[store.phase]
-    store.level = rng.choice([[level] * 16, rng.choices([level, max(level - 1, 0)], k=16), rng.choices(range(7), k=16)])
-    store.attached, store.scanned = rng.choices([True, True, False], k=16), rng.choices([True, False, False], k=16)
-    if rng.random() < 0.06:
-        (length, _), _, change = rng.choice(EDGES)
-        change(store)
-
-
-def arguments_for(rng, kind):
-    return [rng.choice([8, 16, 32, 256, TOP]) if rng.random() < 0.02 else rng.randrange(3 if kind in (STORE, LOAD, READ, WRITE) else 8)
-            for _ in range(COUNTS[kind])]
-
-
-def random_cases(count, seed=1):
-    rng = random.Random(seed)
-    for i in range(count):
-        if i % 4 == 0:
-            store, _ = world(rng)
-            frontier = store.frontier
-        store.frontier = list(frontier)
-        numbers(rng, store)
-        kind = rng.choice(KINDS)
-        yield f"random case {i} of seed {seed}", encode(store, kind, arguments_for(rng, kind))
-
-
 def directed():
-    yield from stretches()
-    yield from arguments()
-    yield from ranges()
-    yield from injured()
+    for cases in (stretches, arguments, rooms, ranges, endings, injured):
+        yield from cases()

@@ -11,12 +11,12 @@ import os
 import struct
 import subprocess
 
-from sapphire import STRETCH, Sapphire
+from sapphire import COMPANION, STRETCH, Sapphire
 from scripts import ARGUMENTS
 
 BUILT = os.path.join(os.path.dirname(os.path.abspath(__file__)), "..", "target", "bin", "probe")
 PROGRAM = os.environ.get("PROBE_PROGRAM", BUILT)
-MAKE, COMPANION = 0, 16
+MAKE = 0
 COUNTS = {MAKE: 0, **ARGUMENTS, STRETCH: 2, COMPANION: 2}  # of arguments, for each kind
 CALL = struct.Struct(">8I")
 RECORD = struct.Struct(">I10Q32I176I")

@@ -9,19 +9,21 @@ import os
 import sys
 import time
 
+import chance
 import damage
 import probe
 import sapphire
 from model import ATTACH, DETACH, SAFE, ALLOCATE, LOAD, STORE, READ, WRITE, MOVE, CLEAR, SAME, GET, PUT, STEP
 
 CRATE = os.path.join(os.path.dirname(os.path.abspath(__file__)), "..", "crates", "probe")
-RANDOM = 24000
+RANDOM = 60000
 # the refusals that each call has, by document 01's table
 SESSION = {4, 5, 6}
 RECORD = SESSION | {8, 11, 12}
-REFUSALS = {probe.MAKE: {1, 2, 3}, ATTACH: {4, 5, 7}, DETACH: SESSION, SAFE: SESSION, ALLOCATE: SESSION | {8, 10, 14}, LOAD: RECORD | {13},
-            STORE: RECORD | {13}, READ: RECORD | {13}, WRITE: RECORD | {13}, MOVE: SESSION | {8}, CLEAR: SESSION | {8}, SAME: SESSION | {8, 12},
-            GET: SESSION | {8, 9}, PUT: SESSION | {8, 9, 12}, STEP: {4, 12}, probe.COMPANION: RECORD, probe.STRETCH: set()}
+REFUSALS = {probe.MAKE: {1, 2, 3}, ATTACH: {4, 5, 7}, DETACH: SESSION, SAFE: SESSION, ALLOCATE: SESSION | {8, 10, 14},
+            LOAD: RECORD | {13}, STORE: RECORD | {13}, READ: RECORD | {13}, WRITE: RECORD | {13}, MOVE: SESSION | {8}, CLEAR: SESSION | {8},
+            SAME: SESSION | {8, 12}, GET: SESSION | {8, 9}, PUT: SESSION | {8, 9, 12}, STEP: {4, 12}, sapphire.STRETCH: RECORD,
+            sapphire.COMPANION: RECORD}
 
 
 def files():
@@ -35,23 +37,27 @@ def held(name):
         return file.read()
 
 
-def compare(cases, seen):
-    """Runs the program on the cases; its whole output must be what document 01 gives. Counts the answers by kind into `seen`."""
+def compare(cases):
+    """Runs the program on the cases; its whole output must be what document 01 gives. Answers how often each kind had each number."""
     written = probe.run(b"".join(case for _, case in cases))
-    at = 0
+    at, seen = 0, {}
     for name, case in cases:
         want = probe.expected(case)
         got = written[at:at + len(want)]
         if got != want:
-            sys.exit(f"test_probe: {name}: word {probe.place(got, want)} of the reply differs from document 01's:\n{probe.told(got)}\n{probe.told(want)}")
+            sys.exit(f"test_probe: {name}: the reply differs from document 01's in word {probe.place(got, want)}:\n"
+                     f"{probe.told(got)}\n{probe.told(want)}")
         at += len(want)
         kind, number = probe.CALL.unpack_from(case)[0], probe.ANSWER.unpack_from(want)[0]
+        if kind == sapphire.STRETCH:  # why it was refused only its companion says
+            number, = probe.ANSWER.unpack_from(probe.expected(sapphire.COMPANION.to_bytes(4, "big") + case[4:]))[:1]
         seen[kind, number] = seen.get((kind, number), 0) + 1
     if at != len(written):
         sys.exit(f"test_probe: the program wrote {len(written)} bytes, not {at}")
+    return seen
 
 
-def cut_cases():
+def check_cut():
     """A case that is cut short, or lends more than the program has, is not answered, and ends the program."""
     _, case = next(damage.few_stretches())
     want = probe.expected(case)
@@ -63,9 +69,8 @@ def cut_cases():
             sys.exit("test_probe: a case that lends too much is answered")
 
 
-def slips_seen():
+def check_slips(cases):
     """Each mistake built into the store in Python must show in some case."""
-    cases = [*damage.directed(), *damage.random_cases(4000)]
     for slip in sapphire.DAMAGE_SLIPS:
         seen = next((name for name, case in cases if probe.expected(case, slip) != probe.expected(case)), None)
         if seen is None:
@@ -77,20 +82,18 @@ def main():
     began = time.time()
     if (held("stdin"), held("stdout")) != files():
         sys.exit("test_probe: crates/probe/stdin and stdout are not those that this test writes")
-    cut_cases()
-    totals = []
-    for name, cases in [("directed", list(damage.directed())), ("random", list(damage.random_cases(RANDOM)))]:
-        seen = {}
-        compare(cases, seen)
+    check_cut()
+    directed, by_chance = list(damage.directed()), list(chance.random_cases(RANDOM))
+    for name, cases in [("directed", directed), ("random", by_chance)]:
+        seen = compare(cases)
         numbers = {}
         for (_, number), count in seen.items():
             numbers[number] = numbers.get(number, 0) + count
         print(f"test_probe: {len(cases)} {name} cases, refusals {dict(sorted(numbers.items()))}")
-        totals.append(seen)
         lacking = [kind for kind, refusals in REFUSALS.items() if {number for k, number in seen if k == kind} != refusals | {0}]
         if lacking:
             sys.exit(f"test_probe: the {name} cases of the kinds {lacking} do not have just the refusals of document 01's table")
-    slips_seen()
+    check_slips(by_chance[:4000] + directed)
     print(f"test_probe: {time.time() - began:.0f} s")
 
 
