@@ -124,7 +124,7 @@ CALLS = [(MAKE, []), (ATTACH, [1]), (DETACH, [0]), (SAFE, [0]), (ALLOCATE, [0, 7
 
 
 def arguments():
-    """Each argument of each call at the edges of the ranges, and kinds that there are not."""
+    """Each argument of each call at the edges of the ranges."""
     for kind, args in CALLS:
         for i in range(len(args)):
             for value in (0, 1, 2, 7, 8, 15, 16, 31, 32, 255, 256, 1 << 31, TOP):

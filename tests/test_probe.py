@@ -57,8 +57,8 @@ def compare(cases):
     return seen
 
 
-def check_cut():
-    """A case that is cut short, or lends more than the program has, is not answered, and ends the program."""
+def check_bad_cases():
+    """A case that is cut short, or lends more than the program has, is not answered, and ends the program; an unknown kind is 15."""
     _, case = next(damage.few_stretches())
     want = probe.expected(case)
     for n in (0, 1, 31, 32, 947, 948, len(case) - 1):
@@ -67,6 +67,10 @@ def check_cut():
     for at in (20, 24, 28):
         if probe.run(case + case[:at] + (1025).to_bytes(4, "big") + case[at + 4:] + case * 9) != want:
             sys.exit("test_probe: a case that lends too much is answered")
+    for kind in (17, 255, 1 << 31):
+        unknown = kind.to_bytes(4, "big") + case[4:]
+        if probe.run(unknown) != probe.ANSWER.pack(15, 0) + case[probe.CALL.size:] + probe.words([0]):
+            sys.exit(f"test_probe: kind {kind} is not answered with 15")
 
 
 def check_slips(cases):
@@ -82,7 +86,7 @@ def main():
     began = time.time()
     if (held("stdin"), held("stdout")) != files():
         sys.exit("test_probe: crates/probe/stdin and stdout are not those that this test writes")
-    check_cut()
+    check_bad_cases()
     directed, by_chance = list(damage.directed()), list(chance.random_cases(RANDOM))
     for name, cases in [("directed", directed), ("random", by_chance)]:
         seen = compare(cases)
