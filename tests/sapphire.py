@@ -1,7 +1,9 @@
 """The whole store of document 01 in Python, words and all, written from the paper alone.
 
-It is the second opinion on what the script program must print: on each line, collector steps and allocations without room
-included. `slip` builds in one of the four slips that the paper warns of, so that the tests can show that they would see it.
+It is the second opinion on what the script program must print, collector steps and allocations without room included, and on what
+a call does to any control record and any words: a store may be set up with numbers out of range, other lengths than those that are
+lent, and damaged memory. `slip` builds in a mistake, so that the tests can show that they would see it: one of the four that the
+paper warns of, or one that only damage shows.
 """
 from model import ATTACH, DETACH, SAFE, ALLOCATE, LOAD, STORE, READ, WRITE, MOVE, CLEAR, SAME, GET, PUT, STEP
 
@@ -9,16 +11,31 @@ LEVELS = [0, 1, 2, 2, 2, 3, 4, 4, 5, 6, 6, 6, 0]
 WHITE, GREY, BLACK = 0, 1, 2
 BLACK_EARLY, MARKS_KEPT, WORDS_COMPARED, ALLOCATE_ENDS_EARLY = "black early", "marks kept", "words compared", "allocate ends early"
 SLIPS = [BLACK_EARLY, MARKS_KEPT, WORDS_COMPARED, ALLOCATE_ENDS_EARLY]
+STRETCH, COMPANION = 15, 16  # after the kinds of the script, which has neither
+STRETCH_EARLY, COMPANION_BLIND, COLOUR_THREE = "stretch from the reference fields", "companion without 12", "colour 3 sound"
+PLACE_IN_HALF, LEVELS_ATTACHED = "32 globals bound by the half", "levels of attached sessions alone"
+FIELD_UNTESTED, LISTED_TWICE = "replica without the field passed over", "equal references listed twice"
+DAMAGE_SLIPS = [STRETCH_EARLY, COMPANION_BLIND, COLOUR_THREE, PLACE_IN_HALF, LEVELS_ATTACHED, FIELD_UNTESTED, LISTED_TWICE]
 
 
 class Refused(Exception):
     pass
 
 
+def refused_lengths(length0, length1, capacity):
+    """What making answers to these lengths: 1, 2, 3, or 0."""
+    if not (16 <= length0 <= 1048576 and 16 <= length1 <= 1048576):
+        return 1
+    if length0 != length1:
+        return 2
+    return 3 if capacity < length0 // 3 else 0
+
+
 class Sapphire:
     def __init__(self, length=4096, capacity=1365, slip=None):
         self.half = [[0] * length, [0] * length]
         self.list = [0] * capacity
+        self.length, self.capacity = [length, length], capacity  # the lengths in the control record
         self.frontier = [0, 0]
         self.current = self.phase = self.place = self.field = self.head = self.tail = 0
         self.globals = [0] * 32
@@ -44,7 +61,7 @@ class Sapphire:
             raise Refused(12)
         shape, colour = self.half[h][k], self.half[h][k + 1]
         r, p = shape // 256, shape % 256
-        if shape > 65535 or colour > 2 or k + 3 + r + p > self.frontier[h]:
+        if shape > 65535 or colour > (3 if self.slip == COLOUR_THREE else 2) or k + 3 + r + p > self.frontier[h]:
             raise Refused(12)
         return r, p
 
@@ -84,7 +101,7 @@ class Sapphire:
     def shade_all(self, vs):
         whites = []
         for v in vs:
-            if self.white(v) and v not in whites:
+            if self.white(v) and (v not in whites or self.slip == LISTED_TWICE):
                 whites.append(v)
         self.room_for(len(whites))
         return whites
@@ -100,8 +117,43 @@ class Sapphire:
         if not ok:
             raise Refused(number)
 
-    def call(self, kind, args):
+    def make(self):
+        """Making over the lent words: its refusal number or 0, and the new store."""
+        lengths = [len(self.half[0]), len(self.half[1]), len(self.list)]
+        number = refused_lengths(*lengths)
+        made = Sapphire(0, 0, self.slip)
+        made.half, made.list = self.half, self.list
+        if not number:
+            made.length, made.capacity = lengths[:2], lengths[2]
+        return number, made
+
+    def in_range(self):
+        """Whether the lent lengths are those of the control record, and its numbers in their ranges: refusal 4."""
+        n = self.length[0]
+        if self.length != [len(self.half[0]), len(self.half[1])] or self.capacity != len(self.list):
+            return False
+        if refused_lengths(*self.length, self.capacity):
+            return False
+        levels = self.level
+        if self.slip == LEVELS_ATTACHED:
+            levels = [l * a for l, a in zip(levels, self.attached)]
+        most = 32 if self.phase in (3, 10) and not (self.slip == PLACE_IN_HALF and n < 32) else n
+        return (self.current <= 1 and max(self.frontier) <= n and self.phase <= 12 and max(levels) <= 6 and self.place <= most
+                and self.field <= 510 and self.head <= self.tail <= self.capacity)
+
+    def stretch(self, s, k):
+        """The plain fields of the record in a register; refused, none."""
         try:
+            self.need(self.in_range(), 4)
+            self.session(s)
+            return self._plain_fields(self.registers[s], k)
+        except Refused:
+            return []
+
+    def call(self, kind, args):
+        """The refusal number or 0, and the value."""
+        try:
+            self.need(self.in_range(), 4)
             return 0, self._call(kind, args) or 0
         except Refused as refusal:
             return refusal.args[0], 0
@@ -161,7 +213,24 @@ class Sapphire:
             regs[to] = self.globals[g]
         elif kind == PUT:
             self._put(regs, level, *args[1:])
+        elif kind == COMPANION:
+            self._companion(regs, args[1])
         return 0
+
+    def _plain_fields(self, regs, k):
+        self.need(k <= 7, 8)
+        v = regs[k]
+        self.need(v, 11)
+        r, p = self.follow(v)
+        first = 3 if self.slip == STRETCH_EARLY else 3 + r
+        return [self.at(v, first + i) for i in range(p)]
+
+    def _companion(self, regs, k):
+        try:
+            self._plain_fields(regs, k)
+        except Refused as refusal:
+            if self.slip != COMPANION_BLIND or refusal.args[0] != 12:
+                raise
 
     def _allocate(self, regs, level, k, r, p):
         self.need(k <= 7, 8)
@@ -227,7 +296,10 @@ class Sapphire:
         replica = self.at(v, 2) if level >= 4 else 0
         if replica:
             rr, rp = self.follow(replica)
-            self.need(i < rp, 12)
+            if self.slip == FIELD_UNTESTED and i >= rp:
+                replica = 0
+            else:
+                self.need(i < rp, 12)
         self.put(v, 3 + r + i, value)
         if replica:
             self.put(replica, 3 + rr + i, value)

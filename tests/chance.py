@@ -1,0 +1,86 @@
+"""Random damaged stores with random calls, for the probe program: numbers near their limits, words near references, records that
+overlap, replicas that name anything. Everything is made from a seed, so a case that fails can be made again from its name."""
+import random
+
+from damage import TOP, edges, ref
+from model import ATTACH, DETACH, SAFE, ALLOCATE, LOAD, STORE, READ, WRITE, MOVE, CLEAR, SAME, GET, PUT, STEP
+from probe import COUNTS, MAKE, encode
+from sapphire import COMPANION, LEVELS, STRETCH, Sapphire
+
+SHAPES = [(0, 0), (1, 0), (0, 1), (1, 1), (1, 1), (2, 1), (1, 2), (2, 2), (3, 2), (0, 4), (5, 5)]
+KINDS = ([STEP] * 16 + [STORE] * 8 + [WRITE, PUT, SAME, ALLOCATE, LOAD] * 3 + [READ, STRETCH, COMPANION] * 2
+         + [MOVE, CLEAR, GET, ATTACH, DETACH, SAFE, MAKE])
+EDGES = list(edges())
+
+
+def world(rng):
+    """A store of random records that name each other, in which now and then a word is none that belongs there."""
+    n = rng.choice([16, 17, 24, 32, 33, 48])
+    store = Sapphire(n, n // 3 + rng.choice([0, 0, 1, 3]))
+    shapes = [rng.choice(SHAPES) for _ in range(14)]
+    starts = [[], []]
+    for h in (0, 1):
+        store.half[h] = rng.choices(range(12), k=n)
+        limit, at = rng.choice([n, n, n - 4, n // 2]), 0
+        for r, p in shapes:
+            if at + 3 + r + p > limit:
+                break
+            store.half[h][at:at + 2] = [256 * r + p, rng.choice([0, 0, 1, 2, 2])]
+            starts[h].append((at, r))
+            at += 3 + r + p
+        store.frontier[h] = at
+    heads = [ref(h, at) for h in (0, 1) for at, _ in starts[h]]
+    pool = heads * 3 + [0, 0, 0, 0, 1, ref(0, rng.randrange(n)), ref(1, rng.randrange(n)), ref(rng.randrange(2), n)]
+    for h in (0, 1):
+        for i, (at, r) in enumerate(starts[h]):
+            style = rng.random()
+            twin = ref(1 - h, starts[1 - h][i][0]) if i < len(starts[1 - h]) else 0
+            store.half[h][at + 2] = twin if style < 0.6 else 0 if style < 0.85 else rng.choice(pool)
+            store.half[h][at + 3:at + 3 + r] = rng.choices(pool, k=r)
+    for _ in range(rng.choice([0, 0, 1, 2, 4])):
+        store.half[rng.randrange(2)][rng.randrange(n)] = rng.choice([65536, 65535, 3, 1, 256, 512, TOP, rng.choice(pool)])
+    store.list, store.globals = rng.choices(pool, k=len(store.list)), rng.choices(pool, k=32)
+    flat = rng.choices(pool, k=128)
+    store.registers = [flat[at:at + 8] for at in range(0, 128, 8)]
+    if rng.random() < 0.04:  # then what is lent is not what it was
+        lent = rng.choice([*store.half, store.list])
+        lent[:] = rng.choice([lent[:-1], [*lent, 0], lent[:4]])
+    return store
+
+
+def numbers(rng, store):
+    """Random numbers of the control record, most of them in range."""
+    n = store.length[0]
+    store.phase, store.current, store.field = rng.randrange(13), rng.randrange(2), rng.choice([0, 0, 0, 1, 1, 2, 3, 4, 6])
+    store.place = rng.choice([0, 0, rng.randrange(n), store.frontier[store.current], rng.choice([3, 4, 5, 7, 8, 9])])
+    store.tail = rng.choice([0, rng.randrange(store.capacity + 1), store.capacity - 1, store.capacity])
+    store.head = rng.choice([0, store.tail, rng.randrange(store.tail + 1)])
+    level = LEVELS[store.phase]
+    store.level = rng.choice([[level] * 16, rng.choices([level, max(level - 1, 0)], k=16), rng.choices(range(7), k=16)])
+    style = rng.random()
+    store.attached = rng.choices([True, True, False], k=16) if style < 0.7 else [style < 0.9 and i == 3 for i in range(16)]
+    store.scanned = rng.choice([rng.choices([True, False, False], k=16), [True] * 16])
+    if rng.random() < 0.06:
+        _, _, change = rng.choice(EDGES)
+        change(store)
+
+
+def arguments_for(rng, kind, store):
+    """Mostly an attached session and a field that many records have; now and then a number that is none of those."""
+    args = [rng.choice([0, 0, 0, 1, 1, 2]) if kind in (LOAD, STORE, READ, WRITE) else rng.randrange(8) for _ in range(COUNTS[kind])]
+    attached = [s for s in range(16) if store.attached[s]]
+    if args and attached and rng.random() < 0.9:
+        args[0] = rng.choice(attached)
+    return [rng.choice([8, 16, 32, 256, TOP]) if rng.random() < 0.02 else a for a in args]
+
+
+def random_cases(count, seed=1):
+    rng = random.Random(seed)
+    for i in range(count):
+        if i % 4 == 0:
+            store = world(rng)
+            kept = store.length, store.capacity, store.frontier
+        store.length, store.capacity, store.frontier = list(kept[0]), kept[1], list(kept[2])
+        numbers(rng, store)
+        kind = rng.choice(KINDS)
+        yield f"random case {i} of seed {seed}", encode(store, kind, arguments_for(rng, kind, store))

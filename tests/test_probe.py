@@ -1,0 +1,110 @@
+#!/usr/bin/env python3
+"""Every call of the store, the stretch and its companion too, on any control record and any memory: the probe program writes, word for
+word, what document 01 gives, by the store in Python. Directed cases (edges of every range, every way to meet damage, both halves, both
+copies) and random damaged stores. Mistakes built into the store in Python are seen.
+
+    python3 tests/test_probe.py write    writes crates/probe/stdin and stdout anew, both from document 01 alone
+"""
+import os
+import sys
+import time
+
+import chance
+import damage
+import probe
+import sapphire
+from model import ATTACH, DETACH, SAFE, ALLOCATE, LOAD, STORE, READ, WRITE, MOVE, CLEAR, SAME, GET, PUT, STEP
+
+CRATE = os.path.join(os.path.dirname(os.path.abspath(__file__)), "..", "crates", "probe")
+RANDOM = 60000
+# the refusals that each call has, by document 01's table
+SESSION = {4, 5, 6}
+RECORD = SESSION | {8, 11, 12}
+REFUSALS = {probe.MAKE: {1, 2, 3}, ATTACH: {4, 5, 7}, DETACH: SESSION, SAFE: SESSION, ALLOCATE: SESSION | {8, 10, 14},
+            LOAD: RECORD | {13}, STORE: RECORD | {13}, READ: RECORD | {13}, WRITE: RECORD | {13}, MOVE: SESSION | {8}, CLEAR: SESSION | {8},
+            SAME: SESSION | {8, 12}, GET: SESSION | {8, 9}, PUT: SESSION | {8, 9, 12}, STEP: {4, 12}, sapphire.STRETCH: RECORD,
+            sapphire.COMPANION: RECORD}
+
+
+def files():
+    """What crates/probe/stdin and stdout must hold."""
+    cases = [case for _, case in damage.few_stretches()]
+    return b"".join(cases), b"".join(probe.expected(case) for case in cases)
+
+
+def held(name):
+    with open(os.path.join(CRATE, name), "rb") as file:
+        return file.read()
+
+
+def compare(cases):
+    """Runs the program on the cases; its whole output must be what document 01 gives. Answers how often each kind had each number."""
+    written = probe.run(b"".join(case for _, case in cases))
+    at, seen = 0, {}
+    for name, case in cases:
+        want = probe.expected(case)
+        got = written[at:at + len(want)]
+        if got != want:
+            sys.exit(f"test_probe: {name}: the reply differs from document 01's in word {probe.place(got, want)}:\n"
+                     f"{probe.told(got)}\n{probe.told(want)}")
+        at += len(want)
+        kind, number = probe.CALL.unpack_from(case)[0], probe.ANSWER.unpack_from(want)[0]
+        if kind == sapphire.STRETCH:  # why it was refused only its companion says
+            number, = probe.ANSWER.unpack_from(probe.expected(sapphire.COMPANION.to_bytes(4, "big") + case[4:]))[:1]
+        seen[kind, number] = seen.get((kind, number), 0) + 1
+    if at != len(written):
+        sys.exit(f"test_probe: the program wrote {len(written)} bytes, not {at}")
+    return seen
+
+
+def check_bad_cases():
+    """A case that is cut short, or lends more than the program has, is not answered, and ends the program; an unknown kind is 15."""
+    _, case = next(damage.few_stretches())
+    want = probe.expected(case)
+    for n in (0, 1, 31, 32, 947, 948, len(case) - 1):
+        if probe.run(case + case[:n]) != want:
+            sys.exit(f"test_probe: a case cut after {n} bytes is answered")
+    for at in (20, 24, 28):
+        if probe.run(case + case[:at] + (1025).to_bytes(4, "big") + case[at + 4:] + case * 9) != want:
+            sys.exit("test_probe: a case that lends too much is answered")
+    for kind in (17, 255, 1 << 31):
+        unknown = kind.to_bytes(4, "big") + case[4:]
+        if probe.run(unknown) != probe.ANSWER.pack(15, 0) + case[probe.CALL.size:] + probe.words([0]):
+            sys.exit(f"test_probe: kind {kind} is not answered with 15")
+
+
+def check_slips(cases):
+    """Each mistake built into the store in Python must show in some case."""
+    for slip in sapphire.DAMAGE_SLIPS:
+        seen = next((name for name, case in cases if probe.expected(case, slip) != probe.expected(case)), None)
+        if seen is None:
+            sys.exit(f"test_probe: the slip '{slip}' is not seen")
+        print(f"test_probe: '{slip}' is seen by: {seen}")
+
+
+def main():
+    began = time.time()
+    if (held("stdin"), held("stdout")) != files():
+        sys.exit("test_probe: crates/probe/stdin and stdout are not those that this test writes")
+    check_bad_cases()
+    directed, by_chance = list(damage.directed()), list(chance.random_cases(RANDOM))
+    for name, cases in [("directed", directed), ("random", by_chance)]:
+        seen = compare(cases)
+        numbers = {}
+        for (_, number), count in seen.items():
+            numbers[number] = numbers.get(number, 0) + count
+        print(f"test_probe: {len(cases)} {name} cases, refusals {dict(sorted(numbers.items()))}")
+        lacking = [kind for kind, refusals in REFUSALS.items() if {number for k, number in seen if k == kind} != refusals | {0}]
+        if lacking:
+            sys.exit(f"test_probe: the {name} cases of the kinds {lacking} do not have just the refusals of document 01's table")
+    check_slips(by_chance[:4000] + directed)
+    print(f"test_probe: {time.time() - began:.0f} s")
+
+
+if __name__ == "__main__":
+    if sys.argv[1:] == ["write"]:
+        for name, data in zip(("stdin", "stdout"), files()):
+            with open(os.path.join(CRATE, name), "wb") as file:
+                file.write(data)
+    else:
+        main()
