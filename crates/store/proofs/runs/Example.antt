@@ -12,7 +12,7 @@ use Rattle.rules.proofs.Examples.{rules}
 use Rattle.store.specs.View.{outcome}
 use Rattle.store.specs.CodeRuns.{Lent, lent, viewed, CodeMade, by-make, by-attach, by-allocate, by-stretch, CodeRun, ended, next}
 use Rattle.store.specs.declared.Reply as code
-use Rattle.store.proofs.Faithful.{controlOf, answerOf}
+use Rattle.store.proofs.view.Faithful.{controlOf, answerOf}
 
 -- what the rules leave, as the code hands it out: the reply, and the words
 abbrev handed : Outcome Store → code.Reply

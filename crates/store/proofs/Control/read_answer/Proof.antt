@@ -1,6 +1,6 @@
 -- What a read answers: the tests in order, then the field's word.
 use Rattle.rules.specs.Calls.{read}
-use Rattle.store.proofs.Worked.{away, lent, unsound, opened, plain-out, plain-in}
+use Rattle.store.proofs.tests.Opening.{away, lent, unsound, opened, plain-out, plain-in}
 use borrow.Author.Needs.{needs}
 use Rattle.store.proofs.Control.read_answer.Statement.{statement}
 use Rattle.store.proofs.Control.read_answer.Tie as tie

@@ -1,8 +1,8 @@
 -- The stretch: the tests in order, then the plain fields as a part of the half.
 use native.Mathlib.Omega.{arith}
 use Rattle.rules.specs.Calls.{stretch}
-use Rattle.store.proofs.Worked.{away, lent, unsound, opened}
-use Rattle.store.proofs.Followed.{span, stretch-within, stretch-small, stretched}
+use Rattle.store.proofs.tests.Opening.{away, lent, unsound, opened}
+use Rattle.store.proofs.calls.Stretch.{span, stretch-within, stretch-small, stretched}
 use borrow.Author.Needs.{needs}
 use Rattle.store.proofs.Control.stretch.Statement.{statement}
 use Rattle.store.proofs.Control.stretch.Tie as tie

@@ -15,7 +15,7 @@ use Rattle.rules.proofs.Ranges.{InRange, fronts}
 use Rattle.heap.proofs.Soundness.{Found}
 use Rattle.heap.proofs.Halves.{frontier-within}
 use Rattle.heap.specs.View.{memory}
-use Rattle.store.proofs.Worked.{Opened}
+use Rattle.store.proofs.tests.Opening.{Opened}
 
 either-small : (b : Bool) (h0 h1 : List ℕ) (m : ℕ) → length h0 ≤ m → length h1 ≤ m → length (cond b h0 h1) ≤ m
 either-small true h0 h1 m x y = x
@@ -24,7 +24,7 @@ either-small false h0 h1 m x y = y
 half-small : {s : Store} → InRange s → (h : ℕ) → length (half (s .memory) h) ≤ mostLength
 unfolding half
 half-small {s} k h =
-    either-small (eqb h 0) (s .memory .half0) (s .memory .half1) 1048576
+    either-small (eqb h 0) (s .memory .half0) (s .memory .half1) mostLength
     (omega (arith, k .lent0, k .most)) (omega (arith, k .lent1, k .equal, k .most))
 
 found-size : {M : Memory} {v at r p : ℕ} → Found M v at r p → at + header + r + p ≡ wordOf v + size M v
