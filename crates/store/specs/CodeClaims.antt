@@ -1,15 +1,16 @@
 -- The claims 2 to 4 of the rules (`Claims.antt` there), said of the code: of the replies of its calls, and of the control records
 -- and words that they leave.
+use Prim.Native.Nat.{ℕ, _<_}
 use mathlib.Core.Path.{_≡_}
 use mathlib.Core.Logic.{_≢_}
 use mathlib.Core.Bool.{cond}
-use mathlib.Core.List.{List, [], _∷_, _++_}
+use mathlib.Core.List.{List, [], _∷_, _++_, List·Memᴰ}
 use Rattle.rules.specs.Refusals.{Reply, answer}
 use Rattle.rules.specs.Cycle.{atRest}
 use Rattle.rules.specs.Runs.{Call, Step, isSession, isAllocation, sessionCalls, Fed, fedBy}
 use Rattle.rules.specs.Free.{newFree, freeRun}
 use Rattle.rules.specs.Tracking.{Beside, newBeside, beside}
-use Rattle.rules.specs.Claims.{FreedBetween, leftIn}
+use Rattle.rules.specs.Claims.{FilledFrom, Living, placesIn, FreedBetween, leftIn}
 use Rattle.rules.specs.declared.Answer.the-variants.{Refused}
 use Rattle.store.specs.CodeRuns.{Lent, viewed, CodeMade, Called, CodeRun}
 
@@ -38,6 +39,12 @@ CodeNoDamage =
     → Called (e .control) (e .half0) (e .half1) (e .list) c r f
     → (r ≢ answer (Refused 4)) × (r ≢ answer (Refused 12))
 
+-- each half's records fill words 0 up to its frontier without gaps
+unfoldable pub CodeFilled : Type 0
+CodeFilled =
+    (a e : Lent) (cs : List Call) (rs : List Reply) → CodeMade a → CodeRun a cs rs e
+    → (h : ℕ) → h < 2 → FilledFrom (viewed e .memory) h 0
+
 -- ---- 3. Two runs
 -- collector steps, safe points, lengths and first words are each run's own
 unfoldable pub CodeTwoRuns : Type 0
@@ -63,3 +70,12 @@ CodeFreed =
     (a b e : Lent) (cs ds : List Call) (rs qs : List Reply) → CodeMade a → CodeRun a cs rs b → CodeRun b (Step ∷ ds) qs e
     → b .control .cursor .phase ≡ atRest → e .control .cursor .phase ≡ atRest
     → FreedBetween (besideCode a cs b) (besideCode a (cs ++ (Step ∷ ds)) e) (leftIn (besideCode a (cs ++ (Step ∷ ds)) e))
+
+-- f is what the code holds after any further calls
+unfoldable pub CodeStaysFreed : Type 0
+CodeStaysFreed =
+    (a b e f : Lent) (cs ds es : List Call) (rs qs ps : List Reply)
+    → CodeMade a → CodeRun a cs rs b → CodeRun b (Step ∷ ds) qs e → CodeRun e es ps f
+    → b .control .cursor .phase ≡ atRest → e .control .cursor .phase ≡ atRest
+    → (h : ℕ) → h < 2 → (q : ℕ) → List·Memᴰ q (placesIn (besideCode a ((cs ++ (Step ∷ ds)) ++ es) f) h)
+    → Living (besideCode a cs b .free) q

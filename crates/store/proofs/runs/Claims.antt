@@ -1,16 +1,17 @@
 -- The claims of the rules about runs, of the code.
 use mathlib.Core.Path.{_≡_, refl, sym, ap, ap₂, subst, _∙_}
 use mathlib.Core.Bool.{cond}
-use mathlib.Core.List.{List, [], _∷_, _++_}
+use mathlib.Core.List.{List, [], _∷_, _++_, List·Memᴰ}
 use Rattle.rules.specs.Refusals.{Reply}
 use Rattle.rules.specs.Control.{Store}
 use Rattle.rules.specs.Runs.{Call, Step, apply, run, after, isSession, isAllocation, sessionRun, fedBy, feeds}
 use Rattle.rules.specs.Tracking.{Beside, besideCall, beside, newBeside}
-use Rattle.rules.specs.Claims.{Answers, NoDamage, TwoRuns, Freed, FreedBetween, leftIn}
+use Rattle.rules.specs.Cycle.{atRest}
+use Rattle.rules.specs.Claims.{Answers, NoDamage, FilledFrom, Filled, TwoRuns, Freed, FreedBetween, leftIn, placesIn, StaysFreed}
 use Rattle.rules.proofs.runs.Runs.{beside-store}
-use Rattle.rules.proofs.runs.Claims.{answers, no-damage, two-runs, freed}
+use Rattle.rules.proofs.runs.Claims.{answers, no-damage, filled, two-runs, freed, stays-freed}
 use Rattle.store.specs.CodeRuns.{Lent, viewed, CodeRun, ended, next}
-use Rattle.store.specs.CodeClaims.{sessionReplies, fedReplies, CodeAnswers, CodeNoDamage, CodeTwoRuns, besideCode, CodeFreed}
+use Rattle.store.specs.CodeClaims.{sessionReplies, fedReplies, CodeAnswers, CodeNoDamage, CodeFilled, CodeTwoRuns, besideCode, CodeFreed, CodeStaysFreed}
 use Rattle.store.proofs.runs.Runs.{called-applies, code-made, run-applies}
 
 -- of the replies of a run of the rules, the session answers and what is fed
@@ -49,6 +50,11 @@ code-no-damage a e f cs rs c r made calls called =
     ap (λ o. o .reply) (called-applies called) ∙ ap (λ s. apply s c .reply) (run-applies calls .1) in
     rw q (no-damage (viewed a) (code-made made) cs c)
 
+pub code-filled : CodeFilled
+unfolding CodeFilled Filled
+code-filled a e cs rs made calls h two =
+    subst (λ (s : Store). FilledFrom (s .memory) h 0) (sym (run-applies calls .1)) (filled (viewed a) (code-made made) cs h two)
+
 pub code-two-runs : CodeTwoRuns
 unfolding CodeTwoRuns TwoRuns
 code-two-runs a d b e cs ds rs qs makes makes′ calls calls′ same =
@@ -68,10 +74,25 @@ run-more (next called calls) calls′ = next called (run-more calls calls′)
 freed-same : {b b′ e e′ : Beside} → b ≡ b′ → e ≡ e′ → FreedBetween b e (leftIn e) → FreedBetween b′ e′ (leftIn e′)
 freed-same x y k = subst (λ (z : Beside × Beside). FreedBetween (z .0) (z .1) (leftIn (z .1))) (ap₂ (λ u v. (u, v)) x y) k
 
+-- a collection that the calls ds after cs end, in the words of the rules
+module _ {a b e : Lent} {cs ds : List Call} {rs qs : List Reply} (calls : CodeRun a cs rs b) (calls′ : CodeRun b (Step ∷ ds) qs e) where
+  begins-so : b .control .cursor .phase ≡ atRest → after (viewed a) cs .phase ≡ atRest
+  begins-so z = sym (ap (λ s. s .phase) (run-applies calls .1)) ∙ z
+
+  ends-so : e .control .cursor .phase ≡ atRest → after (after (viewed a) cs) (Step ∷ ds) .phase ≡ atRest
+  ends-so z = sym (ap (λ s. s .phase) (run-applies calls′ .1 ∙ ap (λ s. after s (Step ∷ ds)) (run-applies calls .1))) ∙ z
+
 pub code-freed : CodeFreed
 unfolding CodeFreed Freed
 code-freed a b e cs ds rs qs made calls calls′ begins ends =
-    let held : viewed b ≡ after (viewed a) cs = run-applies calls .1 in
-    let left : viewed e ≡ after (after (viewed a) cs) (Step ∷ ds) = run-applies calls′ .1 ∙ ap (λ s. after s (Step ∷ ds)) held in
-    let k = freed (viewed a) (code-made made) cs ds (sym (ap (λ s. s .phase) held) ∙ begins) (sym (ap (λ s. s .phase) left) ∙ ends) in
-    freed-same (beside-code calls) (sym (beside-more (newBeside (viewed a)) cs (Step ∷ ds)) ∙ beside-code (run-more calls calls′)) k
+    freed-same (beside-code calls) (sym (beside-more (newBeside (viewed a)) cs (Step ∷ ds)) ∙ beside-code (run-more calls calls′))
+    (freed (viewed a) (code-made made) cs ds (begins-so calls calls′ begins) (ends-so calls calls′ ends))
+
+pub code-stays-freed : CodeStaysFreed
+unfolding CodeStaysFreed StaysFreed
+code-stays-freed a b e f cs ds es rs qs ps made calls calls′ calls″ begins ends h two q i =
+    let z : beside (beside (beside (newBeside (viewed a)) cs) (Step ∷ ds)) es ≡ besideCode a ((cs ++ (Step ∷ ds)) ++ es) f =
+    ap (λ x. beside x es) (sym (beside-more (newBeside (viewed a)) cs (Step ∷ ds)))
+    ∙ sym (beside-more (newBeside (viewed a)) (cs ++ (Step ∷ ds)) es) ∙ beside-code (run-more (run-more calls calls′) calls″) in
+    stays-freed (viewed a) (code-made made) cs ds (begins-so calls calls′ begins) (ends-so calls calls′ ends) es h two q
+    (subst (λ (x : Beside). List·Memᴰ q (placesIn x h)) (sym z) i)
