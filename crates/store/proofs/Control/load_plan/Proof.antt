@@ -1,8 +1,8 @@
 -- The tests of a load in order, then the field's word.
 use Rattle.rules.proofs.Ranges.{fronts}
 use Rattle.heap.proofs.Soundness.{found, lost}
-use Rattle.store.proofs.Worked.{away, holds, load-refused}
-use Rattle.store.proofs.Followed.{load-lost, load-beyond, loaded, load-inside}
+use Rattle.store.proofs.tests.Opening.{away, holds, load-refused}
+use Rattle.store.proofs.calls.Stretch.{load-lost, load-beyond, loaded, load-inside}
 use borrow.Author.Needs.{needs}
 use Rattle.store.proofs.Control.load_plan.Statement.{statement}
 use Rattle.store.proofs.Control.load_plan.Tie as tie

@@ -1,8 +1,8 @@
 -- What a read answers: the tests in order, then the field's word.
 use Rattle.rules.proofs.Ranges.{fronts}
 use Rattle.heap.proofs.Soundness.{found, lost}
-use Rattle.store.proofs.Worked.{away, holds, read-refused}
-use Rattle.store.proofs.Followed.{read-lost, read-beyond, have-read, read-inside}
+use Rattle.store.proofs.tests.Opening.{away, holds, read-refused}
+use Rattle.store.proofs.calls.Stretch.{read-lost, read-beyond, have-read, read-inside}
 use borrow.Author.Needs.{needs}
 use Rattle.store.proofs.Control.read_answer.Statement.{statement}
 use Rattle.store.proofs.Control.read_answer.Tie as tie

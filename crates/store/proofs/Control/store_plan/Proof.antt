@@ -1,9 +1,9 @@
 -- The tests of a store in order, then what it writes.
 use native.Mathlib.Omega.{arith}
 use Rattle.heap.proofs.Soundness.{found, header-inside}
-use Rattle.store.proofs.Shaded.{within}
-use Rattle.store.proofs.Worked.{away, handed}
-use Rattle.store.proofs.Storing.{plan-refused, plan-damage, plan-short, plan-unwritable, plan-made}
+use Rattle.store.proofs.shading.Shade.{within}
+use Rattle.store.proofs.tests.Opening.{away, handed}
+use Rattle.store.proofs.calls.Store.{plan-refused, plan-damage, plan-short, plan-unwritable, plan-made}
 use borrow.Author.Needs.{needs}
 use Rattle.store.proofs.Control.store_plan.Statement.{statement}
 use Rattle.store.proofs.Control.store_plan.Tie as tie

@@ -2,8 +2,8 @@
 use native.Mathlib.Omega.{arith}
 use Rattle.rules.proofs.Ranges.{fronts}
 use Rattle.heap.proofs.Soundness.{found, lost}
-use Rattle.store.proofs.Worked.{away, holds, stretch-refused}
-use Rattle.store.proofs.Followed.{span, stretch-lost, stretch-within, stretch-small, stretched}
+use Rattle.store.proofs.tests.Opening.{away, holds, stretch-refused}
+use Rattle.store.proofs.calls.Stretch.{span, stretch-lost, stretch-within, stretch-small, stretched}
 use borrow.Author.Needs.{needs}
 use Rattle.store.proofs.Control.stretch.Statement.{statement}
 use Rattle.store.proofs.Control.stretch.Tie as tie

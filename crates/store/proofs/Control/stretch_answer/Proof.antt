@@ -1,8 +1,8 @@
 -- The companion of the stretch: the same tests.
 use Rattle.rules.proofs.Ranges.{fronts}
 use Rattle.heap.proofs.Soundness.{found, lost}
-use Rattle.store.proofs.Worked.{away, holds, stretch-refused}
-use Rattle.store.proofs.Followed.{stretch-lost, stretch-found}
+use Rattle.store.proofs.tests.Opening.{away, holds, stretch-refused}
+use Rattle.store.proofs.calls.Stretch.{stretch-lost, stretch-found}
 use borrow.Author.Needs.{needs}
 use Rattle.store.proofs.Control.stretch_answer.Statement.{statement}
 use Rattle.store.proofs.Control.stretch_answer.Tie as tie

@@ -4,9 +4,9 @@ use native.Mathlib.Omega.{arith}
 use Rattle.rules.proofs.Ranges.{fronts}
 use Rattle.heap.specs.View.{checked}
 use Rattle.heap.proofs.Soundness.{found, lost, header-inside}
-use Rattle.store.proofs.Worked.{away, handed}
-use Rattle.store.proofs.Shaded.{within}
-use Rattle.store.proofs.Targets.{writing-refused, writing-lost, writing-beyond, writing-astray, writing-passed}
+use Rattle.store.proofs.tests.Opening.{away, handed}
+use Rattle.store.proofs.shading.Shade.{within}
+use Rattle.store.proofs.calls.Write.{writing-refused, writing-lost, writing-beyond, writing-astray, writing-passed}
 use borrow.Author.Needs.{needs}
 use Rattle.store.proofs.Control.write_target.Statement.{statement}
 use Rattle.store.proofs.Control.write_target.Tie as tie

@@ -2,10 +2,10 @@
 use mathlib.Core.Path.{sym}
 use native.Mathlib.Omega.{arith}
 use Rattle.heap.proofs.Soundness.{lost}
-use Rattle.store.proofs.Flags.{no, yes}
-use Rattle.store.proofs.Cursors.{goes, shells}
-use Rattle.store.proofs.Walks.{AtWalk, AtRecord, at-walk, at-record, header-of, past}
-use Rattle.store.proofs.Shelling.{AtShell, front-small, shell-ready, shells-done, shells-lost, shells-passed, shells-full, shells-made}
+use Rattle.store.proofs.tests.Flags.{no, yes}
+use Rattle.store.proofs.collector.Numbers.{goes, shells}
+use Rattle.store.proofs.collector.Walk.{AtWalk, AtRecord, at-walk, at-record, header-of, past}
+use Rattle.store.proofs.collector.Shells.{AtShell, front-small, shell-ready, shells-done, shells-lost, shells-passed, shells-full, shells-made}
 use borrow.Author.Needs.{needs}
 use Rattle.store.proofs.Cursor.allocate_shells.Statement.{statement}
 use Rattle.store.proofs.Cursor.allocate_shells.Tie as tie

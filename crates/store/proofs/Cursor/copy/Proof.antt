@@ -1,10 +1,10 @@
 -- At the frontier the step moves on; below it damage, the record passed over, or its next field copied.
 use native.Mathlib.Omega.{arith}
 use Rattle.heap.proofs.Soundness.{lost}
-use Rattle.store.proofs.Flags.{no}
-use Rattle.store.proofs.Cursors.{goes, moves}
-use Rattle.store.proofs.Walks.{AtWalk, AtRecord, at-walk, at-record, header-of, past}
-use Rattle.store.proofs.FieldCopies.{AtReplica, replica-word, copying, copy-ends, copy-lost, copy-passes, copy-copies}
+use Rattle.store.proofs.tests.Flags.{no}
+use Rattle.store.proofs.collector.Numbers.{goes, moves}
+use Rattle.store.proofs.collector.Walk.{AtWalk, AtRecord, at-walk, at-record, header-of, past}
+use Rattle.store.proofs.collector.Copy.{AtReplica, replica-word, copying, copy-ends, copy-lost, copy-passes, copy-copies}
 use borrow.Author.Needs.{needs}
 use Rattle.store.proofs.Cursor.copy.Statement.{statement}
 use Rattle.store.proofs.Cursor.copy.Tie as tie

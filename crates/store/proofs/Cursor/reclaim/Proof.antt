@@ -1,9 +1,9 @@
 -- Waiting for level 0, the other half emptied, damage, or the next record's replica word cleared.
 use native.Mathlib.Omega.{arith}
 use Rattle.heap.proofs.Soundness.{lost}
-use Rattle.store.proofs.Flags.{no, yes}
-use Rattle.store.proofs.Cursors.{goes, empties}
-use Rattle.store.proofs.Walks.{AtWalk, AtRecord, at-walk, at-record, header-of, past, reclaim-waits, reclaim-ends, reclaim-lost, reclaim-clears}
+use Rattle.store.proofs.tests.Flags.{no, yes}
+use Rattle.store.proofs.collector.Numbers.{goes, empties}
+use Rattle.store.proofs.collector.Walk.{AtWalk, AtRecord, at-walk, at-record, header-of, past, reclaim-waits, reclaim-ends, reclaim-lost, reclaim-clears}
 use borrow.Author.Needs.{needs}
 use Rattle.store.proofs.Cursor.reclaim.Statement.{statement}
 use Rattle.store.proofs.Cursor.reclaim.Tie as tie

@@ -4,7 +4,7 @@ use Rattle.rules.specs.Control.{Store}
 use Rattle.heap.specs.View.{memory}
 use Rattle.heap.proofs.Soundness.{Found, found, lost}
 use Rattle.store.specs.Cursors.{having}
-use Rattle.store.proofs.Marked.{record-damage, colour-inside, field-inside, field-next, record-done}
+use Rattle.store.proofs.shading.Phases.{record-damage, colour-inside, field-inside, field-next, record-done}
 use borrow.Author.Needs.{needs}
 use Rattle.store.proofs.Cursor.scan_record.Statement.{statement}
 use Rattle.store.proofs.Cursor.scan_record.Tie as tie

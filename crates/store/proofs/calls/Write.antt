@@ -23,8 +23,8 @@ use Rattle.store.specs.Plain.{Written, targeted, writing}
 use Rattle.store.specs.declared.operands.Operands.{Operands}
 use Rattle.store.specs.declared.writing.Target.{Target}
 use Rattle.store.specs.declared.writing.Target.the-variants.{Refusal, Copies}
-use Rattle.store.proofs.Worked.{Handed, holding-refused}
-use Rattle.store.proofs.Followed.{rule-lost, rule-found}
+use Rattle.store.proofs.tests.Opening.{Handed, holding-refused}
+use Rattle.store.proofs.calls.Stretch.{rule-lost, rule-found}
 
 -- ---- the tests
 

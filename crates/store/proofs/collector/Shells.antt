@@ -21,7 +21,7 @@ use Rattle.store.specs.Steps.{went, stepped}
 use Rattle.store.specs.Shells.{Shelled}
 use Rattle.store.specs.Cursors.{having, Ready}
 use Rattle.store.specs.declared.Cursor.{Cursor}
-use Rattle.store.proofs.Walks.{AtWalk, AtRecord, size-found, header-of}
+use Rattle.store.proofs.collector.Walk.{AtWalk, AtRecord, size-found, header-of}
 
 -- ---- the shell
 

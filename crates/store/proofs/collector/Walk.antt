@@ -17,7 +17,7 @@ use Rattle.heap.proofs.Soundness.{Found, found, header-inside}
 use Rattle.store.specs.Steps.{went, stepped}
 use Rattle.store.specs.Cursors.{having, Ready}
 use Rattle.store.specs.declared.Cursor.{Cursor}
-use Rattle.store.proofs.Flags.{yes}
+use Rattle.store.proofs.tests.Flags.{yes}
 
 -- ---- how allocating shells, copying and reclaiming begin
 

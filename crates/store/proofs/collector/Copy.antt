@@ -17,7 +17,7 @@ use Rattle.store.specs.Steps.{went, stepped}
 use Rattle.store.specs.Cursors.{having}
 use Rattle.store.specs.Copies.{nextField, Copying}
 use Rattle.store.specs.declared.Cursor.{Cursor}
-use Rattle.store.proofs.Walks.{AtWalk, AtRecord, size-found}
+use Rattle.store.proofs.collector.Walk.{AtWalk, AtRecord, size-found}
 
 pub replica-word : {t : ℕ} (M : Memory) (v : ℕ) → t ≡ word M v 2 → t ≡ replica M v
 unfolding replica

@@ -33,8 +33,8 @@ use Rattle.store.specs.declared.Control.{Control}
 use Rattle.store.specs.declared.operands.Operands.{Operands}
 use Rattle.store.specs.declared.stores.Storing.{Storing}
 use Rattle.store.specs.declared.stores.Storing.the-variants.{Refusal, Into}
-use Rattle.store.proofs.Shaded.{shade-null, shade-globals}
-use Rattle.store.proofs.Worked.{Handed, holding-refused}
+use Rattle.store.proofs.shading.Shade.{shade-null, shade-globals}
+use Rattle.store.proofs.tests.Opening.{Handed, holding-refused}
 
 -- ---- the arms of a store's plan
 

@@ -20,7 +20,7 @@ use Rattle.heap.proofs.Halves.{frontier-within}
 use Rattle.heap.proofs.Fields.{ref-inside, plain-inside}
 use Rattle.heap.specs.View.{memory, Inside}
 use Rattle.store.specs.Loads.{loadPlan}
-use Rattle.store.proofs.Worked.{Holding}
+use Rattle.store.proofs.tests.Opening.{Holding}
 
 -- ---- a rule whose flag of register numbers is b
 
