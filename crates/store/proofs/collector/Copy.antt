@@ -2,6 +2,7 @@
 use Prim.Native.Nat.{ℕ, _+_, _-_, _≤_, _<_}
 use mathlib.Core.Path.{_≡_, sym, refl}
 use mathlib.Core.Bool.{Bool, true, false, not, _&&_, _||_, false≢true}
+use mathlib.Core.List.{List}
 use native.Mathlib.Omega.{arith}
 use lib.Dec.{leb, ltb, eqb}
 use borrow.Author.Tests.{leb-true, leb-false, lt-ltb, le-ltb}
@@ -9,12 +10,14 @@ use Rattle.rules.specs.Refusals.{refused, passed, _>>=_, Outcome, answer}
 use Rattle.rules.specs.Memory.{Memory, word, put, refs, plains, replica, sound, followed, forward, header}
 use Rattle.rules.specs.Control.{Store, withMemory, withWalk}
 use Rattle.rules.specs.Phases.{tospace, moveOn}
-use Rattle.rules.specs.Collector.{walked, below, pastRecord, copyRef, copyPlain, copyField, copy}
+use Rattle.rules.specs.Collector.{below, pastRecord, copyRef, copyPlain, copyField, copy}
 use Rattle.rules.specs.declared.Answer.the-variants.{Refused}
-use Rattle.heap.proofs.Soundness.{Found}
+use Rattle.heap.specs.View.{memory}
 use Rattle.store.specs.Steps.{went, stepped}
-use Rattle.store.specs.Copies.{nextField}
-use Rattle.store.proofs.collector.Walk.{size-found}
+use Rattle.store.specs.Cursors.{having}
+use Rattle.store.specs.Copies.{nextField, Copying}
+use Rattle.store.specs.declared.Cursor.{Cursor}
+use Rattle.store.proofs.collector.Walk.{AtWalk, AtRecord, size-found}
 
 pub replica-word : {t : ℕ} (M : Memory) (v : ℕ) → t ≡ word M v 2 → t ≡ replica M v
 unfolding replica
@@ -79,27 +82,41 @@ some-left : (a : Bool) (n i : ℕ) → (a || leb n i) ≡ false → (not a && lt
 some-left true n i e = absurd (false≢true (sym e))
 some-left false n i e = lt-ltb i n (leb-false n i e)
 
-pub field-left : {M : Memory} {v k r p t i : ℕ} → Found M v k r p → t ≡ replica M v → (eqb t 0 || leb (r + p) i) ≡ false → i < r + plains M v
-field-left {r = r} {p} {t} {i} f y x = let l = one-left (eqb t 0) (r + p) i x in omega arith
+-- the record at the walk's place has the replica word t
+pub record AtReplica (c : Cursor) (h0 h1 : List ℕ) (v k r p t : ℕ) : Type 0 where
+  pub here : AtRecord c h0 h1 v k r p
+  pub replica : t ≡ replica (memory h0 h1 (c .frontier0) (c .frontier1)) v
 
-module _ (s : Store) where
-  pub copy-ends : below s ≡ false → went (moveOn s) ≡ stepped s (copy s)
-  unfolding copy
-  copy-ends b = rw b
+module _ {c : Cursor} {h0 h1 : List ℕ} {v k r p t : ℕ} (x : AtReplica c h0 h1 v k r p t) where
+  -- what copying its next field asks for
+  pub copying : (eqb t 0 || leb (r + p) (c .field)) ≡ false → Copying c h0 h1 v t r
+  copying e =
+      let f = x .here .found in
+      let l = one-left (eqb t 0) (r + p) (c .field) e in
+      record { ranges = x .here .walk .ranges; here = f .sound; replica = x .replica; count = f .refs; left = omega arith }
 
-  module _ {v : ℕ} (b : below s ≡ true) (w : v ≡ walked s) where
-    pub copy-lost : sound (s .memory) v ≡ false → record { store = s; reply = answer (Refused 12) } ≡ stepped s (copy s)
+  module _ (s : Store) (l : List ℕ) where
+    pub copy-passes : (eqb t 0 || leb (r + p) (c .field)) ≡ true
+        → went (withWalk (having s c h0 h1 l) (c .place + (r + p + header)) 0) ≡ stepped (having s c h0 h1 l) (copy (having s c h0 h1 l))
+    unfolding copy followed pastRecord
+    copy-passes e =
+        let w = x .here .walk in
+        let f = x .here .found in
+        rw (w .below s l, ← w .walked s l, f .sound, size-found f, ← x .replica, ← f .refs, ← f .plains, none-left (eqb t 0) (r + p) (c .field) e)
+
+    pub copy-copies : {o : Outcome Store} → (eqb t 0 || leb (r + p) (c .field)) ≡ false
+        → o ≡ stepped (having s c h0 h1 l) (copyField (having s c h0 h1 l) v (c .field)) → o ≡ stepped (having s c h0 h1 l) (copy (having s c h0 h1 l))
     unfolding copy followed
-    copy-lost d = rw (b, ← w, d)
+    copy-copies e g =
+        let w = x .here .walk in
+        let f = x .here .found in
+        rw (w .below s l, ← w .walked s l, f .sound, ← x .replica, ← f .refs, ← f .plains, some-left (eqb t 0) (r + p) (c .field) e) g
 
-    module _ {k r p t : ℕ} (f : Found (s .memory) v k r p) (y : t ≡ replica (s .memory) v) where
-      pub copy-passes : (eqb t 0 || leb (r + p) (s .walk .field)) ≡ true → went (withWalk s (s .walk .place + (r + p + header)) 0) ≡ stepped s (copy s)
-      unfolding copy followed pastRecord
-      copy-passes x =
-          rw (b, ← w, f .sound, size-found f, ← y, ← f .refs, ← f .plains, none-left (eqb t 0) (r + p) (s .walk .field) x)
+pub copy-ends : (s : Store) → below s ≡ false → went (moveOn s) ≡ stepped s (copy s)
+unfolding copy
+copy-ends s b = rw b
 
-      pub copy-copies : {o : Outcome Store} → (eqb t 0 || leb (r + p) (s .walk .field)) ≡ false
-          → o ≡ stepped s (copyField s v (s .walk .field)) → o ≡ stepped s (copy s)
-      unfolding copy followed
-      copy-copies x e =
-          rw (b, ← w, f .sound, ← y, ← f .refs, ← f .plains, some-left (eqb t 0) (r + p) (s .walk .field) x) e
+pub copy-lost : {c : Cursor} {h0 h1 : List ℕ} {v : ℕ} (s : Store) (l : List ℕ) → AtWalk c h0 h1 v → sound (memory h0 h1 (c .frontier0) (c .frontier1)) v ≡ false
+    → record { store = having s c h0 h1 l; reply = answer (Refused 12) } ≡ stepped (having s c h0 h1 l) (copy (having s c h0 h1 l))
+unfolding copy followed
+copy-lost s l w d = rw (w .below s l, ← w .walked s l, d)

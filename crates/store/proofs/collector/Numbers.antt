@@ -1,19 +1,18 @@
 -- The collector's numbers: what test 4 gives of them, their bounds, and what a unit of work leaves that hands them on.
-use Prim.Native.Nat.{ℕ, _+_, _≤_, _<_}
+use Prim.Native.Nat.{ℕ, _+_, _≤_}
 use mathlib.Core.Path.{_≡_, _∙_, sym, ap}
 use mathlib.Core.List.{List, []}
 use native.Mathlib.Omega.{arith}
 use lib.ListN.{length, replicate, length-replicate}
 use Rattle.rules.specs.Refusals.{Tested, Outcome}
-use Rattle.rules.specs.Memory.{withFrontier, forward, header}
+use Rattle.rules.specs.Memory.{withFrontier, forward}
 use Rattle.rules.specs.Control.{Store, withMemory, withWalk, withCurrent, newStore}
 use Rattle.rules.specs.Phases.{fromspace, tospace, moveOn}
 use Rattle.rules.specs.Barriers.{Heap, heapOf, to}
 use Rattle.rules.specs.Collector.{forwardAll}
 use Rattle.rules.proofs.Ranges.{InRange, place-small, fronts}
-use Rattle.heap.specs.View.{memory, heap, Within, Inside}
+use Rattle.heap.specs.View.{memory, heap, Within}
 use Rattle.heap.specs.declared.Bounds.{Bounds}
-use Rattle.heap.proofs.Soundness.{Found, header-inside}
 use Rattle.store.specs.View.{view, lengths}
 use Rattle.store.specs.Steps.{went}
 use Rattle.store.specs.Cursors.{having, numbered, movedOn, atFrontier, atHalf, atWalk, Ready}
@@ -45,11 +44,6 @@ ends c k = omega arith
 -- a store, where any will do
 abbrev pub some : Store
 some = newStore (lengths 0 0 0) [] [] []
-
--- the header of a record found
-pub header-of : {c : Cursor} {h0 h1 : List ℕ} {v at r p : ℕ} → Ready c h0 h1 → Found (memory h0 h1 (c .frontier0) (c .frontier1)) v at r p
-    → (j : ℕ) → j < header → Inside h0 h1 v j
-header-of {v = v} k f j l = header-inside _ _ _ _ v (f .sound) (k .low) (k .high) j l
 
 -- ---- what a unit of work leaves
 

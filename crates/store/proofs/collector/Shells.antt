@@ -12,18 +12,16 @@ use Rattle.rules.specs.Refusals.{Outcome, answer}
 use Rattle.rules.specs.Memory.{Memory, half, frontier, withHalf, withFrontier, reference, newRecord, nextReference, append, word, put, refs, plains, sound, followed, header}
 use Rattle.rules.specs.Control.{Store, withMemory, withWalk, mostLength}
 use Rattle.rules.specs.Phases.{otherHalf}
-use Rattle.rules.specs.Collector.{walked, below, pastRecord, handshake, needsShell, shellOf, withShell, allocateShells}
+use Rattle.rules.specs.Collector.{below, pastRecord, handshake, needsShell, shellOf, withShell, allocateShells}
 use Rattle.rules.specs.declared.Answer.the-variants.{Refused}
 use Rattle.rules.proofs.memory.Cases.{chosen-below}
 use Rattle.heap.specs.View.{memory}
-use Rattle.heap.proofs.Soundness.{Found}
 use Rattle.heap.proofs.Written.{appended}
 use Rattle.store.specs.Steps.{went, stepped}
 use Rattle.store.specs.Shells.{Shelled}
-use Rattle.store.specs.Cursors.{Ready}
+use Rattle.store.specs.Cursors.{having, Ready}
 use Rattle.store.specs.declared.Cursor.{Cursor}
-use Rattle.store.proofs.collector.Numbers.{header-of}
-use Rattle.store.proofs.collector.Walk.{size-found}
+use Rattle.store.proofs.collector.Walk.{AtWalk, AtRecord, size-found, header-of}
 
 -- ---- the shell
 
@@ -57,39 +55,49 @@ module _ (h0 h1 : List ℕ) (f0 f1 : ℕ) {N P : Memory} {shape shell : ℕ} (ot
       ∙ ap (λ (X : Memory). put X v 2 shell) (rw e at q)
       ∙ shell-words M other v w t (c ∙ fields-any h0 h1 f0 f1 v) e
 
--- ---- what making a shell asks for
-
 half-long : (b : Bool) (h0 h1 : List ℕ) {n : ℕ} → n ≡ length h0 → n ≡ length h1 → length (cond b h0 h1) ≡ n
 half-long true h0 h1 x y = sym x
 half-long false h0 h1 x y = sym y
 
-pub other-long : {c : Cursor} {h0 h1 : List ℕ} (h f0 f1 : ℕ) → Ready c h0 h1 → length (half (memory h0 h1 f0 f1) h) ≡ length h0
-unfolding half
-other-long {c} {h0} {h1} h f0 f1 k = half-long (eqb h 0) h0 h1 refl (k .equal)
+-- ---- a record that is to get its shell
 
-pub front-small : {c : Cursor} {h0 h1 : List ℕ} {at : ℕ} (h : ℕ) → Ready c h0 h1 → at ≡ frontier (memory h0 h1 (c .frontier0) (c .frontier1)) h
-    → at ≤ mostLength
-unfolding frontier
-front-small {c} {h0} {h1} {at} h k e =
-    let l = chosen-below (eqb h 0) (c .frontier0) (c .frontier1) (length h0) (k .low) (omega (arith, k .high, k .equal)) in
-    omega (arith, k .most)
+-- the record at the walk's place needs a shell, at a word of the other half
+pub record AtShell (c : Cursor) (h0 h1 : List ℕ) (v k r p h at : ℕ) : Type 0 where
+  pub here : AtRecord c h0 h1 v k r p
+  pub needed : needsShell (memory h0 h1 (c .frontier0) (c .frontier1)) v ≡ true
+  pub other : h ≡ otherHalf (c .current)
+  pub place : at ≡ frontier (memory h0 h1 (c .frontier0) (c .frontier1)) h
 
-pub shell-ready : {c : Cursor} {h0 h1 : List ℕ} {other at v k r p : ℕ} → Ready c h0 h1 → Found (memory h0 h1 (c .frontier0) (c .frontier1)) v k r p
-    → other ≡ otherHalf (c .current) → at + (r + p + header) ≤ length h0 → Shelled h0 h1 other at v (r + p)
-unfolding otherHalf
-shell-ready {c} {h0} {h1} {other} {at} {v} g f o l =
-    let e = other-long other 0 0 g in
-    record {
-      shape = header-of g f 0 (omega arith);
-      replica = header-of g f 2 (omega arith);
-      fields = sym (fields-any h0 h1 (c .frontier0) (c .frontier1) v ∙ sym (sum (f .refs) (f .plains)));
-      side = omega (arith, g .half);
-      few = omega (arith, g .most);
-      room = omega arith;
-    }
-  where
-    sum : {a b c d : ℕ} → a ≡ b → c ≡ d → a + c ≡ b + d
-    sum x y = omega arith
+module _ {c : Cursor} {h0 h1 : List ℕ} {v k r p other at : ℕ} (x : AtShell c h0 h1 v k r p other at) where
+  ranges : Ready c h0 h1
+  ranges = x .here .walk .ranges
+
+  other-long : (f0 f1 : ℕ) → length (half (memory h0 h1 f0 f1) other) ≡ length h0
+  unfolding half
+  other-long f0 f1 = half-long (eqb other 0) h0 h1 refl (ranges .equal)
+
+  pub front-small : at ≤ mostLength
+  unfolding frontier
+  front-small =
+      let l = chosen-below (eqb other 0) (c .frontier0) (c .frontier1) (length h0) (ranges .low) (omega (arith, ranges .high, ranges .equal)) in
+      omega (arith, ranges .most, x .place)
+
+  pub shell-ready : at + (r + p + header) ≤ length h0 → Shelled h0 h1 other at v (r + p)
+  unfolding otherHalf
+  shell-ready l =
+      let f = x .here .found in
+      let e = other-long 0 0 in
+      record {
+        shape = header-of (x .here) 0 (omega arith);
+        replica = header-of (x .here) 2 (omega arith);
+        fields = sym (fields-any h0 h1 (c .frontier0) (c .frontier1) v ∙ sym (sum (f .refs) (f .plains)));
+        side = omega (arith, ranges .half, x .other);
+        few = omega (arith, ranges .most);
+        room = omega arith;
+      }
+    where
+      sum : {a b c d : ℕ} → a ≡ b → c ≡ d → a + c ≡ b + d
+      sum x y = omega arith
 
 -- ---- the arms of the phase
 
@@ -98,24 +106,31 @@ module _ (s : Store) where
   unfolding allocateShells
   shells-done b e = rw b e
 
-  module _ {v : ℕ} (b : below s ≡ true) (w : v ≡ walked s) where
-    pub shells-lost : sound (s .memory) v ≡ false → record { store = s; reply = answer (Refused 12) } ≡ stepped s (allocateShells s)
-    unfolding allocateShells followed
-    shells-lost d = rw (b, ← w, d)
+module _ {c : Cursor} {h0 h1 : List ℕ} {v : ℕ} (s : Store) (l : List ℕ) where
+  pub shells-lost : AtWalk c h0 h1 v → sound (memory h0 h1 (c .frontier0) (c .frontier1)) v ≡ false
+      → record { store = having s c h0 h1 l; reply = answer (Refused 12) } ≡ stepped (having s c h0 h1 l) (allocateShells (having s c h0 h1 l))
+  unfolding allocateShells followed
+  shells-lost x d = rw (x .below s l, ← x .walked s l, d)
 
-    module _ {k r p : ℕ} (f : Found (s .memory) v k r p) where
-      pub shells-passed : needsShell (s .memory) v ≡ false → went (withWalk s (s .walk .place + (r + p + header)) 0) ≡ stepped s (allocateShells s)
+  module _ {k r p : ℕ} where
+    pub shells-passed : AtRecord c h0 h1 v k r p → needsShell (memory h0 h1 (c .frontier0) (c .frontier1)) v ≡ false
+        → went (withWalk (having s c h0 h1 l) (c .place + (r + p + header)) 0) ≡ stepped (having s c h0 h1 l) (allocateShells (having s c h0 h1 l))
+    unfolding allocateShells followed pastRecord
+    shells-passed x d = rw (x .walk .below s l, ← x .walk .walked s l, x .found .sound, d, size-found (x .found))
+
+    module _ {other at : ℕ} (x : AtShell c h0 h1 v k r p other at) where
+      pub shells-full : length h0 < at + (r + p + header)
+          → record { store = having s c h0 h1 l; reply = answer (Refused 12) } ≡ stepped (having s c h0 h1 l) (allocateShells (having s c h0 h1 l))
+      unfolding allocateShells followed
+      shells-full g =
+          let w = x .here .walk in
+          let f = x .here .found in
+          rw (w .below s l, ← w .walked s l, f .sound, x .needed, size-found f, ← x .other, ← x .place, other-long x _ _, lt-leb (at + (r + p + header)) (length h0) g)
+
+      pub shells-made : {N : Memory} → at + (r + p + header) ≤ length h0 → N ≡ withShell (memory h0 h1 (c .frontier0) (c .frontier1)) other v
+          → went (withWalk (withMemory (having s c h0 h1 l) N) (c .place + (r + p + header)) 0) ≡ stepped (having s c h0 h1 l) (allocateShells (having s c h0 h1 l))
       unfolding allocateShells followed pastRecord
-      shells-passed d = rw (b, ← w, f .sound, d, size-found f)
-
-      module _ {other at m : ℕ} (d : needsShell (s .memory) v ≡ true) (h : other ≡ otherHalf (s .current)) (a : at ≡ frontier (s .memory) other) (g : length (half (s .memory) other) ≡ m) where
-        pub shells-full : m < at + (r + p + header) → record { store = s; reply = answer (Refused 12) } ≡ stepped s (allocateShells s)
-        unfolding allocateShells followed
-        shells-full l =
-            rw (b, ← w, f .sound, d, size-found f, ← h, ← a, g, lt-leb (at + (r + p + header)) m l)
-
-        pub shells-made : {N : Memory} → at + (r + p + header) ≤ m → N ≡ withShell (s .memory) other v
-            → went (withWalk (withMemory s N) (s .walk .place + (r + p + header)) 0) ≡ stepped s (allocateShells s)
-        unfolding allocateShells followed pastRecord
-        shells-made l n =
-            rw (b, ← w, f .sound, d, size-found f, ← h, ← a, g, le-leb (at + (r + p + header)) m l, ← n)
+      shells-made g n =
+          let w = x .here .walk in
+          let f = x .here .found in
+          rw (w .below s l, ← w .walked s l, f .sound, x .needed, size-found f, ← x .other, ← x .place, other-long x _ _, le-leb (at + (r + p + header)) (length h0) g, ← n)

@@ -9,17 +9,15 @@ use lib.ListN.{length, length-map, getD, set, take}
 use lib.Seq.{getD-take, length-take-le, sets}
 use borrow.Author.Tests.{lt-ltb, le-ltb, le-leb, lt-leb, leb-true, leb-false, not-true, not-false}
 use Rattle.rules.specs.Refusals.{Tested, refused, passed}
-use Rattle.rules.specs.Memory.{Memory, word, put, refs, sound, follow, followed, colourAt, grey, black, header}
+use Rattle.rules.specs.Memory.{Memory, word, put, refs, sound, followed, colourAt, grey, black, header}
 use Rattle.rules.specs.Control.{Store, withMemory, withWalk, withList, withSessions, globalCount}
 use Rattle.rules.specs.Phases.{moveOn, lowestUnmarked, absent, sessionAt, withSession, withMark, unmarked}
 use Rattle.rules.specs.Barriers.{heapOf, listRoom, shading, shade}
 use Rattle.rules.specs.Collector.{rootMark, scanRecord, scanSession, heapMark, toShadeAll, shadeAll}
-use Rattle.rules.specs.declared.Followed.{Followed}
-use Rattle.rules.specs.declared.Followed.the-variants.{Sound, Damage}
 use Rattle.heap.specs.View.{memory, checked, Inside}
 use Rattle.heap.specs.declared.Checked.{Checked}
 use Rattle.heap.specs.declared.Checked.the-variants as check
-use Rattle.heap.proofs.Soundness.{found, lost, header-inside}
+use Rattle.heap.proofs.Soundness.{Found, header-inside}
 use Rattle.heap.proofs.Fields.{ref-inside}
 use Rattle.heap.proofs.Plans.{shading-known}
 use Rattle.store.specs.Cursors.{having, Ready}
@@ -76,38 +74,32 @@ module _ (s : Store) where
 
 -- ---- HeapMark: a listed record
 
-module _ {x : Followed} (s : Store) (a : s .memory .frontier0 ≤ length (s .memory .half0)) (b : s .memory .frontier1 ≤ length (s .memory .half1))
-    (v : ℕ) (e : x ≡ follow (s .memory) v) where
-  pub record-damage : x ≡ Damage → scanRecord s v ≡ refused 12
+module _ (s : Store) (v : ℕ) where
+  pub record-damage : sound (s .memory) v ≡ false → scanRecord s v ≡ refused 12
   unfolding scanRecord followed
-  record-damage d = rw (lost (s .memory) v e d)
+  record-damage d = rw d
 
-  module _ {at r p : ℕ} (f : x ≡ Sound at r p) where
-    pub colour-inside : Inside (s .memory .half0) (s .memory .half1) v colourAt
-    colour-inside =
-        let g = found (s .memory) v e f in
-        header-inside (s .memory .half0) (s .memory .half1) (s .memory .frontier0) (s .memory .frontier1) v (g .sound) a b 1 (omega arith)
-
-    pub field-inside : s .walk .field < r → Inside (s .memory .half0) (s .memory .half1) v (s .walk .field + header)
-    field-inside h =
-        let g = found (s .memory) v e f in
-        let c : s .walk .field + header ≡ header + s .walk .field = omega arith in
-        rw c (ref-inside (s .memory .half0) (s .memory .half1) (s .memory .frontier0) (s .memory .frontier1) v (g .sound) a b (s .walk .field) (rw (← g .refs) h))
-
+  module _ {at r p : ℕ} (f : Found (s .memory) v at r p) where
     pub field-next : {q : ℕ} → s .walk .field < r → q ≡ word (s .memory) v (s .walk .field + header)
         → scanRecord s v ≡ shadeNext s q (s .walk .place) (s .walk .field + 1)
     unfolding scanRecord followed shadeNext
     field-next h w =
-        let g = found (s .memory) v e f in
         let c : s .walk .field + header ≡ header + s .walk .field = omega arith in
-        rw (g .sound, ← g .refs, lt-ltb (s .walk .field) r h, w, c)
+        rw (f .sound, ← f .refs, lt-ltb (s .walk .field) r h, w, c)
 
     pub record-done : {N : Memory} → r ≤ s .walk .field → N ≡ put (s .memory) v colourAt black
         → scanRecord s v ≡ passed (withWalk (withList (withMemory s N) (s .list .words) (s .list .head + 1) (s .list .tail)) (s .walk .place) 0)
     unfolding scanRecord followed
-    record-done h w =
-        let g = found (s .memory) v e f in
-        rw (g .sound, ← g .refs, le-ltb (s .walk .field) r h, w)
+    record-done h w = rw (f .sound, ← f .refs, le-ltb (s .walk .field) r h, w)
+
+module _ {c : Cursor} {h0 h1 : List ℕ} {v at r p : ℕ} (k : Ready c h0 h1) (f : Found (memory h0 h1 (c .frontier0) (c .frontier1)) v at r p) where
+  pub colour-inside : Inside h0 h1 v colourAt
+  colour-inside = header-inside h0 h1 _ _ v (f .sound) (k .low) (k .high) 1 (omega arith)
+
+  pub field-inside : (i : ℕ) → i < r → Inside h0 h1 v (i + header)
+  field-inside i h =
+      let e : i + header ≡ header + i = omega arith in
+      rw e (ref-inside h0 h1 _ _ v (f .sound) (k .low) (k .high) i (rw (← f .refs) h))
 
 -- ---- HeapMark: the registers of a session
 

@@ -42,15 +42,15 @@ module _ {g : ℕ} (s : Store) (n : ℕ) (e : g ≡ refusalOf (sessionOf s n)) w
   within m = held (sessionAt s n) (inRange s) (leb n lastSession) (sessionAt s n .attached) (λ z. m (e ∙ z))
 
 -- past test 4 the ranges hold
-module _ (c : tie.Else1) where
+module _ (c : tie.After-c) where
   abbrev lent : tie.Start
-  lent = c .before .before .before .before .before .before .before .before
+  lent = c .before .before .before .before .before .before .before .before .before
 
   abbrev entered : Store
   entered = view (lent .args .self) (lent .args .h0 .now) (lent .args .h1 .now) (lent .args .list .now)
 
   tested : inRange entered ≡ true
-  tested = within _ 0 (c .before .session-tests .ensures) (c .if1 .left)
+  tested = within _ 0 (c .before .before .session-tests .ensures) (c .before .if1 .left)
 
   known : InRange entered
   known = in-range _ tested
@@ -66,51 +66,49 @@ same-length-3 c = search needs
 
 returns : tie.Need-returns
 returns c =
-    let c1 = c .before in
-    let start = c1 .before .before .before .before .before .before .before in
-    let a = start .args in
+    let a = c .before .before .before .before .before .before .before .before .args in
     let s = view (a .self) (a .h0 .now) (a .h1 .now) (a .list .now) in
-    step-refused s (out s 0 (c1 .session-tests .ensures) (c .if1 .taken))
+    step-refused s (out s 0 (c .before .session-tests .ensures) (c .if1 .taken))
 
 rest-requires : tie.Need-rest-requires
-rest-requires c κs = known (c .before .before) .phases
+rest-requires c κs = known (c .before) .phases
 
 root-mark-requires : tie.Need-root-mark-requires
 root-mark-requires c κs =
-    let k = known (c .before .before .before .before .before .before) in
+    let k = known (c .before .before .before .before .before) in
     (ready _ k, ends _ k)
 
 heap-mark-requires : tie.Need-heap-mark-requires
 heap-mark-requires c κs =
-    let k = known (c .before .before .before .before .before .before) in
+    let k = known (c .before .before .before .before .before) in
     (ready _ k, ends _ k)
 
 have-level-requires : tie.Need-have-level-requires
-have-level-requires c κs = known (c .before .before) .phases
+have-level-requires c κs = known (c .before) .phases
 
 allocate-shells-requires : tie.Need-allocate-shells-requires
-allocate-shells-requires c κs = ready _ (known (c .before .before .before .before .before))
+allocate-shells-requires c κs = ready _ (known (c .before .before .before .before))
 
 copy-requires : tie.Need-copy-requires
-copy-requires c κs = ready _ (known (c .before .before .before .before))
+copy-requires c κs = ready _ (known (c .before .before .before))
 
 root-flip-requires : tie.Need-root-flip-requires
-root-flip-requires c κs = ready _ (known (c .before .before .before .before .before))
+root-flip-requires c κs = ready _ (known (c .before .before .before .before))
 
 stack-flip-requires : tie.Need-stack-flip-requires
-stack-flip-requires c κs = ready _ (known (c .before .before .before .before .before))
+stack-flip-requires c κs = ready _ (known (c .before .before .before .before))
 
 have-level-requires-2 : tie.Need-have-level-requires-2
-have-level-requires-2 c κs = known (c .before .before) .phases
+have-level-requires-2 c κs = known (c .before) .phases
 
 reclaim-requires : tie.Need-reclaim-requires
-reclaim-requires c κs = ready _ (known (c .before .before .before .before .before))
+reclaim-requires c κs = ready _ (known (c .before .before .before .before))
 
 have-level-requires-3 : tie.Need-have-level-requires-3
-have-level-requires-3 c κs = known (c .before .before) .phases
+have-level-requires-3 c κs = known (c .before) .phases
 
 handshake-requires : tie.Need-handshake-requires
-handshake-requires c κs = known (c .before .before .before) .phases
+handshake-requires c κs = known (c .before .before) .phases
 
 same-length-4 : tie.Need-same-length-4
 same-length-4 c = search needs
@@ -123,10 +121,9 @@ same-length-6 c = search needs
 
 returns-2 : tie.Need-returns-2
 returns-2 c =
-    let c1 = c .before in
-    let c2 = c1 .before .before in
-    let s = entered c2 in
-    step-done s (tested c2) atRest (c1 .match .keys1) (c .rest .ensures s (s .memory .half0) (s .memory .half1) (s .list .words))
+    let m = c .before in
+    let s = entered (m .before) in
+    step-done s (tested (m .before)) atRest (m .match .keys1) (c .rest .ensures s (s .memory .half0) (s .memory .half1) (s .list .words))
 
 same-length-7 : tie.Need-same-length-7
 same-length-7 c = search needs
@@ -139,11 +136,9 @@ same-length-9 c = search needs
 
 returns-3 : tie.Need-returns-3
 returns-3 c =
-    let c1 = c .before .before .before .before .before .before in
-    let c2 = c1 .before .before .before .before .before in
-    let c3 = c2 .before .before in
-    let s = entered c3 in
-    step-done s (tested c3) atRootMark (c2 .match .keys2) (c1 .root-mark .ensures s refl)
+    let m = c .before .before .before .before .before .before .before .before .before .before .before in
+    let s = entered (m .before) in
+    step-done s (tested (m .before)) atRootMark (m .match .keys2) (c .before .before .before .before .before .before .root-mark .ensures s refl)
 
 same-length-10 : tie.Need-same-length-10
 same-length-10 c = search needs
@@ -156,11 +151,9 @@ same-length-12 c = search needs
 
 returns-4 : tie.Need-returns-4
 returns-4 c =
-    let c1 = c .before .before .before .before .before .before in
-    let c2 = c1 .before .before .before .before .before in
-    let c3 = c2 .before .before in
-    let s = entered c3 in
-    step-done s (tested c3) atHeapMark (c2 .match .keys3) (c1 .heap-mark .ensures s refl)
+    let m = c .before .before .before .before .before .before .before .before .before .before .before in
+    let s = entered (m .before) in
+    step-done s (tested (m .before)) atHeapMark (m .match .keys3) (c .before .before .before .before .before .before .heap-mark .ensures s refl)
 
 same-length-13 : tie.Need-same-length-13
 same-length-13 c = search needs
@@ -173,13 +166,9 @@ same-length-15 c = search needs
 
 returns-5 : tie.Need-returns-5
 returns-5 c =
-    let c1 = c .before .before .before .before in
-    let c2 = c1 .before .before .before in
-    let c3 = c2 .before in
-    let c4 = c3 .before .before in
-    let s = entered c4 in
-    step-done s (tested c4) atAllocate (c3 .match .keys4)
-    (c1 .allocate-shells .ensures s (s .list .words) (c2 .have-level .ensures (s .memory .half0) (s .memory .half1) (s .list .words)))
+    let m = c .before .before .before .before .before .before .before .before in
+    let s = entered (m .before) in
+    step-done s (tested (m .before)) atAllocate (m .match .keys4) (c .before .before .before .before .allocate-shells .ensures s (s .list .words) (c .before .before .before .before .before .before .before .have-level .ensures (s .memory .half0) (s .memory .half1) (s .list .words)))
 
 same-length-16 : tie.Need-same-length-16
 same-length-16 c = search needs
@@ -192,11 +181,9 @@ same-length-18 c = search needs
 
 returns-6 : tie.Need-returns-6
 returns-6 c =
-    let c1 = c .before .before .before .before in
-    let c2 = c1 .before .before .before in
-    let c3 = c2 .before .before in
-    let s = entered c3 in
-    step-done s (tested c3) atCopy (c2 .match .keys5) (c1 .copy .ensures s (s .list .words))
+    let m = c .before .before .before .before .before .before .before in
+    let s = entered (m .before) in
+    step-done s (tested (m .before)) atCopy (m .match .keys5) (c .before .before .before .before .copy .ensures s (s .list .words))
 
 same-length-19 : tie.Need-same-length-19
 same-length-19 c = search needs
@@ -209,10 +196,9 @@ same-length-21 c = search needs
 
 returns-7 : tie.Need-returns-7
 returns-7 c =
-    let c1 = c .before .before .before .before in
-    let c2 = c1 .before .before in
-    let s = entered c2 in
-    step-done s (tested c2) atRootFlip (c1 .match .keys6) (c .root-flip .ensures s (s .list .words) refl)
+    let m = c .before .before .before .before in
+    let s = entered (m .before) in
+    step-done s (tested (m .before)) atRootFlip (m .match .keys6) (c .root-flip .ensures s (s .list .words) refl)
 
 same-length-22 : tie.Need-same-length-22
 same-length-22 c = search needs
@@ -225,10 +211,9 @@ same-length-24 c = search needs
 
 returns-8 : tie.Need-returns-8
 returns-8 c =
-    let c1 = c .before .before .before .before in
-    let c2 = c1 .before .before in
-    let s = entered c2 in
-    step-done s (tested c2) atStackFlip (c1 .match .keys7) (c .stack-flip .ensures s (s .list .words) refl)
+    let m = c .before .before .before .before in
+    let s = entered (m .before) in
+    step-done s (tested (m .before)) atStackFlip (m .match .keys7) (c .stack-flip .ensures s (s .list .words) refl)
 
 same-length-25 : tie.Need-same-length-25
 same-length-25 c = search needs
@@ -241,12 +226,9 @@ same-length-27 c = search needs
 
 returns-9 : tie.Need-returns-9
 returns-9 c =
-    let c1 = c .before .before .before .before in
-    let c2 = c1 .before .before .before in
-    let c3 = c2 .before in
-    let c4 = c3 .before .before in
-    let s = entered c4 in
-    step-done s (tested c4) atReclaim (c3 .match .keys8) (c1 .reclaim .ensures s (s .list .words) (c2 .have-level2 .ensures (s .memory .half0) (s .memory .half1) (s .list .words)))
+    let m = c .before .before .before .before .before .before .before .before in
+    let s = entered (m .before) in
+    step-done s (tested (m .before)) atReclaim (m .match .keys8) (c .before .before .before .before .reclaim .ensures s (s .list .words) (c .before .before .before .before .before .before .before .have-level2 .ensures (s .memory .half0) (s .memory .half1) (s .list .words)))
 
 same-length-28 : tie.Need-same-length-28
 same-length-28 c = search needs
@@ -259,15 +241,13 @@ same-length-30 c = search needs
 
 returns-10 : tie.Need-returns-10
 returns-10 c =
-    let c1 = c .before in
-    let c2 = c1 .before in
-    let c3 = c2 .before .before in
-    let s = entered c3 in
-    let r = c2 .match .rest in
+    let m = c .before .before in
+    let s = entered (m .before) in
+    let r = m .match .rest in
     let n = waits (s .phase) (r .0 .0 .0 .0 .0 .0 .0 .1) (r .0 .0 .0 .0 .0 .0 .1) (r .0 .0 .0 .0 .0 .1) (r .0 .0 .0 .0 .1)
     (r .0 .0 .0 .1) (r .0 .0 .1) (r .0 .1) (r .1) in
-    step-waits s (tested c3) n
-    (c .handshake .ensures s (s .memory .half0) (s .memory .half1) (s .list .words) (c1 .have-level3 .ensures (s .memory .half0) (s .memory .half1) (s .list .words)))
+    step-waits s (tested (m .before)) n
+    (c .handshake .ensures s (s .memory .half0) (s .memory .half1) (s .list .words) (c .before .have-level3 .ensures (s .memory .half0) (s .memory .half1) (s .list .words)))
 
 pub work-spec : {M : Type 1} → statement M
 work-spec =

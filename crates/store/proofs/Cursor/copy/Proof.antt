@@ -1,12 +1,33 @@
 -- At the frontier the step moves on; below it damage, the record passed over, or its next field copied.
 use native.Mathlib.Omega.{arith}
-use Rattle.heap.proofs.Soundness.{found, lost}
-use Rattle.store.proofs.tests.Flags.{no, yes}
-use Rattle.store.proofs.collector.Numbers.{header-of, goes, moves}
-use Rattle.store.proofs.collector.Copy.{replica-word, field-left, copy-ends, copy-lost, copy-passes, copy-copies}
+use Rattle.heap.proofs.Soundness.{lost}
+use Rattle.store.proofs.tests.Flags.{no}
+use Rattle.store.proofs.collector.Numbers.{goes, moves}
+use Rattle.store.proofs.collector.Walk.{AtWalk, AtRecord, at-walk, at-record, header-of, past}
+use Rattle.store.proofs.collector.Copy.{AtReplica, replica-word, copying, copy-ends, copy-lost, copy-passes, copy-copies}
 use borrow.Author.Needs.{needs}
 use Rattle.store.proofs.Cursor.copy.Statement.{statement}
 use Rattle.store.proofs.Cursor.copy.Tie as tie
+
+-- what is known at the walk's place
+abbrev entry : tie.After-walked → tie.Start
+entry c = c .before .before .before .before .before
+
+walk : (c : tie.After-walked) → let a = entry c .args in AtWalk (a .self) (a .h0 .now) (a .h1 .now) (c .walked .result)
+walk c = at-walk (entry c .pre) (c .before .before .below .ensures) (c .before .if1 .left) (c .walked .ensures)
+
+-- of the record found there
+abbrev place : tie.After-r → tie.After-walked
+place c = c .before .before .before .before .before
+
+known : (c : tie.After-r) → let a = entry (place c) .args in let x = c .r .given .0 in
+    AtRecord (a .self) (a .h0 .now) (a .h1 .now) (place c .walked .result) (x .0) (x .1 .0) (x .1 .1 .0)
+known c = at-record (walk (place c)) (c .before .before .follow .ensures) (c .r .given .1)
+
+-- and of its replica
+replica : (c : tie.After-get-word) → let r = c .before .before .before .before in let a = entry (place r) .args in let x = r .r .given .0 in
+    AtReplica (a .self) (a .h0 .now) (a .h1 .now) (place r .walked .result) (x .0) (x .1 .0) (x .1 .1 .0) (c .get-word .result)
+replica c = record { here = known (c .before .before .before .before); replica = replica-word _ _ (c .get-word .ensures _ _) }
 
 below-requires : tie.Need-below-requires
 below-requires c κs = search needs
@@ -15,10 +36,7 @@ move-on-requires : tie.Need-move-on-requires
 move-on-requires c κs = c .before .before .before .before .pre .phases
 
 returns : tie.Need-returns
-returns c =
-    let c1 = c .before in
-    let c2 = c1 .before in
-    λ s l. moves s _ _ _ l (c .move-on .ensures) (copy-ends _ (no (c2 .below .ensures s _ _ l) (c1 .if1 .taken)))
+returns c = λ s l. moves s _ _ _ l (c .move-on .ensures) (copy-ends _ (no (c .before .before .below .ensures s _ _ l) (c .before .if1 .taken)))
 
 walked-requires : tie.Need-walked-requires
 walked-requires c κs =
@@ -27,8 +45,8 @@ walked-requires c κs =
 
 follow-requires : tie.Need-follow-requires
 follow-requires c κs =
-    let start = c .before .before .before .before .before .before .before in
-    (start .pre .low, start .pre .high)
+    let k = entry (c .before .before) .pre in
+    (k .low, k .high)
 
 enum-known-r : tie.Need-enum-known-r
 enum-known-r c = search needs
@@ -43,19 +61,10 @@ same-length-2 : tie.Need-same-length-2
 same-length-2 c = search needs
 
 returns-2 : tie.Need-returns-2
-returns-2 c =
-    let c1 = c .before .before in
-    let c2 = c1 .before .before .before in
-    let c3 = c2 .before in
-    let c4 = c3 .before in
-    λ s l. copy-lost _ (yes (c4 .below .ensures s _ _ l) (c3 .if1 .left)) (c2 .walked .ensures s _ _ l) (lost _ _ (c1 .follow .ensures) (c .enum-told .given .1))
+returns-2 c = λ s l. copy-lost s l (walk (c .before .before .before .before .before)) (lost _ _ (c .before .before .follow .ensures) (c .enum-told .given .1))
 
 get-word-requires : tie.Need-get-word-requires
-get-word-requires c κs =
-    let c1 = c .before .before .before in
-    let c2 = c1 .before .before in
-    let c3 = c2 .before .before .before .before .before .before .before .before in
-    header-of (c3 .pre) (found _ _ (c2 .follow .ensures) (c1 .r .given .1)) 2 (omega arith)
+get-word-requires c κs = header-of (known (c .before .before .before)) 2 (omega arith)
 
 cast-n : tie.Need-cast-n
 cast-n c = search needs
@@ -70,12 +79,7 @@ add-past-record : tie.Need-add-past-record
 add-past-record c = search needs
 
 past-record-requires : tie.Need-past-record-requires
-past-record-requires c κs =
-    let c1 = c .before .before .before .before .before .before in
-    let c2 = c1 .before .before in
-    let c3 = c2 .before .before .before .before .before .before .before .before in
-    let f = found _ _ (c2 .follow .ensures) (c1 .r .given .1) in
-    (c3 .pre .places, omega arith)
+past-record-requires c κs = past (known (c .before .before .before .before .before .before))
 
 same-length-3 : tie.Need-same-length-3
 same-length-3 c = search needs
@@ -84,28 +88,10 @@ same-length-4 : tie.Need-same-length-4
 same-length-4 c = search needs
 
 returns-3 : tie.Need-returns-3
-returns-3 c =
-    let c1 = c .before in
-    let c2 = c1 .before .before in
-    let c3 = c2 .before .before .before .before in
-    let c4 = c3 .before .before in
-    let c5 = c4 .before .before .before in
-    let c6 = c5 .before in
-    let c7 = c6 .before in
-    λ s l. goes _ (c .past-record .ensures)
-    (copy-passes _ (yes (c7 .below .ensures s _ _ l) (c6 .if1 .left)) (c5 .walked .ensures s _ _ l) (found _ _ (c4 .follow .ensures) (c3 .r .given .1))
-    (replica-word _ _ (c2 .get-word .ensures _ _)) (c1 .if2 .taken))
+returns-3 c = λ s l. goes _ (c .past-record .ensures) (copy-passes (replica (c .before .before .before)) s l (c .before .if2 .taken))
 
 copy-field-requires : tie.Need-copy-field-requires
-copy-field-requires c κs =
-    let c1 = c .before .before in
-    let c2 = c1 .before .before in
-    let c3 = c2 .before .before .before .before in
-    let c4 = c3 .before .before in
-    let c5 = c4 .before .before .before .before .before .before .before .before in
-    let f = found _ _ (c4 .follow .ensures) (c3 .r .given .1) in
-    let y = replica-word _ _ (c2 .get-word .ensures _ _) in
-    record { ranges = c5 .pre; here = f .sound; replica = y; count = f .refs; left = field-left f y (c1 .if2 .left) }
+copy-field-requires c κs = copying (replica (c .before .before .before .before)) (c .before .before .if2 .left)
 
 same-length-5 : tie.Need-same-length-5
 same-length-5 c = search needs
@@ -114,17 +100,7 @@ same-length-6 : tie.Need-same-length-6
 same-length-6 c = search needs
 
 returns-4 : tie.Need-returns-4
-returns-4 c =
-    let c1 = c .before .before .before .before in
-    let c2 = c1 .before .before .before in
-    let c3 = c2 .before .before in
-    let c4 = c3 .before .before .before .before in
-    let c5 = c4 .before .before in
-    let c6 = c5 .before .before .before in
-    let c7 = c6 .before in
-    let c8 = c7 .before in
-    λ s l. copy-copies _ (yes (c8 .below .ensures s _ _ l) (c7 .if1 .left)) (c6 .walked .ensures s _ _ l) (found _ _ (c5 .follow .ensures) (c4 .r .given .1))
-    (replica-word _ _ (c3 .get-word .ensures _ _)) (c2 .if2 .left) (c1 .copy-field .ensures s l)
+returns-4 c = λ s l. copy-copies (replica (c .before .before .before .before .before .before .before .before .before)) s l (c .before .before .before .before .before .before .before .if2 .left) (c .before .before .before .before .copy-field .ensures s l)
 
 pub copy-spec : {M : Type 1} → statement M
 copy-spec =

@@ -1,12 +1,27 @@
 -- Waiting for level 0, the other half emptied, damage, or the next record's replica word cleared.
 use native.Mathlib.Omega.{arith}
-use Rattle.heap.proofs.Soundness.{found, lost}
+use Rattle.heap.proofs.Soundness.{lost}
 use Rattle.store.proofs.tests.Flags.{no, yes}
-use Rattle.store.proofs.collector.Numbers.{header-of, goes, empties}
-use Rattle.store.proofs.collector.Walk.{reclaim-waits, reclaim-ends, reclaim-lost, reclaim-clears}
+use Rattle.store.proofs.collector.Numbers.{goes, empties}
+use Rattle.store.proofs.collector.Walk.{AtWalk, AtRecord, at-walk, at-record, header-of, past, reclaim-waits, reclaim-ends, reclaim-lost, reclaim-clears}
 use borrow.Author.Needs.{needs}
 use Rattle.store.proofs.Cursor.reclaim.Statement.{statement}
 use Rattle.store.proofs.Cursor.reclaim.Tie as tie
+
+-- what is known at the walk's place
+abbrev entry : tie.After-walked → tie.Start
+entry c = c .before .before .before .before .before .before
+
+walk : (c : tie.After-walked) → let a = entry c .args in AtWalk (a .self) (a .h0 .now) (a .h1 .now) (c .walked .result)
+walk c = at-walk (entry c .pre) (c .before .before .below .ensures) (c .before .if2 .left) (c .walked .ensures)
+
+-- and of the record found there
+abbrev place : tie.After-r → tie.After-walked
+place c = c .before .before .before .before .before
+
+known : (c : tie.After-r) → let a = entry (place c) .args in let x = c .r .given .0 in
+    AtRecord (a .self) (a .h0 .now) (a .h1 .now) (place c .walked .result) (x .0) (x .1 .0) (x .1 .1 .0)
+known c = at-record (walk (place c)) (c .before .before .follow .ensures) (c .r .given .1)
 
 returns : tie.Need-returns
 returns c = λ s l e. reclaim-waits _ (no e (c .if1 .taken))
@@ -25,23 +40,19 @@ move-on-requires c κs = rw (c .with-frontier .ensures) (c .before .before .befo
 
 returns-2 : tie.Need-returns-2
 returns-2 c =
-    let c1 = c .before in
-    let c2 = c1 .before in
-    let c3 = c2 .before in
-    let c4 = c3 .before in
-    let c5 = c4 .before in
-    λ s l e. empties s _ _ _ l _ (c1 .with-frontier .ensures) (c .move-on .ensures)
-    (reclaim-ends _ (yes e (c5 .if1 .left)) (no (c4 .below .ensures s _ _ l) (c3 .if2 .taken)) (c2 .other-half .ensures))
+    let b = c .before .before .before .before in
+    λ s l e. empties s _ _ _ l _ (c .before .with-frontier .ensures) (c .move-on .ensures)
+    (reclaim-ends _ (yes e (b .before .if1 .left)) (no (b .below .ensures s _ _ l) (c .before .before .before .if2 .taken)) (c .before .before .other-half .ensures))
 
 walked-requires : tie.Need-walked-requires
 walked-requires c κs =
-    let start = c .before .before .before .before .before in
-    (start .pre .half, start .pre .places)
+    let k = c .before .before .before .before .before .pre in
+    (k .half, k .places)
 
 follow-requires : tie.Need-follow-requires
 follow-requires c κs =
-    let start = c .before .before .before .before .before .before .before .before in
-    (start .pre .low, start .pre .high)
+    let k = entry (c .before .before) .pre in
+    (k .low, k .high)
 
 enum-known-r : tie.Need-enum-known-r
 enum-known-r c = search needs
@@ -57,20 +68,11 @@ same-length-2 c = search needs
 
 returns-3 : tie.Need-returns-3
 returns-3 c =
-    let c1 = c .before .before in
-    let c2 = c1 .before .before .before in
-    let c3 = c2 .before in
-    let c4 = c3 .before in
-    let c5 = c4 .before in
-    λ s l e. reclaim-lost _ (yes e (c5 .if1 .left)) (yes (c4 .below .ensures s _ _ l) (c3 .if2 .left)) (c2 .walked .ensures s _ _ l)
-    (lost _ _ (c1 .follow .ensures) (c .enum-told .given .1))
+    let w = c .before .before .before .before .before in
+    λ s l e. reclaim-lost s l (yes e (w .before .before .before .if1 .left)) (walk w) (lost _ _ (c .before .before .follow .ensures) (c .enum-told .given .1))
 
 put-word-requires : tie.Need-put-word-requires
-put-word-requires c κs =
-    let c1 = c .before .before .before in
-    let c2 = c1 .before .before in
-    let start = c2 .before .before .before .before .before .before .before .before .before in
-    header-of (start .pre) (found _ _ (c2 .follow .ensures) (c1 .r .given .1)) 2 (omega arith)
+put-word-requires c κs = header-of (known (c .before .before .before)) 2 (omega arith)
 
 cast-past-record : tie.Need-cast-past-record
 cast-past-record c = search needs
@@ -85,12 +87,7 @@ add-past-record-2 : tie.Need-add-past-record-2
 add-past-record-2 c = search needs
 
 past-record-requires : tie.Need-past-record-requires
-past-record-requires c κs =
-    let c1 = c .before .before .before .before .before .before .before .before in
-    let c2 = c1 .before .before in
-    let start = c2 .before .before .before .before .before .before .before .before .before in
-    let f = found _ _ (c2 .follow .ensures) (c1 .r .given .1) in
-    (start .pre .places, omega arith)
+past-record-requires c κs = past (known (c .before .before .before .before .before .before .before .before))
 
 same-length-3 : tie.Need-same-length-3
 same-length-3 c = search needs
@@ -100,16 +97,9 @@ same-length-4 c = search needs
 
 returns-4 : tie.Need-returns-4
 returns-4 c =
-    let c1 = c .before .before .before .before .before in
-    let c2 = c1 .before .before .before .before in
-    let c3 = c2 .before .before in
-    let c4 = c3 .before .before .before in
-    let c5 = c4 .before in
-    let c6 = c5 .before in
-    let c7 = c6 .before in
+    let r = c .before .before .before .before .before .before .before .before .before in
     λ s l e. goes _ (c .past-record .ensures)
-    (reclaim-clears _ (yes e (c7 .if1 .left)) (yes (c6 .below .ensures s _ _ l) (c5 .if2 .left)) (c4 .walked .ensures s _ _ l)
-    (found _ _ (c3 .follow .ensures) (c2 .r .given .1)) (c1 .put-word .ensures _ _))
+    (reclaim-clears s l (yes e (place r .before .before .before .if1 .left)) (known r) (c .before .before .before .before .before .put-word .ensures _ _))
 
 pub reclaim-spec : {M : Type 1} → statement M
 reclaim-spec =

@@ -1,21 +1,32 @@
 -- Damage is refused; else the next reference field is shaded, or the record coloured black.
 use native.Mathlib.Omega.{arith}
 use Rattle.rules.specs.Control.{Store}
+use Rattle.heap.specs.View.{memory}
+use Rattle.heap.proofs.Soundness.{Found, found, lost}
 use Rattle.store.specs.Cursors.{having}
-use Rattle.store.proofs.collector.Numbers.{some}
 use Rattle.store.proofs.shading.Phases.{record-damage, colour-inside, field-inside, field-next, record-done}
 use borrow.Author.Needs.{needs}
 use Rattle.store.proofs.Cursor.scan_record.Statement.{statement}
 use Rattle.store.proofs.Cursor.scan_record.Tie as tie
 
--- a store with these numbers over the words lent
-abbrev entered : tie.Start → Store → Store
-entered t s = having s (t .args .self) (t .args .h0 .now) (t .args .h1 .now) (t .args .list .now)
+-- the entry, from where the record is followed, and a store with these numbers over the words lent
+abbrev entry : tie.After-follow → tie.Start
+entry c = c .before .before .before .before .before .before
+
+abbrev entered : tie.After-follow → Store → Store
+entered c s =
+    let a = entry c .args in
+    having s (a .self) (a .h0 .now) (a .h1 .now) (a .list .now)
+
+-- the record found
+known : (c : tie.After-r) → let a = entry (c .before .before) .args in let x = c .r .given .0 in
+    Found (memory (a .h0 .now) (a .h1 .now) (a .self .frontier0) (a .self .frontier1)) (a .v) (x .0) (x .1 .0) (x .1 .1 .0)
+known c = found _ _ (c .before .before .follow .ensures) (c .r .given .1)
 
 follow-requires : tie.Need-follow-requires
 follow-requires c κs =
-    let start = c .before .before .before .before .before in
-    (start .pre .1 .low, start .pre .1 .high)
+    let k = c .before .before .before .before .before .pre .1 in
+    (k .low, k .high)
 
 enum-known-r : tie.Need-enum-known-r
 enum-known-r c = search needs
@@ -31,11 +42,8 @@ same-length-2 c = search needs
 
 returns : tie.Need-returns
 returns c =
-    let c1 = c .before .before in
-    let start = c1 .before .before .before .before .before .before in
-    λ s. rw
-    (record-damage (entered start s) (start .pre .1 .low)
-    (start .pre .1 .high) _ (c1 .follow .ensures) (c .enum-told .given .1))
+    let f = c .before .before in
+    λ s. rw (record-damage (entered f s) _ (lost _ _ (f .follow .ensures) (c .enum-told .given .1)))
 
 cast-if1 : tie.Need-cast-if1
 cast-if1 c = search needs
@@ -44,21 +52,15 @@ add-get-word : tie.Need-add-get-word
 add-get-word c = search needs
 
 get-word-requires : tie.Need-get-word-requires
-get-word-requires c κs =
-    let c1 = c .before .before in
-    let c2 = c1 .before .before in
-    let c3 = c2 .before .before in
-    let start = c3 .before .before .before .before .before .before in
-    field-inside (entered start some) (start .pre .1 .low)
-    (start .pre .1 .high) _ (c3 .follow .ensures) (c2 .r .given .1) (c1 .if1 .taken)
+get-word-requires c κs = field-inside (entry (c .before .before .before .before .before .before) .pre .1) (known (c .before .before .before .before)) _ (c .before .before .if1 .taken)
 
 add-shade-next : tie.Need-add-shade-next
 add-shade-next c = search needs
 
 shade-next-requires : tie.Need-shade-next-requires
 shade-next-requires c κs =
-    let start = c .before .before .before .before .before .before .before .before .before .before .before .before .before .before .before .before in
-    (start .pre .1, start .pre .2)
+    let k = entry (c .before .before .before .before .before .before .before .before .before .before) .pre in
+    (k .1, k .2)
 
 same-length-3 : tie.Need-same-length-3
 same-length-3 c = search needs
@@ -71,30 +73,16 @@ same-length-5 c = search needs
 
 returns-2 : tie.Need-returns-2
 returns-2 c =
-    let c1 = c .before .before .before .before .before .before in
-    let c2 = c1 .before .before .before .before in
-    let c3 = c2 .before .before .before in
-    let c4 = c3 .before .before in
-    let c5 = c4 .before .before in
-    let start = c5 .before .before .before .before .before .before in
-    λ s. rw
-    (field-next (entered start s) (start .pre .1 .low)
-    (start .pre .1 .high) _ (c5 .follow .ensures) (c4 .r .given .1) (c3 .if1 .taken) (c2 .get-word .ensures _ _))
-    (c1 .shade-next .ensures s)
+    let r = c .before .before .before .before .before .before .before .before .before .before .before .before .before .before .before in
+    λ s. rw (field-next (entered (r .before .before) s) _ (known r) (c .before .before .before .before .before .before .before .before .before .before .before .before .before .if1 .taken) (c .before .before .before .before .before .before .before .before .before .before .get-word .ensures _ _)) (c .before .before .before .before .before .before .shade-next .ensures s)
 
 put-word-requires : tie.Need-put-word-requires
-put-word-requires c κs =
-    let c1 = c .before .before .before .before in
-    let c2 = c1 .before .before in
-    let start = c2 .before .before .before .before .before .before in
-    colour-inside (entered start some) (start .pre .1 .low)
-    (start .pre .1 .high) _ (c2 .follow .ensures) (c1 .r .given .1)
+put-word-requires c κs = colour-inside (entry (c .before .before .before .before .before .before) .pre .1) (known (c .before .before .before .before))
 
 add-next : tie.Need-add-next
 add-next c =
-    let start = c .before .before .before .before .before .before .before .before .before .before .before .before .before .before .before .before
-    .before .before in
-    omega (arith, start .pre .0, start .pre .2)
+    let k = entry (c .before .before .before .before .before .before .before .before .before .before .before .before) .pre in
+    omega (arith, k .0, k .2)
 
 past-entry-requires : tie.Need-past-entry-requires
 past-entry-requires c κs = search needs
@@ -107,15 +95,9 @@ same-length-7 c = search needs
 
 returns-3 : tie.Need-returns-3
 returns-3 c =
-    let c1 = c .before .before .before .before .before .before in
-    let c2 = c1 .before .before .before in
-    let c3 = c2 .before .before in
-    let c4 = c3 .before .before in
-    let start = c4 .before .before .before .before .before .before in
+    let r = c .before .before .before .before .before .before .before .before .before .before .before in
     λ s. rw (
-      record-done (entered start s) (start .pre .1 .low)
-          (start .pre .1 .high) _ (c4 .follow .ensures) (c3 .r .given .1) (c2 .if1 .left)
-          (c1 .put-word .ensures (start .args .self .frontier0) (start .args .self .frontier1)),
+      record-done (entered (r .before .before) s) _ (known r) (c .before .before .before .before .before .before .before .before .before .if1 .left) (c .before .before .before .before .before .before .put-word .ensures _ _),
       c .past-entry .ensures,
     )
 
