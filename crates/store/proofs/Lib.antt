@@ -8,7 +8,7 @@ pub mod Flags
 pub mod Rows
 -- the tests of making, and what it hands back
 pub mod Made
--- a call on the record in a register, by what `held` answered
+-- what the opening of a call on the record in a register gives
 pub mod Worked
 -- a call by the number that its tests answer
 pub mod Guards
@@ -16,7 +16,7 @@ pub mod Guards
 pub mod Searches
 -- shading, and the bounds of the lent halves
 pub mod Shaded
--- a call on the record in a register, by what following it found
+-- the stretch of a record found
 pub mod Followed
 -- load by its plan
 pub mod Loads
