@@ -2,8 +2,8 @@
 use native.Mathlib.Omega.{arith}
 use Rattle.rules.specs.Phases.{sessionAt}
 use Rattle.rules.specs.Calls.{allocate}
-use Rattle.store.proofs.Guards.{refused-by}
-use Rattle.store.proofs.Allocating.{allocating, allocate-done}
+use Rattle.store.proofs.tests.Numbers.{refused-by}
+use Rattle.store.proofs.allocation.Tests.{allocating, allocate-done}
 use borrow.Author.Needs.{needs}
 use Rattle.store.proofs.Control.allocate.Statement.{statement}
 use Rattle.store.proofs.Control.allocate.Tie as tie

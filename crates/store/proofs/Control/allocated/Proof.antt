@@ -1,6 +1,6 @@
 -- The record of each level.
 use mathlib.Core.List.{[]}
-use Rattle.store.proofs.Placing.{below-at, other-small, fromspace-small, frontier-small, room-one, room-each, room-second, allocated-white, allocated-black, allocated-both}
+use Rattle.store.proofs.allocation.Record.{below-at, other-small, fromspace-small, frontier-small, room-one, room-each, room-second, allocated-white, allocated-black, allocated-both}
 use native.Mathlib.Omega.{arith}
 use borrow.Author.Needs.{needs}
 use Rattle.store.proofs.Control.allocated.Statement.{statement}

@@ -1,6 +1,6 @@
 -- The half by the session's level.
 use mathlib.Core.List.{[]}
-use Rattle.store.proofs.Placing.{below-at, other-small, fromspace-small, given-current, given-from, given-to}
+use Rattle.store.proofs.allocation.Record.{below-at, other-small, fromspace-small, given-current, given-from, given-to}
 use borrow.Author.Needs.{needs}
 use Rattle.store.proofs.Control.allocated_half.Statement.{statement}
 use Rattle.store.proofs.Control.allocated_half.Tie as tie

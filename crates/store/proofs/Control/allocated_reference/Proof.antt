@@ -1,6 +1,6 @@
 -- The reference of the copy that the register gets.
 use mathlib.Core.List.{[]}
-use Rattle.store.proofs.Placing.{below-at, frontier-small, given}
+use Rattle.store.proofs.allocation.Record.{below-at, frontier-small, given}
 use borrow.Author.Needs.{needs}
 use Rattle.store.proofs.Control.allocated_reference.Statement.{statement}
 use Rattle.store.proofs.Control.allocated_reference.Tie as tie

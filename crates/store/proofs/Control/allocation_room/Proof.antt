@@ -1,6 +1,6 @@
 -- Room in the halves that are written.
 use native.Mathlib.Omega.{arith}
-use Rattle.store.proofs.Allocating.{room-two, room-low, room-high}
+use Rattle.store.proofs.allocation.Tests.{room-two, room-low, room-high}
 use Rattle.store.proofs.Control.allocation_room.Statement.{statement}
 use Rattle.store.proofs.Control.allocation_room.Tie as tie
 

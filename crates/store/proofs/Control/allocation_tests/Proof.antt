@@ -6,8 +6,8 @@ use lib.Dec.{leb}
 use borrow.Author.Tests.{le-leb, lt-leb, not-true, not-false}
 use Rattle.rules.specs.Phases.{sessionAt}
 use Rattle.rules.specs.Calls.{allocate}
-use Rattle.store.proofs.Guards.{turned-away, let-in, known}
-use Rattle.store.proofs.Allocating.{fits, small, tests-passed, tests-no-room}
+use Rattle.store.proofs.tests.Numbers.{turned-away, let-in, known}
+use Rattle.store.proofs.allocation.Tests.{fits, small, tests-passed, tests-no-room}
 use borrow.Author.Needs.{needs}
 use Rattle.store.proofs.Control.allocation_tests.Statement.{statement}
 use Rattle.store.proofs.Control.allocation_tests.Tie as tie

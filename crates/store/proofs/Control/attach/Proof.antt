@@ -1,7 +1,7 @@
 -- Attach goes by the number of the session tests: 0 is 7, 6 passes, any other is the refusal.
 use native.Mathlib.Omega.{arith}
 use Rattle.rules.specs.Phases.{withSession, sessionAt}
-use Rattle.store.proofs.Guards.{attached-already, not-attachable, attachable}
+use Rattle.store.proofs.tests.Numbers.{attached-already, not-attachable, attachable}
 use borrow.Author.Needs.{needs}
 use Rattle.store.proofs.Control.attach.Statement.{statement}
 use Rattle.store.proofs.Control.attach.Tie as tie

@@ -2,7 +2,7 @@
 use native.Mathlib.Omega.{arith}
 use Rattle.rules.specs.Calls.{withRegister}
 use Rattle.rules.specs.Phases.{withSession, sessionAt}
-use Rattle.store.proofs.Guards.{movable, not-cleared}
+use Rattle.store.proofs.tests.Numbers.{movable, not-cleared}
 use borrow.Author.Needs.{needs}
 use Rattle.store.proofs.Control.clear.Statement.{statement}
 use Rattle.store.proofs.Control.clear.Tie as tie

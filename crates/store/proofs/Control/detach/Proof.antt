@@ -2,7 +2,7 @@
 use native.Mathlib.Omega.{arith}
 use Rattle.rules.specs.Phases.{withSession, sessionAt}
 use Rattle.rules.specs.Calls.{detach}
-use Rattle.store.proofs.Guards.{turned-away, let-in, known}
+use Rattle.store.proofs.tests.Numbers.{turned-away, let-in, known}
 use borrow.Author.Needs.{needs}
 use Rattle.store.proofs.Control.detach.Statement.{statement}
 use Rattle.store.proofs.Control.detach.Tie as tie

@@ -2,7 +2,7 @@
 use native.Mathlib.Omega.{arith}
 use Rattle.rules.specs.Calls.{withRegister, get}
 use Rattle.rules.specs.Phases.{withSession, sessionAt}
-use Rattle.store.proofs.Guards.{refused-by, gettable}
+use Rattle.store.proofs.tests.Numbers.{refused-by, gettable}
 use borrow.Author.Needs.{needs}
 use Rattle.store.proofs.Control.get.Statement.{statement}
 use Rattle.store.proofs.Control.get.Tie as tie

@@ -1,7 +1,7 @@
 -- The tests in order: each path answers the number of the first that fails.
 use borrow.Author.Tests.{le-leb, lt-leb}
 use Rattle.rules.specs.Calls.{get}
-use Rattle.store.proofs.Guards.{turned-away, let-in}
+use Rattle.store.proofs.tests.Numbers.{turned-away, let-in}
 use borrow.Author.Needs.{needs}
 use Rattle.store.proofs.Control.get_tests.Statement.{statement}
 use Rattle.store.proofs.Control.get_tests.Tie as tie

@@ -2,8 +2,8 @@
 use mathlib.Core.Path.{_≡_}
 use lib.ListN.{length}
 use Rattle.rules.specs.Collector.{haveLevel}
-use Rattle.store.proofs.Marked.{unmapped}
-use Rattle.store.proofs.Searches.{lowest, all-at}
+use Rattle.store.proofs.shading.Phases.{unmapped}
+use Rattle.store.proofs.session.Search.{lowest, all-at}
 use borrow.Author.Needs.{needs}
 use Rattle.store.proofs.Control.have_level.Statement.{statement}
 use Rattle.store.proofs.Control.have_level.Tie as tie

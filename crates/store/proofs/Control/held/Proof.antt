@@ -4,7 +4,7 @@ use lib.ListN.{getD}
 use borrow.Author.Tests.{eq-eqb, ne-eqb}
 use Rattle.rules.specs.Phases.{register, sessionAt, absent}
 use Rattle.rules.specs.Calls.{operandsOf}
-use Rattle.store.proofs.Guards.{turned-away, let-in, known, registers-out, registers-in, registers-known}
+use Rattle.store.proofs.tests.Numbers.{turned-away, let-in, known, registers-out, registers-in, registers-known}
 use borrow.Author.Needs.{needs}
 use Rattle.store.proofs.Control.held.Statement.{statement}
 use Rattle.store.proofs.Control.held.Tie as tie

@@ -2,7 +2,7 @@
 use native.Mathlib.Omega.{arith}
 use Rattle.rules.specs.Calls.{withRegister}
 use Rattle.rules.specs.Phases.{withSession, sessionAt}
-use Rattle.store.proofs.Loads.{load-away, load-known, load-done}
+use Rattle.store.proofs.calls.Load.{load-away, load-known, load-done}
 use borrow.Author.Needs.{needs}
 use Rattle.store.proofs.Control.load.Statement.{statement}
 use Rattle.store.proofs.Control.load.Tie as tie

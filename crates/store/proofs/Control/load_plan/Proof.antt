@@ -1,7 +1,7 @@
 -- The tests of a load in order, then the field's word.
 use Rattle.rules.specs.Calls.{loadPlan}
 use Rattle.store.specs.View.{view}
-use Rattle.store.proofs.Worked.{Opened, away, lent, unsound, opened, ref-out, ref-in}
+use Rattle.store.proofs.tests.Opening.{Opened, away, lent, unsound, opened, ref-out, ref-in}
 use borrow.Author.Needs.{needs}
 use Rattle.store.proofs.Control.load_plan.Statement.{statement}
 use Rattle.store.proofs.Control.load_plan.Tie as tie

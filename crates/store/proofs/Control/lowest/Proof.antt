@@ -6,7 +6,7 @@ use native.Mathlib.Omega.{arith}
 use lib.ListN.{length, getD}
 use Rattle.rules.specs.Phases.{absent}
 use Rattle.store.specs.Searching.{isWanted}
-use Rattle.store.proofs.Searches.{none-more}
+use Rattle.store.proofs.session.Search.{none-more}
 use borrow.Author.Needs.{needs}
 use Rattle.store.proofs.Control.lowest.Statement.{statement}
 use Rattle.store.proofs.Control.lowest.Tie as tie

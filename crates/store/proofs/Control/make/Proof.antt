@@ -1,5 +1,5 @@
 -- Making: the fresh record with the lengths, or with 0 for each where a test failed.
-use Rattle.store.proofs.Made.{unmade, made}
+use Rattle.store.proofs.tests.Making.{unmade, made}
 use borrow.Author.Needs.{needs}
 use Rattle.store.proofs.Control.make.Statement.{statement}
 use Rattle.store.proofs.Control.make.Tie as tie

@@ -2,7 +2,7 @@
 use native.Mathlib.Omega.{arith}
 use Rattle.rules.specs.Calls.{withRegister, move}
 use Rattle.rules.specs.Phases.{withSession, sessionAt, register}
-use Rattle.store.proofs.Guards.{refused-by, movable}
+use Rattle.store.proofs.tests.Numbers.{refused-by, movable}
 use borrow.Author.Needs.{needs}
 use Rattle.store.proofs.Control.move_register.Statement.{statement}
 use Rattle.store.proofs.Control.move_register.Tie as tie

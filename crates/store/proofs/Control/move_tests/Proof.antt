@@ -1,6 +1,6 @@
 -- The tests in order: each path answers the number of the first that fails.
 use Rattle.rules.specs.Calls.{move}
-use Rattle.store.proofs.Guards.{turned-away, let-in}
+use Rattle.store.proofs.tests.Numbers.{turned-away, let-in}
 use borrow.Author.Needs.{needs}
 use Rattle.store.proofs.Control.move_tests.Statement.{statement}
 use Rattle.store.proofs.Control.move_tests.Tie as tie

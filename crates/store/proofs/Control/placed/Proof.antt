@@ -1,6 +1,6 @@
 -- The record written at the frontier, which moves past it.
 use native.Mathlib.Omega.{arith}
-use Rattle.store.proofs.Placing.{room-at, below-at, placed-at}
+use Rattle.store.proofs.allocation.Record.{room-at, below-at, placed-at}
 use borrow.Author.Needs.{needs}
 use Rattle.store.proofs.Control.placed.Statement.{statement}
 use Rattle.store.proofs.Control.placed.Tie as tie

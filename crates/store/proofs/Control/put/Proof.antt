@@ -4,7 +4,7 @@ use native.Mathlib.Omega.{arith}
 use Rattle.rules.specs.Control.{Store}
 use Rattle.rules.specs.declared.Writes.{Writes}
 use Rattle.store.specs.View.{view}
-use Rattle.store.proofs.Storing.{Next, unshaded, met, put-away, put-known-by, put-done}
+use Rattle.store.proofs.calls.Store.{Next, unshaded, met, put-away, put-known-by, put-done}
 use borrow.Author.Needs.{needs}
 use Rattle.store.proofs.Control.put.Statement.{statement}
 use Rattle.store.proofs.Control.put.Tie as tie

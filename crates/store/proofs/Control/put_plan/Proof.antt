@@ -2,9 +2,9 @@
 use native.Mathlib.Omega.{arith}
 use Rattle.rules.specs.Phases.{register, sessionAt}
 use Rattle.rules.specs.Calls.{putPlan}
-use Rattle.store.proofs.Guards.{turned-away, let-in, known}
-use Rattle.store.proofs.Shaded.{within}
-use Rattle.store.proofs.Storing.{put-register, put-global, put-unwritable, put-made}
+use Rattle.store.proofs.tests.Numbers.{turned-away, let-in, known}
+use Rattle.store.proofs.shading.Shade.{within}
+use Rattle.store.proofs.calls.Store.{put-register, put-global, put-unwritable, put-made}
 use borrow.Author.Needs.{needs}
 use Rattle.store.proofs.Control.put_plan.Statement.{statement}
 use Rattle.store.proofs.Control.put_plan.Tie as tie

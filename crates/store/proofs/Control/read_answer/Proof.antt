@@ -1,7 +1,7 @@
 -- What a read answers: the tests in order, then the field's word.
 use Rattle.rules.specs.Calls.{read}
 use Rattle.store.specs.View.{view}
-use Rattle.store.proofs.Worked.{Opened, away, lent, unsound, opened, plain-out, plain-in}
+use Rattle.store.proofs.tests.Opening.{Opened, away, lent, unsound, opened, plain-out, plain-in}
 use borrow.Author.Needs.{needs}
 use Rattle.store.proofs.Control.read_answer.Statement.{statement}
 use Rattle.store.proofs.Control.read_answer.Tie as tie

@@ -4,9 +4,9 @@ use native.Mathlib.Omega.{arith}
 use Rattle.rules.specs.Phases.{register, sessionAt}
 use Rattle.rules.specs.Calls.{same}
 use Rattle.heap.specs.View.{compared}
-use Rattle.store.proofs.Guards.{turned-away, let-in, known, registers-out, registers-in, registers-known}
-use Rattle.store.proofs.Shaded.{within}
-use Rattle.store.proofs.Comparing.{same-lost, same-answered}
+use Rattle.store.proofs.tests.Numbers.{turned-away, let-in, known, registers-out, registers-in, registers-known}
+use Rattle.store.proofs.shading.Shade.{within}
+use Rattle.store.proofs.calls.Same.{same-lost, same-answered}
 use borrow.Author.Needs.{needs}
 use Rattle.store.proofs.Control.same.Statement.{statement}
 use Rattle.store.proofs.Control.same.Tie as tie

@@ -3,7 +3,7 @@ use mathlib.Core.Path.{_∙_, sym}
 use borrow.Author.Tests.{lt-leb, le-leb}
 use Rattle.rules.specs.Phases.{sessionAt}
 use Rattle.rules.specs.Calls.{sessionOf}
-use Rattle.store.proofs.Flags.{yes, no}
+use Rattle.store.proofs.tests.Flags.{yes, no}
 use borrow.Author.Needs.{needs}
 use Rattle.store.proofs.Control.session_tests.Statement.{statement}
 use Rattle.store.proofs.Control.session_tests.Tie as tie

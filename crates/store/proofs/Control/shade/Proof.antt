@@ -1,6 +1,6 @@
 -- The record coloured, listed, and the marks cleared; nothing for null.
 use native.Mathlib.Omega.{arith}
-use Rattle.store.proofs.Shaded.{shade-null, shade-record}
+use Rattle.store.proofs.shading.Shade.{shade-null, shade-record}
 use borrow.Author.Needs.{needs}
 use Rattle.store.proofs.Control.shade.Statement.{statement}
 use Rattle.store.proofs.Control.shade.Tie as tie

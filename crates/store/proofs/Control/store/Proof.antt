@@ -5,7 +5,7 @@ use Rattle.rules.specs.Control.{Store}
 use Rattle.rules.specs.declared.Writes.{Writes}
 use Rattle.heap.proofs.Halves.{inside-kept}
 use Rattle.store.specs.View.{view}
-use Rattle.store.proofs.Storing.{Next, unshaded, met, store-away, store-known-by, store-done}
+use Rattle.store.proofs.calls.Store.{Next, unshaded, met, store-away, store-known-by, store-done}
 use borrow.Author.Needs.{needs}
 use Rattle.store.proofs.Control.store.Statement.{statement}
 use Rattle.store.proofs.Control.store.Tie as tie

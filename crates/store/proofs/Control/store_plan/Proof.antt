@@ -2,9 +2,9 @@
 use native.Mathlib.Omega.{arith}
 use Rattle.rules.specs.Calls.{storePlan}
 use Rattle.store.specs.View.{view}
-use Rattle.store.proofs.Shaded.{within}
-use Rattle.store.proofs.Worked.{Opened, away, lent, unsound, opened, ref-out}
-use Rattle.store.proofs.Storing.{plan-unwritable, plan-made}
+use Rattle.store.proofs.shading.Shade.{within}
+use Rattle.store.proofs.tests.Opening.{Opened, away, lent, unsound, opened, ref-out}
+use Rattle.store.proofs.calls.Store.{plan-unwritable, plan-made}
 use borrow.Author.Needs.{needs}
 use Rattle.store.proofs.Control.store_plan.Statement.{statement}
 use Rattle.store.proofs.Control.store_plan.Tie as tie

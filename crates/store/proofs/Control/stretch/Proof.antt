@@ -2,8 +2,8 @@
 use native.Mathlib.Omega.{arith}
 use Rattle.rules.specs.Calls.{stretch}
 use Rattle.store.specs.View.{view}
-use Rattle.store.proofs.Worked.{Opened, away, lent, unsound, opened}
-use Rattle.store.proofs.Followed.{span, stretch-within, stretch-small, stretched}
+use Rattle.store.proofs.tests.Opening.{Opened, away, lent, unsound, opened}
+use Rattle.store.proofs.calls.Stretch.{span, stretch-within, stretch-small, stretched}
 use borrow.Author.Needs.{needs}
 use Rattle.store.proofs.Control.stretch.Statement.{statement}
 use Rattle.store.proofs.Control.stretch.Tie as tie

@@ -1,6 +1,6 @@
 -- The companion of the stretch: the same tests.
 use Rattle.rules.specs.Calls.{stretch}
-use Rattle.store.proofs.Worked.{away, lent, unsound, opened}
+use Rattle.store.proofs.tests.Opening.{away, lent, unsound, opened}
 use borrow.Author.Needs.{needs}
 use Rattle.store.proofs.Control.stretch_answer.Statement.{statement}
 use Rattle.store.proofs.Control.stretch_answer.Tie as tie

@@ -5,7 +5,7 @@ use mathlib.Core.Bool.{false}
 use native.Mathlib.Omega.{arith}
 use lib.ListN.{length, getD}
 use Rattle.rules.specs.Phases.{absent, unmarked}
-use Rattle.store.proofs.Searches.{cleared-length, cleared-same, found-later, none-before, none-marked}
+use Rattle.store.proofs.session.Search.{cleared-length, cleared-same, found-later, none-before, none-marked}
 use borrow.Author.Needs.{needs}
 use Rattle.store.proofs.Control.unmarked.Statement.{statement}
 use Rattle.store.proofs.Control.unmarked.Tie as tie

@@ -2,9 +2,9 @@
 use mathlib.Core.Path.{_≡_}
 use lib.ListN.{length}
 use Rattle.store.specs.View.{view}
-use Rattle.store.proofs.Marked.{unmapped}
-use Rattle.store.proofs.Searches.{lowest, levels-in-range}
-use Rattle.store.proofs.Rows.{in-groups}
+use Rattle.store.proofs.shading.Phases.{unmapped}
+use Rattle.store.proofs.session.Search.{lowest, levels-in-range}
+use Rattle.store.proofs.tests.Range.{in-groups}
 use borrow.Author.Needs.{needs}
 use Rattle.store.proofs.Control.valid.Statement.{statement}
 use Rattle.store.proofs.Control.valid.Tie as tie

@@ -10,8 +10,8 @@ use Rattle.rules.specs.Phases.{sessionAt}
 use Rattle.rules.specs.Calls.{sessionOf}
 use Rattle.rules.proofs.Ranges.{InRange, in-range}
 use Rattle.store.specs.View.{view}
-use Rattle.store.proofs.Cursors.{ready, ends}
-use Rattle.store.proofs.Units.{waits, step-refused, step-done, step-waits}
+use Rattle.store.proofs.collector.Numbers.{ready, ends}
+use Rattle.store.proofs.collector.Step.{waits, step-refused, step-done, step-waits}
 use borrow.Author.Needs.{needs}
 use Rattle.store.proofs.Control.work.Statement.{statement}
 use Rattle.store.proofs.Control.work.Tie as tie

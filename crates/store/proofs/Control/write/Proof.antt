@@ -1,5 +1,5 @@
 -- Write: the tests, then the words written.
-use Rattle.store.proofs.Targets.{unwritten, writable, written}
+use Rattle.store.proofs.calls.Write.{unwritten, writable, written}
 use borrow.Author.Needs.{needs}
 use Rattle.store.proofs.Control.write.Statement.{statement}
 use Rattle.store.proofs.Control.write.Tie as tie

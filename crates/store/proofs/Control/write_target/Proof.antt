@@ -3,9 +3,9 @@ use native.Mathlib.Omega.{arith}
 use Rattle.rules.specs.Calls.{writePlan}
 use Rattle.heap.proofs.Answers.{word-refused, word-passed}
 use Rattle.store.specs.View.{view}
-use Rattle.store.proofs.Shaded.{within}
-use Rattle.store.proofs.Worked.{Opened, away, lent, unsound, opened, plain-out}
-use Rattle.store.proofs.Targets.{astray, target}
+use Rattle.store.proofs.shading.Shade.{within}
+use Rattle.store.proofs.tests.Opening.{Opened, away, lent, unsound, opened, plain-out}
+use Rattle.store.proofs.calls.Write.{astray, target}
 use borrow.Author.Needs.{needs}
 use Rattle.store.proofs.Control.write_target.Statement.{statement}
 use Rattle.store.proofs.Control.write_target.Tie as tie

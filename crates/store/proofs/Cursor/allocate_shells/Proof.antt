@@ -2,9 +2,9 @@
 use mathlib.Core.Path.{sym}
 use native.Mathlib.Omega.{arith}
 use Rattle.heap.proofs.Soundness.{found, lost}
-use Rattle.store.proofs.Flags.{no, yes}
-use Rattle.store.proofs.Cursors.{header-of, goes, shells}
-use Rattle.store.proofs.Shelling.{other-long, front-small, shell-ready, shells-done, shells-lost, shells-passed, shells-full, shells-made}
+use Rattle.store.proofs.tests.Flags.{no, yes}
+use Rattle.store.proofs.collector.Numbers.{header-of, goes, shells}
+use Rattle.store.proofs.collector.Shells.{other-long, front-small, shell-ready, shells-done, shells-lost, shells-passed, shells-full, shells-made}
 use borrow.Author.Needs.{needs}
 use Rattle.store.proofs.Cursor.allocate_shells.Statement.{statement}
 use Rattle.store.proofs.Cursor.allocate_shells.Tie as tie

@@ -1,9 +1,9 @@
 -- At the frontier the step moves on; below it damage, the record passed over, or its next field copied.
 use native.Mathlib.Omega.{arith}
 use Rattle.heap.proofs.Soundness.{found, lost}
-use Rattle.store.proofs.Flags.{no, yes}
-use Rattle.store.proofs.Cursors.{header-of, goes, moves}
-use Rattle.store.proofs.FieldCopies.{replica-word, field-left, copy-ends, copy-lost, copy-passes, copy-copies}
+use Rattle.store.proofs.tests.Flags.{no, yes}
+use Rattle.store.proofs.collector.Numbers.{header-of, goes, moves}
+use Rattle.store.proofs.collector.Copy.{replica-word, field-left, copy-ends, copy-lost, copy-passes, copy-copies}
 use borrow.Author.Needs.{needs}
 use Rattle.store.proofs.Cursor.copy.Statement.{statement}
 use Rattle.store.proofs.Cursor.copy.Tie as tie

@@ -1,7 +1,7 @@
 -- The replica followed, then a reference field or a plain one.
 use native.Mathlib.Omega.{arith}
 use Rattle.heap.proofs.Soundness.{found, lost}
-use Rattle.store.proofs.FieldCopies.{field-lost, field-ref, field-plain}
+use Rattle.store.proofs.collector.Copy.{field-lost, field-ref, field-plain}
 use borrow.Author.Needs.{needs}
 use Rattle.store.proofs.Cursor.copy_field.Statement.{statement}
 use Rattle.store.proofs.Cursor.copy_field.Tie as tie

@@ -3,8 +3,8 @@ use native.Mathlib.Omega.{arith}
 use Rattle.heap.proofs.Soundness.{header-inside}
 use Rattle.heap.proofs.Fields.{plain-inside}
 use Rattle.store.specs.Cursors.{having}
-use Rattle.store.proofs.Cursors.{goes}
-use Rattle.store.proofs.FieldCopies.{plain-short, plain-copied}
+use Rattle.store.proofs.collector.Numbers.{goes}
+use Rattle.store.proofs.collector.Copy.{plain-short, plain-copied}
 use borrow.Author.Needs.{needs}
 use Rattle.store.proofs.Cursor.copy_plain.Statement.{statement}
 use Rattle.store.proofs.Cursor.copy_plain.Tie as tie

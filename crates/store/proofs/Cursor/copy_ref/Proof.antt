@@ -5,8 +5,8 @@ use Rattle.heap.specs.View.{checked}
 use Rattle.heap.proofs.Soundness.{header-inside}
 use Rattle.heap.proofs.Fields.{ref-inside}
 use Rattle.store.specs.Cursors.{having}
-use Rattle.store.proofs.Cursors.{goes, bounds-within, forward-by}
-use Rattle.store.proofs.FieldCopies.{ref-short, ref-lost, ref-copied}
+use Rattle.store.proofs.collector.Numbers.{goes, bounds-within, forward-by}
+use Rattle.store.proofs.collector.Copy.{ref-short, ref-lost, ref-copied}
 use borrow.Author.Needs.{needs}
 use Rattle.store.proofs.Cursor.copy_ref.Statement.{statement}
 use Rattle.store.proofs.Cursor.copy_ref.Tie as tie

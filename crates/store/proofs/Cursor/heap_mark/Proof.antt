@@ -6,9 +6,9 @@ use lib.ListN.{length, getD}
 use Rattle.rules.specs.Phases.{absent}
 use Rattle.rules.specs.declared.Session.{Session}
 use Rattle.store.specs.Cursors.{having}
-use Rattle.store.proofs.Cursors.{moves}
-use Rattle.store.proofs.Marked.{unmapped, listed-next, session-next, marking-done}
-use Rattle.store.proofs.Searches.{lowest, lowest-of}
+use Rattle.store.proofs.collector.Numbers.{moves}
+use Rattle.store.proofs.shading.Phases.{unmapped, listed-next, session-next, marking-done}
+use Rattle.store.proofs.session.Search.{lowest, lowest-of}
 use borrow.Author.Needs.{needs}
 use Rattle.store.proofs.Cursor.heap_mark.Statement.{statement}
 use Rattle.store.proofs.Cursor.heap_mark.Tie as tie

@@ -1,9 +1,9 @@
 -- Waiting for level 0, the other half emptied, damage, or the next record's replica word cleared.
 use native.Mathlib.Omega.{arith}
 use Rattle.heap.proofs.Soundness.{found, lost}
-use Rattle.store.proofs.Flags.{no, yes}
-use Rattle.store.proofs.Cursors.{header-of, goes, empties}
-use Rattle.store.proofs.Walks.{reclaim-waits, reclaim-ends, reclaim-lost, reclaim-clears}
+use Rattle.store.proofs.tests.Flags.{no, yes}
+use Rattle.store.proofs.collector.Numbers.{header-of, goes, empties}
+use Rattle.store.proofs.collector.Walk.{reclaim-waits, reclaim-ends, reclaim-lost, reclaim-clears}
 use borrow.Author.Needs.{needs}
 use Rattle.store.proofs.Cursor.reclaim.Statement.{statement}
 use Rattle.store.proofs.Cursor.reclaim.Tie as tie

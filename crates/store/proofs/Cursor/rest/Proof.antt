@@ -1,5 +1,5 @@
 -- The list is emptied and the step moves on.
-use Rattle.store.proofs.Units.{rests}
+use Rattle.store.proofs.collector.Step.{rests}
 use borrow.Author.Needs.{needs}
 use Rattle.store.proofs.Cursor.rest.Statement.{statement}
 use Rattle.store.proofs.Cursor.rest.Tie as tie

@@ -6,8 +6,8 @@ use native.Mathlib.Omega.{arith}
 use lib.ListN.{getD}
 use Rattle.heap.specs.View.{checked}
 use Rattle.store.specs.Cursors.{having}
-use Rattle.store.proofs.Cursors.{moves, bounds-within, forward-by}
-use Rattle.store.proofs.Flips.{roots-done, root-lost, root-flips}
+use Rattle.store.proofs.collector.Numbers.{moves, bounds-within, forward-by}
+use Rattle.store.proofs.collector.Flip.{roots-done, root-lost, root-flips}
 use borrow.Author.Needs.{needs}
 use Rattle.store.proofs.Cursor.root_flip.Statement.{statement}
 use Rattle.store.proofs.Cursor.root_flip.Tie as tie

@@ -4,8 +4,8 @@ use mathlib.Core.Path.{ap}
 use mathlib.Core.List.{List}
 use lib.ListN.{getD}
 use Rattle.store.specs.Cursors.{having}
-use Rattle.store.proofs.Cursors.{moves}
-use Rattle.store.proofs.Marked.{roots-done, root-next}
+use Rattle.store.proofs.collector.Numbers.{moves}
+use Rattle.store.proofs.shading.Phases.{roots-done, root-next}
 use borrow.Author.Needs.{needs}
 use Rattle.store.proofs.Cursor.root_mark.Statement.{statement}
 use Rattle.store.proofs.Cursor.root_mark.Tie as tie

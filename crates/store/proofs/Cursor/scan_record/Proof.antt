@@ -2,8 +2,8 @@
 use native.Mathlib.Omega.{arith}
 use Rattle.rules.specs.Control.{Store}
 use Rattle.store.specs.Cursors.{having}
-use Rattle.store.proofs.Cursors.{some}
-use Rattle.store.proofs.Marked.{record-damage, colour-inside, field-inside, field-next, record-done}
+use Rattle.store.proofs.collector.Numbers.{some}
+use Rattle.store.proofs.shading.Phases.{record-damage, colour-inside, field-inside, field-next, record-done}
 use borrow.Author.Needs.{needs}
 use Rattle.store.proofs.Cursor.scan_record.Statement.{statement}
 use Rattle.store.proofs.Cursor.scan_record.Tie as tie

@@ -6,8 +6,8 @@ use lib.ListN.{length}
 use Rattle.rules.specs.Phases.{sessionAt}
 use Rattle.rules.specs.Barriers.{Heap}
 use Rattle.rules.specs.Collector.{toShadeAll}
-use Rattle.store.proofs.Cursors.{some, bounds-within}
-use Rattle.store.proofs.Marked.{Scanning, session-refused, session-marked, session-shaded, session-room, session-inside}
+use Rattle.store.proofs.collector.Numbers.{some, bounds-within}
+use Rattle.store.proofs.shading.Phases.{Scanning, session-refused, session-marked, session-shaded, session-room, session-inside}
 use borrow.Author.Needs.{needs}
 use Rattle.store.proofs.Cursor.scan_session.Statement.{statement}
 use Rattle.store.proofs.Cursor.scan_session.Tie as tie

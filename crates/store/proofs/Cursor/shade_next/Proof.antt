@@ -5,8 +5,8 @@ use Rattle.rules.specs.Control.{Store}
 use Rattle.rules.specs.Barriers.{Heap, heapOf, shading}
 use Rattle.heap.specs.View.{checked}
 use Rattle.store.specs.Cursors.{having}
-use Rattle.store.proofs.Cursors.{some, bounds-within}
-use Rattle.store.proofs.Marked.{next-damage, next-walked, next-shaded, next-allowed}
+use Rattle.store.proofs.collector.Numbers.{some, bounds-within}
+use Rattle.store.proofs.shading.Phases.{next-damage, next-walked, next-shaded, next-allowed}
 use borrow.Author.Needs.{needs}
 use Rattle.store.proofs.Cursor.shade_next.Statement.{statement}
 use Rattle.store.proofs.Cursor.shade_next.Tie as tie

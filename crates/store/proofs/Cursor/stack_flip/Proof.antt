@@ -6,10 +6,10 @@ use lib.ListN.{length, getD}
 use Rattle.rules.specs.Phases.{absent}
 use Rattle.rules.specs.declared.Session.{Session}
 use Rattle.store.specs.Cursors.{having}
-use Rattle.store.proofs.Cursors.{flipped, bounds-within, all-by, tospace-by}
-use Rattle.store.proofs.Flips.{stacks-done, stack-lost, stack-flips, moved-false, moved-true}
-use Rattle.store.proofs.Marked.{unmapped}
-use Rattle.store.proofs.Searches.{lowest, lowest-of}
+use Rattle.store.proofs.collector.Numbers.{flipped, bounds-within, all-by, tospace-by}
+use Rattle.store.proofs.collector.Flip.{stacks-done, stack-lost, stack-flips, moved-false, moved-true}
+use Rattle.store.proofs.shading.Phases.{unmapped}
+use Rattle.store.proofs.session.Search.{lowest, lowest-of}
 use borrow.Author.Needs.{needs}
 use Rattle.store.proofs.Cursor.stack_flip.Statement.{statement}
 use Rattle.store.proofs.Cursor.stack_flip.Tie as tie

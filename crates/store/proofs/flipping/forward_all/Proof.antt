@@ -5,7 +5,7 @@ use native.Mathlib.Omega.{arith}
 use lib.ListN.{length}
 use Rattle.rules.specs.Barriers.{to}
 use Rattle.heap.specs.View.{heap, checked}
-use Rattle.store.proofs.Forwards.{So, all-start, all-lost, all-more, all-done}
+use Rattle.store.proofs.collector.Forward.{So, all-start, all-lost, all-more, all-done}
 use borrow.Author.Needs.{needs}
 use Rattle.store.proofs.flipping.forward_all.Statement.{statement}
 use Rattle.store.proofs.flipping.forward_all.Tie as tie

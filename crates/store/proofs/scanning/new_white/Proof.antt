@@ -5,7 +5,7 @@ use native.Mathlib.Omega.{arith}
 use lib.ListN.{length, drop, take}
 use borrow.Author.Tests.{eq-eqb}
 use Rattle.store.specs.Marking.{among}
-use Rattle.store.proofs.Collected.{search-found, search-on, search-ended}
+use Rattle.store.proofs.shading.Whites.{search-found, search-on, search-ended}
 use borrow.Author.Needs.{needs}
 use Rattle.store.proofs.scanning.new_white.Statement.{statement}
 use Rattle.store.proofs.scanning.new_white.Tie as tie

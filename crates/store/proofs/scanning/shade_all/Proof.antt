@@ -2,7 +2,7 @@
 use Prim.Native.Nat.{_-_}
 use native.Mathlib.Omega.{arith}
 use Rattle.heap.proofs.Halves.{inside-kept}
-use Rattle.store.proofs.ShadedAll.{Turn, first-turn, next-turn, last-turn}
+use Rattle.store.proofs.shading.ShadeAll.{Turn, first-turn, next-turn, last-turn}
 use borrow.Author.Needs.{needs}
 use Rattle.store.proofs.scanning.shade_all.Statement.{statement}
 use Rattle.store.proofs.scanning.shade_all.Tie as tie

@@ -5,7 +5,7 @@ use native.Mathlib.Omega.{arith}
 use lib.ListN.{length, take, drop, length-set}
 use Rattle.rules.specs.Collector.{toShadeAll}
 use Rattle.heap.specs.View.{heap, checked}
-use Rattle.store.proofs.Collected.{joined, first-joined, last-joined, few-more, register-damage, register-met}
+use Rattle.store.proofs.shading.Whites.{joined, first-joined, last-joined, few-more, register-damage, register-met}
 use borrow.Author.Needs.{needs}
 use Rattle.store.proofs.scanning.white_registers.Statement.{statement}
 use Rattle.store.proofs.scanning.white_registers.Tie as tie

@@ -1,6 +1,6 @@
 -- The shell appended, and the record's replica word set.
 use Rattle.heap.proofs.Halves.{inside-kept}
-use Rattle.store.proofs.Shelling.{shell-put}
+use Rattle.store.proofs.collector.Shells.{shell-put}
 use borrow.Author.Needs.{needs}
 use Rattle.store.proofs.shells.put_shell.Statement.{statement}
 use Rattle.store.proofs.shells.put_shell.Tie as tie

@@ -3,7 +3,7 @@ use mathlib.Core.Path.{_≡_}
 use native.Mathlib.Omega.{arith}
 use lib.ListN.{length}
 use lib.Seq.{set-out}
-use Rattle.store.proofs.Marked.{unmapped}
+use Rattle.store.proofs.shading.Phases.{unmapped}
 use borrow.Author.Needs.{needs}
 use Rattle.store.proofs.work.Stack.marked.Statement.{statement}
 use Rattle.store.proofs.work.Stack.marked.Tie as tie

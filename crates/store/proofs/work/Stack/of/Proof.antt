@@ -1,5 +1,5 @@
 -- The eight words one by one are the list.
-use Rattle.store.proofs.Stacks.{eight}
+use Rattle.store.proofs.session.Registers.{eight}
 use borrow.Author.Needs.{needs}
 use Rattle.store.proofs.work.Stack.of.Statement.{statement}
 use Rattle.store.proofs.work.Stack.of.Tie as tie

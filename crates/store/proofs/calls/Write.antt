@@ -19,7 +19,7 @@ use Rattle.heap.specs.View.{Inside, HasPlain}
 use Rattle.store.specs.Plans.{targeted}
 use Rattle.store.specs.declared.writing.Target.{Target}
 use Rattle.store.specs.declared.writing.Target.the-variants.{Refusal, Copies}
-use Rattle.store.proofs.Worked.{Opened, plain-in, recorded}
+use Rattle.store.proofs.tests.Opening.{Opened, plain-in, recorded}
 
 -- ---- the replica's tests, on a heap that is the store's
 

@@ -8,7 +8,7 @@ use Rattle.heap.proofs.Passed.{bind-passed}
 use Rattle.store.specs.Plans.{loading}
 use Rattle.store.specs.declared.fields.Loading.{Loading}
 use Rattle.store.specs.declared.fields.Loading.the-variants.{Refusal, Word}
-use Rattle.store.proofs.Worked.{Worked, recorded}
+use Rattle.store.proofs.tests.Opening.{Worked, recorded}
 
 -- what holds where the tests of a load passed
 loadable : {w : ℕ} (s : Store) (n to k i : ℕ) → loadPlan s n to k i ≡ passed w → Worked s n k to

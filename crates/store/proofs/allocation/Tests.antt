@@ -18,7 +18,7 @@ use Rattle.heap.specs.View.{memory}
 use Rattle.store.specs.View.{view}
 use Rattle.store.specs.Allocation.{Fits, Small, Allocatable}
 use Rattle.store.specs.declared.Control.{Control}
-use Rattle.store.proofs.Guards.{first-passed, check-passed}
+use Rattle.store.proofs.tests.Numbers.{first-passed, check-passed}
 
 -- ---- what the control record test gives
 

@@ -17,7 +17,7 @@ use Rattle.rules.proofs.Scanned.{shade-scanned}
 use Rattle.heap.specs.View.{memory}
 use Rattle.heap.proofs.Fields.{put-long}
 use Rattle.store.specs.Marking.{greyed}
-use Rattle.store.proofs.Shaded.{shade-record}
+use Rattle.store.proofs.shading.Shade.{shade-record}
 
 -- ---- the loop that writes the first n words, at its turn i: the halves a0 and a1 and the list a have become h0, h1 and l
 pub record Turn (a0 a1 a h0 h1 l words : List ℕ) (end n i : ℕ) : Type 0 where

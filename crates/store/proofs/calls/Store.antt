@@ -30,8 +30,8 @@ use Rattle.store.specs.Plans.{storing, putting}
 use Rattle.store.specs.declared.Control.{Control}
 use Rattle.store.specs.declared.stores.Storing.{Storing}
 use Rattle.store.specs.declared.stores.Storing.the-variants.{Refusal, Into}
-use Rattle.store.proofs.Shaded.{shade-null, shade-globals}
-use Rattle.store.proofs.Worked.{Opened, ref-in, recorded}
+use Rattle.store.proofs.shading.Shade.{shade-null, shade-globals}
+use Rattle.store.proofs.tests.Opening.{Opened, ref-in, recorded}
 
 -- ---- the arms of a store's plan, by what `store_writes` answered on the bounds of the store
 

@@ -15,7 +15,7 @@ use Rattle.rules.proofs.Ranges.{InRange, fronts}
 use Rattle.heap.proofs.Soundness.{Found}
 use Rattle.heap.proofs.Halves.{frontier-within}
 use Rattle.heap.specs.View.{memory}
-use Rattle.store.proofs.Worked.{Opened}
+use Rattle.store.proofs.tests.Opening.{Opened}
 
 either-small : (b : Bool) (h0 h1 : List ℕ) (m : ℕ) → length h0 ≤ m → length h1 ≤ m → length (cond b h0 h1) ≤ m
 either-small true h0 h1 m x y = x

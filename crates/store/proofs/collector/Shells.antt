@@ -22,8 +22,8 @@ use Rattle.store.specs.Steps.{went, stepped}
 use Rattle.store.specs.Shells.{Shelled}
 use Rattle.store.specs.Cursors.{Ready}
 use Rattle.store.specs.declared.Cursor.{Cursor}
-use Rattle.store.proofs.Cursors.{header-of}
-use Rattle.store.proofs.Walks.{size-found}
+use Rattle.store.proofs.collector.Numbers.{header-of}
+use Rattle.store.proofs.collector.Walk.{size-found}
 
 -- ---- the shell
 

@@ -14,7 +14,7 @@ use Rattle.rules.specs.declared.Answer.the-variants.{Refused}
 use Rattle.heap.proofs.Soundness.{Found}
 use Rattle.store.specs.Steps.{went, stepped}
 use Rattle.store.specs.Copies.{nextField}
-use Rattle.store.proofs.Walks.{size-found}
+use Rattle.store.proofs.collector.Walk.{size-found}
 
 pub replica-word : {t : ℕ} (M : Memory) (v : ℕ) → t ≡ word M v 2 → t ≡ replica M v
 unfolding replica

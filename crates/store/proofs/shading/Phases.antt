@@ -26,9 +26,9 @@ use Rattle.store.specs.Cursors.{having, Ready}
 use Rattle.store.specs.Marking.{shadeNext, whites, greyed}
 use Rattle.store.specs.declared.Cursor.{Cursor}
 use Rattle.store.specs.declared.scanning.Whites.{Whites}
-use Rattle.store.proofs.Collected.{whites-sound}
-use Rattle.store.proofs.Shaded.{shade-null, shade-record}
-use Rattle.store.proofs.ShadedAll.{all-shaded}
+use Rattle.store.proofs.shading.Whites.{whites-sound}
+use Rattle.store.proofs.shading.Shade.{shade-null, shade-record}
+use Rattle.store.proofs.shading.ShadeAll.{all-shaded}
 
 -- ---- shading as a step of a walk, by what the test of its reference answered
 
