@@ -5,7 +5,6 @@ use Rattle.rules.specs.Refusals.{Tested, refused, passed}
 use Rattle.rules.specs.declared.Writes.{Writes}
 use Rattle.heap.specs.declared.Checked.{Checked}
 use Rattle.heap.specs.declared.Checked.the-variants as check
-use Rattle.heap.specs.declared.Compared.the-variants as compare
 use Rattle.heap.specs.declared.Planned.{Planned}
 use Rattle.heap.specs.declared.Planned.the-variants as plan
 use Rattle.heap.specs.View.{checked, planned}
@@ -18,5 +17,8 @@ module _ {x : Checked} {t : Tested ℕ} (e : checked x ≡ t) where
   word-refused h = sym e ∙ ap checked h
 
 module _ {x : Planned} {t : Tested Writes} (e : planned x ≡ t) where
+  pub plan-passed : {w : Writes} → x ≡ plan.Plan w → t ≡ passed w
+  plan-passed h = sym e ∙ ap planned h
+
   pub plan-refused : x ≡ plan.Damage → t ≡ refused 12
   plan-refused h = sym e ∙ ap planned h

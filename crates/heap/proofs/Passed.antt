@@ -20,8 +20,3 @@ first-passed false k e n = absurd (n cc)
 
 pub same-passed : {A : Type 0} {a b : A} → passed a ≡ passed b → a ≡ b
 same-passed e = cc
-
--- one row of tests, then more
-pub joined : {A B C : Type 0} (m : Tested A) (f : A → Tested B) (h : B → Tested C) (g : A → Tested C) → ((a : A) → g a ≡ (f a >>= h)) → (m >>= g) ≡ ((m >>= f) >>= h)
-joined (refused n) f h g e = refl
-joined (passed a) f h g e = e a

@@ -20,6 +20,7 @@ use Rattle.rules.proofs.Ranges.{InRange, in-session, after-check}
 use Rattle.heap.specs.View.{Inside, planned}
 use Rattle.heap.specs.declared.Planned.{Planned}
 use Rattle.heap.specs.declared.Planned.the-variants as plan
+use Rattle.heap.proofs.Answers.{plan-passed, plan-refused}
 use Rattle.heap.proofs.Soundness.{header-inside}
 use Rattle.heap.proofs.Fields.{ref-inside}
 use Rattle.heap.proofs.Passed.{bind-passed, same-passed}
@@ -39,13 +40,13 @@ module _ {s : Store} {n k from at r p : ℕ} {o : Operands} {z : Heap} {y : Plan
   pub plan-unwritable : y ≡ plan.Damage → refused 12 ≡ storePlan s n k i from
   unfolding storePlan
   plan-unwritable e =
-      let t : storeWrites (heapOf s) (o .level) (o .own) i (o .other) ≡ refused 12 = rw (← c) (sym u ∙ ap planned e) in
+      let t : storeWrites (heapOf s) (o .level) (o .own) i (o .other) ≡ refused 12 = rw (← c) (plan-refused u e) in
       rw (d .tests, ref-in d i l, t)
 
   pub plan-made : {w : Writes} → y ≡ plan.Plan w → passed (record { into = o .own; writes = w }) ≡ storePlan s n k i from
   unfolding storePlan
   plan-made {w} e =
-      let t : storeWrites (heapOf s) (o .level) (o .own) i (o .other) ≡ passed w = rw (← c) (sym u ∙ ap planned e) in
+      let t : storeWrites (heapOf s) (o .level) (o .own) i (o .other) ≡ passed w = rw (← c) (plan-passed u e) in
       rw (d .tests, ref-in d i l, t)
 
 -- ---- the arms of a put's plan
@@ -64,13 +65,13 @@ module _ (s : Store) (n o from : ℕ) (a : sessionOf s n ≡ passed (sessionAt s
     pub put-unwritable : y ≡ plan.Damage → refused 12 ≡ putPlan s n o from
     unfolding putPlan
     put-unwritable d =
-        let t : putWrites (heapOf s) (sessionAt s n .level) (register (sessionAt s n) from) ≡ refused 12 = rw (← c) (sym u ∙ ap planned d) in
+        let t : putWrites (heapOf s) (sessionAt s n .level) (register (sessionAt s n) from) ≡ refused 12 = rw (← c) (plan-refused u d) in
         rw (a, le-leb from lastRegister l, le-leb o lastGlobal m, t)
 
     pub put-made : {w : Writes} → y ≡ plan.Plan w → passed w ≡ putPlan s n o from
     unfolding putPlan
     put-made {w} d =
-        let t : putWrites (heapOf s) (sessionAt s n .level) (register (sessionAt s n) from) ≡ passed w = rw (← c) (sym u ∙ ap planned d) in
+        let t : putWrites (heapOf s) (sessionAt s n .level) (register (sessionAt s n) from) ≡ passed w = rw (← c) (plan-passed u d) in
         rw (a, le-leb from lastRegister l, le-leb o lastGlobal m, t)
 
 -- ---- what a plan says of the records that it writes

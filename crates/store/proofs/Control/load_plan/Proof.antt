@@ -1,6 +1,7 @@
 -- The tests of a load in order, then the field's word.
 use Rattle.rules.specs.Calls.{loadPlan}
-use Rattle.store.proofs.tests.Opening.{away, lent, unsound, opened, ref-out, ref-in}
+use Rattle.store.specs.View.{view}
+use Rattle.store.proofs.tests.Opening.{Opened, away, lent, unsound, opened, ref-out, ref-in}
 use borrow.Author.Needs.{needs}
 use Rattle.store.proofs.Control.load_plan.Statement.{statement}
 use Rattle.store.proofs.Control.load_plan.Tie as tie
@@ -35,37 +36,34 @@ returns-2 c =
     let c3 = c2 .before .before in
     rw (unsound _ _ _ _ (c3 .held .ensures) (c2 .operands .given .1) (c1 .follow .ensures) (c .enum-told .given .1))
 
+-- what the opening gives of the record found
+opening : (c : tie.After-r)
+    → let a = c .before .before .before .before .before .before .before .before .before .before .args in
+    let f = c .r .given .0 in
+    Opened (view (a .self) (a .h0 .now) (a .h1 .now) (a .list .now)) (a .s) (a .register) (a .to)
+    (c .before .before .before .before .operands .given .0 .0) (f .0) (f .1 .0) (f .1 .1 .0)
+opening c =
+    let c1 = c .before .before in
+    let c2 = c1 .before .before in
+    opened _ _ _ _ (c2 .before .before .held .ensures) (c2 .operands .given .1) (c1 .follow .ensures) (c .r .given .1)
+
 returns-3 : tie.Need-returns-3
 unfolding loadPlan
 returns-3 c =
-    let c1 = c .before .before in
-    let c2 = c1 .before .before in
-    let c3 = c2 .before .before in
-    let c4 = c3 .before .before in
-    let d = opened _ _ _ _ (c4 .held .ensures) (c3 .operands .given .1) (c2 .follow .ensures) (c1 .r .given .1) in
+    let d = opening (c .before .before) in
     rw (d .tests, ref-out d _ (c .if1 .taken))
 
 add-get-word : tie.Need-add-get-word
 add-get-word c = search needs
 
 get-word-requires : tie.Need-get-word-requires
-get-word-requires c κs =
-    let c1 = c .before .before in
-    let c2 = c1 .before .before in
-    let c3 = c2 .before .before in
-    let c4 = c3 .before .before in
-    let d = opened _ _ _ _ (c4 .held .ensures) (c3 .operands .given .1) (c2 .follow .ensures) (c1 .r .given .1) in
-    d .ref _ (c .if1 .left)
+get-word-requires c κs = opening (c .before .before) .ref _ (c .if1 .left)
 
 returns-4 : tie.Need-returns-4
 unfolding loadPlan
 returns-4 c =
     let c1 = c .before in
-    let c2 = c1 .before .before in
-    let c3 = c2 .before .before in
-    let c4 = c3 .before .before in
-    let c5 = c4 .before .before in
-    let d = opened _ _ _ _ (c5 .held .ensures) (c4 .operands .given .1) (c3 .follow .ensures) (c2 .r .given .1) in
+    let d = opening (c1 .before .before) in
     rw (d .tests, ref-in d _ (c1 .if1 .left), ← c .get-word .ensures)
 
 pub load-plan-spec : {M : Type 1} → statement M

@@ -1,7 +1,8 @@
 -- The stretch: the tests in order, then the plain fields as a part of the half.
 use native.Mathlib.Omega.{arith}
 use Rattle.rules.specs.Calls.{stretch}
-use Rattle.store.proofs.tests.Opening.{away, lent, unsound, opened}
+use Rattle.store.specs.View.{view}
+use Rattle.store.proofs.tests.Opening.{Opened, away, lent, unsound, opened}
 use Rattle.store.proofs.calls.Stretch.{span, stretch-within, stretch-small, stretched}
 use borrow.Author.Needs.{needs}
 use Rattle.store.proofs.Control.stretch.Statement.{statement}
@@ -44,50 +45,37 @@ returns-2 c =
     let c4 = c3 .before .before in
     simp (unsound _ _ _ _ (c4 .held .ensures) (c3 .operands .given .1) (c2 .follow .ensures) (c1 .enum-told2 .given .1))
 
+-- what the opening gives of the record found
+opening : (c : tie.After-at)
+    → let a = c .before .before .before .before .before .before .before .before .before .before .args in
+    let f = c .at .given .0 in
+    Opened (view (a .self) (a .h0 .now) (a .h1 .now) (a .list .now)) (a .s) (a .register) (a .register)
+    (c .before .before .before .before .operands .given .0 .0) (f .0) (f .1 .0) (f .1 .1 .0)
+opening c =
+    let c1 = c .before .before in
+    let c2 = c1 .before .before in
+    opened _ _ _ _ (c2 .before .before .held .ensures) (c2 .operands .given .1) (c1 .follow .ensures) (c .at .given .1)
+
 half-of-requires : tie.Need-half-of-requires
 half-of-requires c κs = search needs
 
 add-start : tie.Need-add-start
-add-start c =
-    let c1 = c .before .before in
-    let c2 = c1 .before .before in
-    let c3 = c2 .before .before in
-    let c4 = c3 .before .before in
-    let d = opened _ _ _ _ (c4 .held .ensures) (c3 .operands .given .1) (c2 .follow .ensures) (c1 .at .given .1) in
-    omega (arith, stretch-small d (c .half-of .ensures))
+add-start c = omega (arith, stretch-small (opening (c .before .before)) (c .half-of .ensures))
 
 cast-start : tie.Need-cast-start
 cast-start c = search needs
 
 add-start-2 : tie.Need-add-start-2
-add-start-2 c =
-    let c1 = c .before .before in
-    let c2 = c1 .before .before in
-    let c3 = c2 .before .before in
-    let c4 = c3 .before .before in
-    let d = opened _ _ _ _ (c4 .held .ensures) (c3 .operands .given .1) (c2 .follow .ensures) (c1 .at .given .1) in
-    omega (arith, stretch-small d (c .half-of .ensures))
+add-start-2 c = omega (arith, stretch-small (opening (c .before .before)) (c .half-of .ensures))
 
 cast-end : tie.Need-cast-end
 cast-end c = search needs
 
 add-end : tie.Need-add-end
-add-end c =
-    let c1 = c .before .before in
-    let c2 = c1 .before .before in
-    let c3 = c2 .before .before in
-    let c4 = c3 .before .before in
-    let d = opened _ _ _ _ (c4 .held .ensures) (c3 .operands .given .1) (c2 .follow .ensures) (c1 .at .given .1) in
-    omega (arith, stretch-small d (c .half-of .ensures))
+add-end c = omega (arith, stretch-small (opening (c .before .before)) (c .half-of .ensures))
 
 mul-result : tie.Need-mul-result
-mul-result c =
-    let c1 = c .before .before in
-    let c2 = c1 .before .before in
-    let c3 = c2 .before .before in
-    let c4 = c3 .before .before in
-    let d = opened _ _ _ _ (c4 .held .ensures) (c3 .operands .given .1) (c2 .follow .ensures) (c1 .at .given .1) in
-    omega (arith, stretch-small d (c .half-of .ensures))
+mul-result c = omega (arith, stretch-small (opening (c .before .before)) (c .half-of .ensures))
 
 sub-result : tie.Need-sub-result
 sub-result c = search needs
@@ -96,23 +84,10 @@ part-result-start : tie.Need-part-result-start
 part-result-start c = search needs
 
 part-result-end : tie.Need-part-result-end
-part-result-end c =
-    let c1 = c .before .before in
-    let c2 = c1 .before .before in
-    let c3 = c2 .before .before in
-    let c4 = c3 .before .before in
-    let d = opened _ _ _ _ (c4 .held .ensures) (c3 .operands .given .1) (c2 .follow .ensures) (c1 .at .given .1) in
-    omega (arith, stretch-within d (c .half-of .ensures))
+part-result-end c = omega (arith, stretch-within (opening (c .before .before)) (c .half-of .ensures))
 
 returns-3 : tie.Need-returns-3
-returns-3 c =
-    let c1 = c .before in
-    let c2 = c1 .before .before in
-    let c3 = c2 .before .before in
-    let c4 = c3 .before .before in
-    let c5 = c4 .before .before in
-    let d = opened _ _ _ _ (c5 .held .ensures) (c4 .operands .given .1) (c3 .follow .ensures) (c2 .at .given .1) in
-    rw span (stretched d (c1 .half-of .ensures))
+returns-3 c = rw span (stretched (opening (c .before .before .before)) (c .before .half-of .ensures))
 
 pub stretch-spec : {M : Type 1} → statement M
 stretch-spec =

@@ -3,8 +3,9 @@ use native.Mathlib.Omega.{arith}
 use Rattle.rules.specs.Memory.{replicaAt}
 use Rattle.rules.specs.Calls.{writePlan}
 use Rattle.heap.proofs.Answers.{word-refused, word-passed}
+use Rattle.store.specs.View.{view}
 use Rattle.store.proofs.shading.Shade.{within}
-use Rattle.store.proofs.tests.Opening.{away, lent, unsound, opened, plain-out}
+use Rattle.store.proofs.tests.Opening.{Opened, away, lent, unsound, opened, plain-out}
 use Rattle.store.proofs.calls.Write.{astray, target}
 use borrow.Author.Needs.{needs}
 use Rattle.store.proofs.Control.write_target.Statement.{statement}
@@ -40,14 +41,21 @@ returns-2 c =
     let c3 = c2 .before .before in
     rw (unsound _ _ _ _ (c3 .held .ensures) (c2 .operands .given .1) (c1 .follow .ensures) (c .enum-told .given .1))
 
+-- what the opening gives of the record found
+opening : (c : tie.After-r)
+    → let a = c .before .before .before .before .before .before .before .before .before .before .args in
+    let f = c .r .given .0 in
+    Opened (view (a .self) (a .h0 .now) (a .h1 .now) (a .list .now)) (a .s) (a .register) (a .register)
+    (c .before .before .before .before .operands .given .0 .0) (f .0) (f .1 .0) (f .1 .1 .0)
+opening c =
+    let c1 = c .before .before in
+    let c2 = c1 .before .before in
+    opened _ _ _ _ (c2 .before .before .held .ensures) (c2 .operands .given .1) (c1 .follow .ensures) (c .r .given .1)
+
 returns-3 : tie.Need-returns-3
 unfolding writePlan
 returns-3 c =
-    let c1 = c .before .before in
-    let c2 = c1 .before .before in
-    let c3 = c2 .before .before in
-    let c4 = c3 .before .before in
-    let d = opened _ _ _ _ (c4 .held .ensures) (c3 .operands .given .1) (c2 .follow .ensures) (c1 .r .given .1) in
+    let d = opening (c .before .before) in
     rw (d .tests, plain-out d _ (c .if1 .taken))
 
 bounds-requires : tie.Need-bounds-requires
@@ -55,11 +63,7 @@ bounds-requires c κs = search needs
 
 replica-for-requires : tie.Need-replica-for-requires
 replica-for-requires c κs =
-    let c1 = c .before .before .before in
-    let c2 = c1 .before .before in
-    let c3 = c2 .before .before in
-    let c4 = c3 .before .before in
-    let d = opened _ _ _ _ (c4 .held .ensures) (c3 .operands .given .1) (c2 .follow .ensures) (c1 .r .given .1) in
+    let d = opening (c .before .before .before) in
     (within _ _ (c .bounds .ensures _ _ _ (d .known .lent2)) (d .known), d .head replicaAt (omega arith))
 
 enum-known-t : tie.Need-enum-known-t
@@ -73,11 +77,7 @@ returns-4 c =
     let c1 = c .before .before in
     let c2 = c1 .before in
     let c3 = c2 .before in
-    let c4 = c3 .before .before in
-    let c5 = c4 .before .before in
-    let c6 = c5 .before .before in
-    let c7 = c6 .before .before in
-    let d = opened _ _ _ _ (c7 .held .ensures) (c6 .operands .given .1) (c5 .follow .ensures) (c4 .r .given .1) in
+    let d = opening (c3 .before .before) in
     rw (astray d _ (c3 .if1 .left) (c2 .bounds .ensures _ _ _ (d .known .lent2)) (word-refused (c1 .replica-for .ensures) (c .enum-told2 .given .1)))
 
 returns-5 : tie.Need-returns-5
@@ -86,11 +86,7 @@ returns-5 c =
     let c2 = c1 .before .before in
     let c3 = c2 .before in
     let c4 = c3 .before in
-    let c5 = c4 .before .before in
-    let c6 = c5 .before .before in
-    let c7 = c6 .before .before in
-    let c8 = c7 .before .before in
-    let d = opened _ _ _ _ (c8 .held .ensures) (c7 .operands .given .1) (c6 .follow .ensures) (c5 .r .given .1) in
+    let d = opening (c4 .before .before) in
     rw (target d _ (c4 .if1 .left) (c3 .bounds .ensures _ _ _ (d .known .lent2)) (word-passed (c2 .replica-for .ensures) (c1 .t .given .1)))
 
 pub write-target-spec : {M : Type 1} → statement M
