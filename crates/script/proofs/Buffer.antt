@@ -1,16 +1,17 @@
 -- The entries done over the input buffer are those of the whole input.
 use Prim.Native.Nat.{ℕ, zero, suc, _+_, _-_, _≤_, _<_}
 use mathlib.Core.Path.{_≡_, refl}
-use mathlib.Core.Bool.{true}
+use mathlib.Core.Bool.{true, false}
 use mathlib.Core.List.{List, [], _++_, append-nil}
-use mathlib.Core.Logic.{_⊎_}
+use mathlib.Core.Logic.{_⊎_, inl, inr}
 use native.Mathlib.Omega.{arith}
-use borrow.Author.Tests.{lt-ltb, le-ltb}
+use borrow.Author.Tests.{lt-ltb, le-ltb, le-leb, ltb-false}
 use lib.Dec.{ltb}
 use lib.ListN.{length, drop}
 use Rattle.rules.specs.Script.{entryAt}
 use Rattle.rules.proofs.memory.Cases.{lt-or, bool-or, either}
 use Rattle.script.specs.Turns.{Left, turn, goesOn, turns}
+use Rattle.script.specs.Window.{isShort, stopOf}
 use Rattle.script.proofs.Places.{entry-or, whole-before, moved-entry}
 use Rattle.script.proofs.Stopping.{arrived, turns-same}
 
@@ -83,3 +84,34 @@ buffer-turns j bs p q stop x split seen =
     (λ inside. whole-turns p q stop stop x inside)
     (λ end. rw (end, append-nil)) in
     rw (turns-same (j + stop) stop (j + stop) bs (ahead j x) (omega arith) (omega arith), ahead-turns j bs stop stop x, part, split)
+
+-- ---- as the program has it: the buffer has a size, and where it isn't full it holds the end of the input
+
+whole-or-end : (p q : List ℕ) (size : ℕ) → (length p < size → q ≡ []) → (stopOf (length p) size ≤ length p - 8) ⊎ (q ≡ [])
+unfolding stopOf
+whole-or-end p q size ends =
+    lt-or
+    (length p)
+    size
+    (λ less. inr (ends less))
+    (λ full. inl (rw (le-ltb (length p) size full) (omega arith)))
+
+-- an entry that begins before the stop place has all its bytes there, as far as the input has them
+pub seen-entry : (p q : List ℕ) (size i : ℕ) → (length p < size → q ≡ []) → i < stopOf (length p) size → entryAt p i ≡ entryAt (p ++ q) i
+seen-entry p q size i ends before =
+    either
+    (whole-or-end p q size ends)
+    (λ inside. whole-before p q i (omega arith))
+    (λ end. rw (end, append-nil))
+
+-- the entries done up to the stop place are those of the whole input
+pub window-turns : (j : ℕ) (bs p q : List ℕ) (size : ℕ) (x : Left) → drop j bs ≡ p ++ q → (length p < size → q ≡ []) →
+    turns (j + stopOf (length p) size) (j + stopOf (length p) size) bs (ahead j x)
+    ≡ ahead j (turns (stopOf (length p) size) (stopOf (length p) size) p x)
+window-turns j bs p q size x split ends = buffer-turns j bs p q (stopOf (length p) size) x split (whole-or-end p q size ends)
+
+-- the next entry begins before that place, unless it is short or the buffer isn't full
+pub next-seen : (at filled size : ℕ) → size ≤ filled → isShort at filled size ≡ false → at < stopOf filled size
+unfolding isShort stopOf
+next-seen at filled size full long =
+    rw (le-ltb filled size full) (omega (arith, ltb-false, rw (le-leb size filled full) at long))

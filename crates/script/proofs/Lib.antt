@@ -22,3 +22,5 @@ pub mod Buffer
 pub mod Output
 -- read, write and same leave the control record as it came
 pub mod Keeping
+-- the input buffer's bytes still to be done, moved to its front
+pub mod Moving

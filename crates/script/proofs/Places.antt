@@ -65,7 +65,7 @@ whole-entry p q i nine =
     rw (drop-append-le (i + 1) p q (omega arith), take-append-le (getD p i 0) (drop (i + 1) p) q (simp length-drop (omega arith))) in
     rw (whole p i inside (omega arith), whole (p ++ q) i inside' (omega arith), byte, size, body))
 
--- as the program has it: an entry that begins before the last eight bytes of the buffer
+-- so where an entry begins before the last eight bytes of the buffer
 pub whole-before : (p q : List ℕ) (i : ℕ) → i < length p - 8 → entryAt p i ≡ entryAt (p ++ q) i
 whole-before p q i before = whole-entry p q i (omega arith)
 

@@ -4,3 +4,5 @@ pub mod Commands
 pub mod Lines
 -- The entries one after another, and what is left after them.
 pub mod Turns
+-- The input buffer: which of its bytes hold entries that are still to be done.
+pub mod Window

@@ -8,6 +8,9 @@ ghost use Rattle.rules.specs.Refusals.{numberOf, valueOf};
 ghost use Rattle.rules.specs.Script.{digit, decimal, textOf};
 ghost use Rattle.script.specs.Lines.{line, longest, versionRefused, badVersion};
 
+// No line is longer than this: 20, 10 and 20 digits, two spaces and a newline.
+pub const LONGEST_LINE: usize = 53;
+
 // How many decimal digits a number has, counted one by one.
 fn count_digits(n: u64) -> usize
     ensures { λ r. ⌜ r ≡ length (decimal n) ⌝ }
@@ -121,7 +124,7 @@ pub fn write_bad_version(out: &mut [u8]) -> usize
     ensures text { λ r. ⌜ versionRefused r (now (out .exit)) ≡ badVersion (now (out .entry)) ⌝ }
     ensures within { λ r. ⌜ r ≤ length (now (out .exit)) ⌝ }
 {
-    if out.len() < 53 {
+    if out.len() < LONGEST_LINE {
         return 0;
     }
     write_line(out, 0, 0, 15, 0)

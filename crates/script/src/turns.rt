@@ -5,15 +5,13 @@ ghost use lib.ListN.{length};
 ghost use Rattle.store.specs.View.{view};
 ghost use Rattle.script.specs.Turns.{turned, turns, begun};
 use crate::Command;
+use crate::LONGEST_LINE;
 use crate::Parsed;
 use crate::calls::call_session;
 use crate::lines::write_line;
 use crate::number_of;
 use crate::parse;
 use crate::value_of;
-
-// No line is longer than this: 20, 10 and 20 digits, two spaces and a newline.
-const LONGEST: usize = 53;
 
 // What is left after some entries: the control record, the place and the number of the next entry, the end of the output
 // so far, and whether there may be more to do.
@@ -62,10 +60,10 @@ pub fn take_turns(
     let mut number = count;
     let mut end = start;
     let size = out.len();
-    if size < LONGEST {
+    if size < LONGEST_LINE {
         return left(control, at, number, end, true);
     }
-    let limit = size - LONGEST;
+    let limit = size - LONGEST_LINE;
     while (at < stop) & (end <= limit) & (number < u64::MAX) {
         let parsed = parse(input, at);
         match parsed {
