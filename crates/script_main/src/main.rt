@@ -1,14 +1,11 @@
 // The script program: does the script on standard input on a store over its own halves and list, and writes a line for
 // each entry to standard output.
-ghost use Prim.Native.Nat.{_+_, _≤_};
+ghost use Prim.Native.Nat.{_≤_};
 ghost use lib.ListN.{length};
+ghost use Rattle.script.specs.Lines.{longest, Flushed};
+ghost use Rattle.script.specs.Window.{Fetched};
 use libc::STDIN_FILENO;
 use libc::STDOUT_FILENO;
-
-// The bytes of the longest entry that isn't 15, its length byte among them, and those of the longest line.
-const LONGEST_ENTRY: usize = 9;
-
-const LONGEST_LINE: usize = 53;
 
 // Where the next entry starts in the input buffer, and how many bytes of the buffer are filled.
 struct Window {
@@ -16,43 +13,21 @@ struct Window {
     filled: usize,
 }
 
-// Whether an entry at this place may run past what is filled. A buffer that isn't full holds the end of the input.
-fn is_short(at: usize, filled: usize, size: usize) -> bool {
-    if filled < size {
-        return false;
-    }
-    if filled <= at {
-        return true;
-    }
-    filled - at < LONGEST_ENTRY
-}
-
-// Moves the bytes from a place on to the front of the buffer and answers how many they are.
-fn keep(input: &mut [u8], at: usize, filled: usize) -> usize
-    requires { ⌜ filled ≤ length (now input) ⌝ }
-    ensures { λ r. ⌜ r ≤ length (now (input .exit)) ⌝ }
-{
-    if filled <= at {
-        return 0;
-    }
-    let left = filled - at;
-    let mut i: usize = 0;
-    while i < left {
-        input[i] = input[at + i];
-        i += 1;
-    }
-    left
+// Where the next line goes, and whether the output so far could be written.
+struct Room {
+    at: usize,
+    written: bool,
 }
 
 // The input buffer with the whole of the next entry in it, as far as the input has it.
 fn fetch(input: &mut [u8], at: usize, filled: usize) -> Window
     requires { ⌜ filled ≤ length (now input) ⌝ }
-    ensures { λ r. ⌜ r .filled ≤ length (now (input .exit)) ⌝ }
+    ensures { λ r. ⌜ Fetched (now (input .entry)) at filled (now (input .exit)) (r .at) (r .filled) ⌝ }
 {
-    if !is_short(at, filled, input.len()) {
+    if !script::is_short(at, filled, input.len()) {
         return Window { at, filled };
     }
-    let kept = keep(input, at, filled);
+    let kept = script::keep(input, at, filled);
     let got = io::read_full(STDIN_FILENO, &mut input[kept..]);
     Window {
         at: 0,
@@ -60,38 +35,32 @@ fn fetch(input: &mut [u8], at: usize, filled: usize) -> Window
     }
 }
 
-// Writes the output so far.
-fn write_out(out: &[u8], end: usize)
+// Writes the output so far and answers whether all of it was written.
+fn write_out(out: &[u8], end: usize) -> bool
     requires { ⌜ end ≤ length (now out) ⌝ }
 {
-    io::write_all(STDOUT_FILENO, &out[..end]);
+    io::write_all(STDOUT_FILENO, &out[..end])
 }
 
-// Writes the output so far where a line may not fit after it, and answers where the next line goes.
-fn flush(out: &[u8], end: usize) -> usize
-    requires { ⌜ (end ≤ length (now out)) × (53 ≤ length (now out)) ⌝ }
-    ensures { λ r. ⌜ r + 53 ≤ length (now (out .entry)) ⌝ }
+// Writes the output so far where a line may not fit after it.
+fn flush(out: &[u8], end: usize) -> Room
+    requires { ⌜ end ≤ length (now out) ⌝ }
+    ensures { λ r. ⌜ Flushed end (length (now (out .entry))) (r .at) (r .written) ⌝ }
 {
-    if LONGEST_LINE <= out.len() - end {
-        return end;
+    if script::LONGEST_LINE <= out.len() - end {
+        return Room {
+            at: end,
+            written: true,
+        };
     }
-    write_out(out, end);
-    0
+    Room {
+        at: 0,
+        written: write_out(out, end),
+    }
 }
 
-// Where the entries that are wholly in the buffer stop: an entry that begins before this place has all its bytes there,
-// as far as the input has them.
-fn stop_of(filled: usize, size: usize) -> usize {
-    if filled < size {
-        return filled;
-    }
-    if filled < LONGEST_ENTRY {
-        return filled;
-    }
-    filled - LONGEST_ENTRY + 1
-}
-
-// The entries of the input, from the first on, until the input ends or an entry is 15.
+// The entries of the input, from the first on, until the input ends, an entry is 15 or a write fails. Answers whether all
+// lines were written; after a write that failed there is no other.
 fn run(
     h0: &mut [u32],
     h1: &mut [u32],
@@ -99,8 +68,8 @@ fn run(
     input: &mut [u8],
     first: usize,
     out: &mut [u8],
-)
-    requires { ⌜ (first ≤ length (now input)) × (53 ≤ length (now out)) ⌝ }
+) -> bool
+    requires { ⌜ (first ≤ length (now input)) × (longest ≤ length (now out)) ⌝ }
 {
     let made = store::Control::make(h0, h1, list);
     let mut control = made.control;
@@ -108,31 +77,40 @@ fn run(
     let mut filled = first;
     let mut end: usize = 0;
     let mut number: u64 = 1;
-    while number < u64::MAX {
+    let mut more = true;
+    while more & (number < u64::MAX) {
         let window = fetch(input, at, filled);
         let start = window.at;
         filled = window.filled;
         let room = flush(out, end);
-        let stop = stop_of(filled, input.len());
+        if !room.written {
+            return false;
+        }
+        let stop = script::stop_of(filled, input.len());
         let part = &input[..filled];
-        let turn = script::take_turns(control, h0, h1, list, part, start, stop, number, out, room);
+        let turn = script::take_turns(
+            control,
+            h0,
+            h1,
+            list,
+            part,
+            start,
+            stop,
+            number,
+            out,
+            room.at,
+        );
         let next = turn.control;
         control = next;
         at = turn.at;
         end = turn.end;
-        if !turn.more {
-            write_out(out, end);
-            return;
-        }
-        if turn.number == number {
-            write_out(out, end);
-            return;
-        }
+        more = turn.more & (number < turn.number);
         number = turn.number;
     }
-    write_out(out, end);
+    write_out(out, end)
 }
 
+// A program has no exit status, so what `run` answers goes no further.
 fn main() {
     let mut half0 = [0u32; 4096];
     let mut half1 = [0u32; 4096];

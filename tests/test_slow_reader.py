@@ -1,0 +1,127 @@
+#!/usr/bin/env python3
+"""The script program where its output can't be written: a pipe that doesn't block and whose reader is slow, a pipe that nobody reads
+any more, a file that may not grow, a full device. Whatever comes out is the beginning of the right text, and the program ends: after
+a write that failed it writes nothing more. On a pipe that blocks a slow reader gets all of the text."""
+import os
+import resource
+import select
+import signal
+import subprocess
+import sys
+import tempfile
+import time
+
+import program
+from model import ALLOCATE, ATTACH, READ, STEP, WRITE
+from scripts import encode
+
+# far more lines than a pipe holds
+ENTRIES = 300000
+PAGE = 4096
+# in the middle of a write of the program, and of a line
+LIMIT = 100 * PAGE + 1234
+
+
+def script():
+    turn = [(WRITE, [0, 0, 0, 0xFFFFFFFF]), (READ, [0, 0, 0]), (STEP, [])]
+    return encode([(ATTACH, [0]), (ALLOCATE, [0, 0, 0, 1])] + turn * (ENTRIES // 3))
+
+
+def begin(source, sink, size=resource.RLIM_INFINITY):
+    """The program, on a script in a file. No file may grow past `size`. It ignores the signals of a broken pipe and of that limit, so
+    that the write fails instead of ending it."""
+    def writes_fail():
+        signal.signal(signal.SIGPIPE, signal.SIG_IGN)
+        signal.signal(signal.SIGXFSZ, signal.SIG_IGN)
+        resource.setrlimit(resource.RLIMIT_FSIZE, (size, size))
+    source.seek(0)
+    return subprocess.Popen([program.PROGRAM], stdin=source, stdout=sink, stderr=subprocess.PIPE, preexec_fn=writes_fail)
+
+
+def end(name, child):
+    """Waits for the program, which must end by itself and write nothing to standard error."""
+    try:
+        complaint = child.communicate(timeout=60)[1]
+    except subprocess.TimeoutExpired:
+        child.kill()
+        sys.exit(f"test_slow_reader: {name}: the program does not end")
+    if child.returncode != 0 or complaint:
+        sys.exit(f"test_slow_reader: {name}: status {child.returncode}, standard error {complaint[:200]!r}")
+
+
+def in_file(name, source, size=resource.RLIM_INFINITY):
+    """What comes out into a file that may grow up to `size`."""
+    with tempfile.TemporaryFile() as sink:
+        end(name, begin(source, sink, size))
+        sink.seek(0)
+        return sink.read()
+
+
+def read_some(name, source, most):
+    """What comes out of a pipe that blocks, up to `most` bytes; then nobody reads it any more."""
+    reader, writer = os.pipe()
+    child = begin(source, writer)
+    os.close(writer)
+    got = b""
+    while len(got) < most and (part := os.read(reader, 16 * PAGE)):
+        got += part
+        time.sleep(0.001)
+    os.close(reader)
+    end(name, child)
+    return got
+
+
+def read_when_full(name, source):
+    """What comes out of a pipe that doesn't block, of which three pages are read whenever it is full."""
+    reader, writer = os.pipe()
+    os.set_blocking(writer, False)
+    child = begin(source, writer)
+    got = b""
+    while child.poll() is None:
+        if select.select([], [writer], [], 0)[1]:
+            time.sleep(0.001)
+        else:
+            time.sleep(0.005)  # meanwhile a write of the program fails
+            got += os.read(reader, 3 * PAGE)
+    os.close(writer)
+    while part := os.read(reader, 16 * PAGE):
+        got += part
+    os.close(reader)
+    end(name, child)
+    return got
+
+
+def check(name, got, want, least, most):
+    """That these bytes are the beginning of the text, and how many they are."""
+    if got != want[:len(got)]:
+        wrong = next((i for i in range(len(want)) if got[i] != want[i]), len(want))
+        sys.exit(f"test_slow_reader: {name}: not the beginning of the text: {got[wrong - 20:wrong + 20]!r} at byte {wrong}, "
+                 f"which has {want[wrong - 20:wrong + 20]!r}")
+    if not least <= len(got) <= most:
+        sys.exit(f"test_slow_reader: {name}: {len(got)} of {len(want)} bytes came out")
+    return f"{name} {len(got)}"
+
+
+def main():
+    seen = []
+    with tempfile.TemporaryFile() as source, tempfile.TemporaryFile() as empty, open("/dev/full", "wb") as full:
+        source.write(script())
+        want = in_file("file", source)
+        if want.count(b"\n") != ENTRIES + 2:
+            sys.exit(f"test_slow_reader: {want.count(bytes([10]))} lines for {ENTRIES + 2} entries")
+        all_of_it = len(want)
+        name = "slow reader"
+        seen.append(check(name, read_some(name, source, all_of_it + 1), want, all_of_it, all_of_it))
+        name = "slow reader of a pipe that does not block"
+        seen.append(check(name, read_when_full(name, source), want, PAGE, all_of_it - 1))
+        name = "reader that stops"
+        seen.append(check(name, read_some(name, source, 40 * PAGE), want, 40 * PAGE, all_of_it - 1))
+        name = "file that may not grow"
+        seen.append(check(name, in_file(name, source, LIMIT), want, LIMIT, LIMIT))
+        end("full device", begin(source, full))
+        end("full device, empty input", begin(empty, full))
+    print(f"test_slow_reader: the beginning of the right text, in bytes: {', '.join(seen)}")
+
+
+if __name__ == "__main__":
+    main()
