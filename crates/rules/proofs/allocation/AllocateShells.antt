@@ -52,7 +52,7 @@ needs-not : (M : Memory) (v : ℕ) → needsShell M v ≡ false → colour M v �
 unfolding needsShell
 needs-not M v e d o = true≢false (rw (ne-eqb (colour M v) white d, eq-eqb (replica M v) null o) at e)
 
-module _ {K : ℕ → Type 0} {m : ℕ → ℕ} {s : Store} {f : Free} (h : Sim K m s f) (at-5 : stage (s .phase) ≡ stAllocate) where
+module _ {K : ℕ → Type 0} {m : ℕ → ℕ} {s : Store} {f : Free} (h : Sim K m s f) (at-allocate : stage (s .phase) ≡ stAllocate) where
   abbrev M : Memory
   M = s .memory
 
@@ -93,21 +93,21 @@ module _ {K : ℕ → Type 0} {m : ℕ → ℕ} {s : Store} {f : Free} (h : Sim 
     shell-front = shell-more .front cur ∙ shell-one .front-other cur (cur-two h) (λ e. other-differs cur (cur-two h) (sym e))
 
     shelled-sim : Sim K (tracked (m v) m M M₂) (withMemory s M₂) f
-    shelled-sim = shell-sim h at-5 t marked alone shell-one shell-more
+    shelled-sim = shell-sim h at-allocate t marked alone shell-one shell-more
 
     shelled-replica : replica M₂ v ≢ null
-    shelled-replica = shell-replica h at-5 t marked alone shell-one shell-more
+    shelled-replica = shell-replica h at-allocate t marked alone shell-one shell-more
 
     shelled-size : size M₂ v ≡ size M v
-    shelled-size = shell-size h at-5 t marked alone shell-one shell-more
+    shelled-size = shell-size h at-allocate t marked alone shell-one shell-more
 
   -- the walked record gets its shell
   shell-stepped : (under : s .walk .place < frontier M cur) → colour M (walked s) ≢ white → (alone : replica M (walked s) ≡ null)
       → Sim K (tracked (m (walked s)) m M (withShell M other (walked s))) (pastRecord s (withShell M other (walked s))) f
   unfolding pastRecord withShell walked
   shell-stepped under marked alone =
-      let t = walked-in h (h .walking .at-5 at-5) under in
-      walks-on (shelled-sim t marked alone) at-5 (rw (shell-front t marked alone) under)
+      let t = walked-in h (h .walking .at-allocate at-allocate) under in
+      walks-on (shelled-sim t marked alone) at-allocate (rw (shell-front t marked alone) under)
       (λ d. shelled-replica t marked alone) (s .walk .place + size M (walked s)) (rw (shelled-size t marked alone))
 
   -- below the frontier
@@ -120,7 +120,7 @@ module _ {K : ℕ → Type 0} {m : ℕ → ℕ} {s : Store} {f : Free} (h : Sim 
         (passed (pastRecord s M)))
   unfolding pastRecord tracked
   unit-stepped l =
-      let t = walked-in h (h .walking .at-5 at-5) l in
+      let t = walked-in h (h .walking .at-allocate at-allocate) l in
       rw (followed-start (follow-home h t))
       (bool-or (needsShell M (walked s))
       (λ e. record {
@@ -130,10 +130,10 @@ module _ {K : ℕ → Type 0} {m : ℕ → ℕ} {s : Store} {f : Free} (h : Sim 
         sim = shell-stepped l (needs-marked M (walked s) e) (needs-alone M (walked s) e);
         tracks = λ u. refl;
       })
-      (λ e. stepped-same (rw e) (walks-on h at-5 l (needs-not M (walked s) e) (s .walk .place + size M (walked s)) refl) refl))
+      (λ e. stepped-same (rw e) (walks-on h at-allocate l (needs-not M (walked s) e) (s .walk .place + size M (walked s)) refl) refl))
 
   pub allocate-shells-stepped : Stepped K m s f (allocateShells s)
   unfolding allocateShells below
   allocate-shells-stepped = lt-or (s .walk .place) (frontier M cur)
       (λ l. rw (lt-ltb (s .walk .place) (frontier M cur) l) (unit-stepped l))
-      (λ l. rw (le-ltb (s .walk .place) (frontier M cur) l) (waiting-stepped h (allocate-moves h at-5 l)))
+      (λ l. rw (le-ltb (s .walk .place) (frontier M cur) l) (waiting-stepped h (allocate-moves h at-allocate l)))

@@ -86,17 +86,17 @@ module _ {M M′ : Memory} {New Re : ℕ → Type 0} (g : Grown M M′ New Re) w
   pub grown-walking : {m′ : ℕ → ℕ} {cur st place wf head tail : ℕ} → cur < 2 → Joined M M′ New Re m′ cur st
       → Walking M cur st place wf head tail → Walking M′ cur st place wf head tail
   grown-walking {m′} {cur} {st} {place} {wf} two j k = record {
-    at-5 = λ a. g .walks two (k .at-5 a);
-    at-7 = λ a. g .walks two (k .at-7 a);
-    at-12 = λ a. g .walks two (k .at-12 a);
-    field-4 = k .field-4;
-    field-7 = λ a b. lt-or place (frontier M cur)
-        (λ l. let t = walk-start two (k .at-7 a) l in rw (grown-refs g t, grown-plains g t) (k .field-7 a l))
-        (λ l. omega (arith, k .field-7-end a l));
-    field-7-end = λ a b. k .field-7-end a (omega (arith, g .front cur two));
+    at-allocate = λ a. g .walks two (k .at-allocate a);
+    at-copy = λ a. g .walks two (k .at-copy a);
+    at-reclaim = λ a. g .walks two (k .at-reclaim a);
+    field-heap-mark = k .field-heap-mark;
+    field-copy = λ a b. lt-or place (frontier M cur)
+        (λ l. let t = walk-start two (k .at-copy a) l in rw (grown-refs g t, grown-plains g t) (k .field-copy a l))
+        (λ l. omega (arith, k .field-copy-end a l));
+    field-copy-end = λ a b. k .field-copy-end a (omega (arith, g .front cur two));
     cleared = λ a v t l. old-or-new g t
         (λ o. either (g .same-replica (o .start)) (λ e. e ∙ k .cleared a v o l) (λ r. absurd (omega (arith, j .early r))))
-        (λ n side. absurd (omega (arith, l, g .above n cur side, k .at-12 a .within)));
+        (λ n side. absurd (omega (arith, l, g .above n cur side, k .at-reclaim a .within)));
   }
 
   pub grown-kept : {K : ℕ → Type 0} {m m′ : ℕ → ℕ} {cur st q : ℕ} {rs rs′ : List Record} {ys : List FreeSession} {fgs : List ℕ}
@@ -109,8 +109,8 @@ module _ {M M′ : Memory} {New Re : ℕ → Type 0} (g : Grown M M′ New Re) w
     marked = λ a b v t d. old-or-new g t
         (λ o. rw (p .old (o .start)) (k .marked a b v o (rw (grown-colour g (o .start)) at d)))
         (λ n side. new-kept n side);
-    left-12 = λ a v t. old-or-new g t (λ o. rw (p .old (o .start)) (k .left-12 a v o)) (λ n side. new-kept n side);
-    left-0 = λ a v t. old-or-new g t (λ o. rw (p .old (o .start)) (k .left-0 a v o)) (λ n side. new-kept n side);
+    left-at-reclaim = λ a v t. old-or-new g t (λ o. rw (p .old (o .start)) (k .left-at-reclaim a v o)) (λ n side. new-kept n side);
+    left-at-rest = λ a v t. old-or-new g t (λ o. rw (p .old (o .start)) (k .left-at-rest a v o)) (λ n side. new-kept n side);
   }
     where
       new-kept : {v : ℕ} → New v → halfOf v ≡ cur → K (m′ v)

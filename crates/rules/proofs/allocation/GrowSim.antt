@@ -32,7 +32,7 @@ module _ {K : ℕ → Type 0} {m m′ : ℕ → ℕ} {s : Store} {f : Free} {M�
     field-halves = grown-field-halves g (h .field-halves);
     pairs = grown-pairs g p j (h .pairs);
     agreement = grown-agreement g p j (h .identity) (h .values) (h .pairs) (h .agreement);
-    colours = grown-colours g j c (λ e. h .walking .at-5 e) (h .colours);
+    colours = grown-colours g j c (λ e. h .walking .at-allocate e) (h .colours);
     grey-list = grown-grey-list g j c (h .range .begins) (h .grey-list);
     cleaned = grown-cleaned g (h .values) (h .roots) (h .grey-list) (h .cleaned);
     walking = grown-walking g (cur-two h) j (h .walking);

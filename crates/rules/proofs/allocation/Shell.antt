@@ -30,7 +30,7 @@ use Rattle.rules.proofs.allocation.GrowSim.{grown-sim}
 use Rattle.rules.proofs.allocation.FreeRecords.{longer-not}
 
 -- M₁ has the shell, M₂ also the replica word that names it
-module _ {K : ℕ → Type 0} {m : ℕ → ℕ} {s : Store} {f : Free} (h : Sim K m s f) {M₁ M₂ : Memory} {v : ℕ} (at-5 : stage (s .phase) ≡ stAllocate)
+module _ {K : ℕ → Type 0} {m : ℕ → ℕ} {s : Store} {f : Free} (h : Sim K m s f) {M₁ M₂ : Memory} {v : ℕ} (at-allocate : stage (s .phase) ≡ stAllocate)
     (this : In (s .memory) (s .current) v) (marked : colour (s .memory) v ≢ white) (alone : replica (s .memory) v ≡ null)
     (one : Appended (s .memory) M₁ (otherHalf (s .current)) (word (s .memory) v shapeAt) white v (refs (s .memory) v + plains (s .memory) v))
     (more : PutKept M₁ M₂ v replicaAt (nextReference (s .memory) (otherHalf (s .current)))) where

@@ -41,12 +41,12 @@ module _ {K : ℕ → Type 0} {m : ℕ → ℕ} {s : Store} {f : Free} (h : Sim 
     agreement = g;
     flipping = λ z. absurd (omega arith);
     walking = record {
-      at-5 = λ z. absurd (omega arith);
-      at-7 = λ z. w;
-      at-12 = λ z. absurd (omega arith);
-      field-4 = λ z. absurd (omega arith);
-      field-7 = λ z. c;
-      field-7-end = λ z. d;
+      at-allocate = λ z. absurd (omega arith);
+      at-copy = λ z. w;
+      at-reclaim = λ z. absurd (omega arith);
+      field-heap-mark = λ z. absurd (omega arith);
+      field-copy = λ z. c;
+      field-copy-end = λ z. d;
       cleared = λ z. absurd (omega arith);
     };
   })
@@ -54,7 +54,7 @@ module _ {K : ℕ → Type 0} {m : ℕ → ℕ} {s : Store} {f : Free} (h : Sim 
   -- ---- below the frontier
   module _ (l : s .walk .place < frontier (s .memory) (s .current)) where
     pub copied-in : In (s .memory) (s .current) (walked s)
-    copied-in = walked-in h (h .walking .at-7 e) l
+    copied-in = walked-in h (h .walking .at-copy e) l
 
     walked-word : wordOf (walked s) ≡ s .walk .place
     unfolding walked
@@ -86,7 +86,7 @@ module _ {K : ℕ → Type 0} {m : ℕ → ℕ} {s : Store} {f : Free} (h : Sim 
     unfolding walked
     next-field b c = copy-walk (s .walk .place) (s .walk .field + 1) (h .range .places)
         (omega (arith, start-refs (h .filled) (copied-in .start), start-plains (h .filled) (copied-in .start)))
-        (h .walking .at-7 e) (λ z. omega arith) (λ z. absurd (omega arith)) (next-agreement c)
+        (h .walking .at-copy e) (λ z. omega arith) (λ z. absurd (omega arith)) (next-agreement c)
 
     -- past the record: it has no replica, or all its fields have been copied
     past-agreement : (replica (s .memory) (walked s) ≢ null → refs (s .memory) (walked s) + plains (s .memory) (walked s) ≤ s .walk .field)
@@ -102,7 +102,7 @@ module _ {K : ℕ → Type 0} {m : ℕ → ℕ} {s : Store} {f : Free} (h : Sim 
         old : (v i : ℕ) → In (s .memory) (s .current) v → replica (s .memory) v ≢ null → i < refs (s .memory) v + plains (s .memory) v
             → Copied (stage (s .phase)) (s .walk .place + size (s .memory) (walked s)) 0 v i → Copied (stage (s .phase)) (s .walk .place) (s .walk .field) v i
         old v i q n b (over z) = over z
-        old v i q n b (earlier z) = either (walk-split (cur-two h) (h .walking .at-7 e) (q .start) (q .side) z)
+        old v i q n b (earlier z) = either (walk-split (cur-two h) (h .walking .at-copy e) (q .start) (q .side) z)
             (λ y. earlier y)
             (λ y. let g = c (rw y at n) in let r : i < refs (s .memory) (walked s) + plains (s .memory) (walked s) = rw y at b in
             here (rw y walked-word) (omega arith))
@@ -112,5 +112,5 @@ module _ {K : ℕ → Type 0} {m : ℕ → ℕ} {s : Store} {f : Free} (h : Sim 
         → Sim K m (withWalk s (s .walk .place + size (s .memory) (walked s)) 0) f
     unfolding walked
     past-record c = copy-walk (s .walk .place + size (s .memory) (reference (s .current) (s .walk .place))) 0
-        (walked-limit h (h .walking .at-7 e) l (omega arith) (omega arith)) (omega arith) (walked-next h (h .walking .at-7 e) l)
+        (walked-limit h (h .walking .at-copy e) l (omega arith) (omega arith)) (omega arith) (walked-next h (h .walking .at-copy e) l)
         (λ z. omega arith) (λ z. refl) (past-agreement c)

@@ -188,8 +188,8 @@ module _ {K : ℕ → Type 0} {m : ℕ → ℕ} {s : Store} {f : Free} {M′ : M
             (λ y. y)))
             (λ d r. rw r (g .fields p k kp (rw r at n)));
         marked = g .marked;
-        left-12 = g .left-12;
-        left-0 = g .left-0;
+        left-at-reclaim = g .left-at-reclaim;
+        left-at-rest = g .left-at-rest;
       }
     where
       same-record : (p : ℕ) → p - 1 ≡ m v - 1 → recOf (f .records) (m v) ≡ recOf (f .records) p

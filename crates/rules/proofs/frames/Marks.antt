@@ -50,15 +50,15 @@ module _ {M M′ : Memory} {Q : ℕ → ℕ → Type 0} (F : Frame M M′ Q) whe
       → (st ≡ stReclaim → (v : ℕ) → In M cur v → wordOf v < place → replica M v ≡ null → replica M′ v ≡ null)
       → Walking M cur st place wf head tail → Walking M′ cur st place wf head tail
   walking-kept {cur} {st} {place} two r g = record {
-    at-5 = λ e. F .walks two (g .at-5 e);
-    at-7 = λ e. F .walks two (g .at-7 e);
-    at-12 = λ e. F .walks two (g .at-12 e);
-    field-4 = g .field-4;
-    field-7 = λ e l.
+    at-allocate = λ e. F .walks two (g .at-allocate e);
+    at-copy = λ e. F .walks two (g .at-copy e);
+    at-reclaim = λ e. F .walks two (g .at-reclaim e);
+    field-heap-mark = g .field-heap-mark;
+    field-copy = λ e l.
         let b : place < frontier M cur = rw (F .front cur) at l in
-        let t = walk-start two (g .at-7 e) b in
-        rw (refs-kept F t, plains-kept F t) (g .field-7 e b);
-    field-7-end = λ e l. g .field-7-end e (rw (F .front cur) at l);
+        let t = walk-start two (g .at-copy e) b in
+        rw (refs-kept F t, plains-kept F t) (g .field-copy e b);
+    field-copy-end = λ e l. g .field-copy-end e (rw (F .front cur) at l);
     cleared = λ e v t l. let a = in-back F t in r e v a l (g .cleared e v a l);
   }
 
@@ -67,4 +67,4 @@ module _ {M M′ : Memory} {Q : ℕ → ℕ → Type 0} (F : Frame M M′ Q) whe
       → ColoursSame M M′ → Kept K M m cur st rs ys fgs → Kept K M′ m cur st rs ys fgs
   kept-kept c g = kept-carried
       (λ lo hi v t n. g .marked lo hi v (in-back F t) (λ z. n (c v (F .back (t .start)) ∙ z)))
-      (λ e v t. g .left-12 e v (in-back F t)) (λ e v t. g .left-0 e v (in-back F t)) g
+      (λ e v t. g .left-at-reclaim e v (in-back F t)) (λ e v t. g .left-at-rest e v (in-back F t)) g

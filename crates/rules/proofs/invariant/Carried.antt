@@ -89,6 +89,6 @@ kept-carried a b c k = record {
   globals = k .globals;
   fields = k .fields;
   marked = a;
-  left-12 = b;
-  left-0 = c;
+  left-at-reclaim = b;
+  left-at-rest = c;
 }

@@ -39,24 +39,24 @@ cleaned-idle n = record {
 -- the phases without a walk over records or the list
 pub walking-idle : {M : Memory} {cur st place wf head tail : ℕ} → st ≢ stHeapMark → st ≢ stAllocate → st ≢ stCopy → st ≢ stReclaim → Walking M cur st place wf head tail
 walking-idle a b c d = record {
-  at-5 = λ o. absurd (b o);
-  at-7 = λ o. absurd (c o);
-  at-12 = λ o. absurd (d o);
-  field-4 = λ o. absurd (a o);
-  field-7 = λ o. absurd (c o);
-  field-7-end = λ o. absurd (c o);
+  at-allocate = λ o. absurd (b o);
+  at-copy = λ o. absurd (c o);
+  at-reclaim = λ o. absurd (d o);
+  field-heap-mark = λ o. absurd (a o);
+  field-copy = λ o. absurd (c o);
+  field-copy-end = λ o. absurd (c o);
   cleared = λ o. absurd (d o);
 }
 
 -- up to HeapMark only that its field is 0 where the list is done
 pub walking-early : {M : Memory} {cur st place wf head tail : ℕ} → st ≤ stHeapMark → (st ≡ stHeapMark → head ≡ tail → wf ≡ 0) → Walking M cur st place wf head tail
 walking-early l d = record {
-  at-5 = λ e. absurd (omega arith);
-  at-7 = λ e. absurd (omega arith);
-  at-12 = λ e. absurd (omega arith);
-  field-4 = d;
-  field-7 = λ e. absurd (omega arith);
-  field-7-end = λ e. absurd (omega arith);
+  at-allocate = λ e. absurd (omega arith);
+  at-copy = λ e. absurd (omega arith);
+  at-reclaim = λ e. absurd (omega arith);
+  field-heap-mark = d;
+  field-copy = λ e. absurd (omega arith);
+  field-copy-end = λ e. absurd (omega arith);
   cleared = λ e. absurd (omega arith);
 }
 
@@ -64,12 +64,12 @@ walking-early l d = record {
 pub walking-reclaim : {M : Memory} {cur st place wf head tail : ℕ} → st ≡ stReclaim → Walk M cur place
     → ((v : ℕ) → In M cur v → wordOf v < place → replica M v ≡ null) → Walking M cur st place wf head tail
 walking-reclaim e w c = record {
-  at-5 = λ a. absurd (omega arith);
-  at-7 = λ a. absurd (omega arith);
-  at-12 = λ a. w;
-  field-4 = λ a. absurd (omega arith);
-  field-7 = λ a. absurd (omega arith);
-  field-7-end = λ a. absurd (omega arith);
+  at-allocate = λ a. absurd (omega arith);
+  at-copy = λ a. absurd (omega arith);
+  at-reclaim = λ a. w;
+  field-heap-mark = λ a. absurd (omega arith);
+  field-copy = λ a. absurd (omega arith);
+  field-copy-end = λ a. absurd (omega arith);
   cleared = λ a. c;
 }
 

@@ -54,12 +54,12 @@ pub record Cleaned (M : Memory) (cur st place wf : ℕ) (ws : List ℕ) (head ta
 
 -- ---- the walk
 pub record Walking (M : Memory) (cur st place wf head tail : ℕ) : Type 0 where
-  pub at-5 : st ≡ stAllocate → Walk M cur place
-  pub at-7 : st ≡ stCopy → Walk M cur place
-  pub at-12 : st ≡ stReclaim → Walk M cur place
-  pub field-4 : st ≡ stHeapMark → head ≡ tail → wf ≡ 0
-  pub field-7 : st ≡ stCopy → place < frontier M cur → wf ≤ refs M (reference cur place) + plains M (reference cur place)
-  pub field-7-end : st ≡ stCopy → frontier M cur ≤ place → wf ≡ 0
+  pub at-allocate : st ≡ stAllocate → Walk M cur place
+  pub at-copy : st ≡ stCopy → Walk M cur place
+  pub at-reclaim : st ≡ stReclaim → Walk M cur place
+  pub field-heap-mark : st ≡ stHeapMark → head ≡ tail → wf ≡ 0
+  pub field-copy : st ≡ stCopy → place < frontier M cur → wf ≤ refs M (reference cur place) + plains M (reference cur place)
+  pub field-copy-end : st ≡ stCopy → frontier M cur ≤ place → wf ≡ 0
   -- Reclaim has cleared the replica words below the walk
   pub cleared : st ≡ stReclaim → (v : ℕ) → In M cur v → wordOf v < place → replica M v ≡ null
 
@@ -72,5 +72,5 @@ pub record Kept (K : ℕ → Type 0) (M : Memory) (m : ℕ → ℕ) (cur st : �
   -- what marking has met
   pub marked : stRest < st → st ≤ stStackFlip → (v : ℕ) → In M cur v → colour M v ≢ white → K (m v)
   -- what a collection has left
-  pub left-12 : st ≡ stReclaim → (v : ℕ) → In M cur v → K (m v)
-  pub left-0 : st ≡ stRest → (v : ℕ) → In M cur v → K (m v)
+  pub left-at-reclaim : st ≡ stReclaim → (v : ℕ) → In M cur v → K (m v)
+  pub left-at-rest : st ≡ stRest → (v : ℕ) → In M cur v → K (m v)

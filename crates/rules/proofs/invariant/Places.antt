@@ -55,8 +55,8 @@ module _ {K : ℕ → Type 0} {m n : ℕ → ℕ} {s : Store} {f : Free} (h : Si
   placed-kept : Kept K M n (s .current) (stage (s .phase)) (f .records) (f .sessions) (f .globals)
   placed-kept = kept-carried
       (λ a b v t d. rw (at-start (t .start)) (h .kept .marked a b v t d))
-      (λ a v t. rw (at-start (t .start)) (h .kept .left-12 a v t))
-      (λ a v t. rw (at-start (t .start)) (h .kept .left-0 a v t)) (h .kept)
+      (λ a v t. rw (at-start (t .start)) (h .kept .left-at-reclaim a v t))
+      (λ a v t. rw (at-start (t .start)) (h .kept .left-at-rest a v t)) (h .kept)
 
   pub placed-sim : Sim K n s f
   placed-sim = record {

@@ -78,7 +78,7 @@ module _ {K : ℕ → Type 0} {m : ℕ → ℕ} {s : Store} {f : Free} (h : Sim 
         colours = colours-recoloured p lo hi (cur-two h) t (omega arith) (λ z. omega arith) (h .colours);
         grey-list = shade-list p lo hi (cur-two h) t e (h .grey-list) (h .range .begins) (omega (arith, shade-room));
         cleaned = shade-cleaned p lo hi (cur-two h) t e (h .grey-list) (h .range .begins) (omega (arith, shade-room))
-            (h .values .ok) (h .roots .global-ok) (h .walking .field-4) (h .cleaned);
+            (h .values .ok) (h .roots .global-ok) (h .walking .field-heap-mark) (h .cleaned);
         walking = walking-early hi (λ a b. absurd (omega (arith, r .begins)));
         kept = kept-recoloured p lo hi (cur-two h) t (omega arith) k (h .kept);
       }

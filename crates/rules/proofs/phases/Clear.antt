@@ -37,7 +37,7 @@ module _ {K : ℕ → Type 0} {m : ℕ → ℕ} {s : Store} {f : Free} (h : Sim 
   place′ = s .walk .place + size M (walked s)
 
   pub cleared-in : In M (s .current) (walked s)
-  cleared-in = walked-in h (h .walking .at-12 e) l
+  cleared-in = walked-in h (h .walking .at-reclaim e) l
 
   written : PutKept M M′ (walked s) replicaAt null
   written = put-replica (h .filled) (cleared-in .start) null
@@ -84,17 +84,17 @@ module _ {K : ℕ → Type 0} {m : ℕ → ℕ} {s : Store} {f : Free} (h : Sim 
   -- what was below the walk place is cleared, and now the record there
   cleared-next : (u : ℕ) → In M (s .current) u → wordOf u < place′ → replica M′ u ≡ null
   unfolding walked
-  cleared-next u t b = either (walk-split (cur-two h) (h .walking .at-12 e) (t .start) (t .side) b)
+  cleared-next u t b = either (walk-split (cur-two h) (h .walking .at-reclaim e) (t .start) (t .side) b)
       (λ c. still-null u (t .start) (h .walking .cleared e u t c))
       (λ q. rw q cleared-word)
 
   walking-clear : Walking M′ (s .current) (stage (s .phase)) place′ 0 (s .list .head) (s .list .tail)
-  walking-clear = walking-reclaim e (frame .walks (cur-two h) (walked-next h (h .walking .at-12 e) l)) (λ u t b. cleared-next u (in-back frame t) b)
+  walking-clear = walking-reclaim e (frame .walks (cur-two h) (walked-next h (h .walking .at-reclaim e) l)) (λ u t b. cleared-next u (in-back frame t) b)
 
   pub clear-sim : Sim K m (pastRecord s (put (s .memory) (walked s) replicaAt null)) f
   unfolding pastRecord
   clear-sim = record {
-    range = range-walk (rest-kept .range) place′ 0 (walked-limit h (h .walking .at-12 e) l (omega arith) (omega arith)) zero-le;
+    range = range-walk (rest-kept .range) place′ 0 (walked-limit h (h .walking .at-reclaim e) l (omega arith) (omega arith)) zero-le;
     filled = rest-kept .filled;
     identity = rest-kept .identity;
     values = rest-kept .values;

@@ -134,12 +134,12 @@ module _ {K : ℕ → Type 0} {m : ℕ → ℕ} {s : Store} {f : Free} (h : Sim 
 
   walking-on : Walking (s .memory) (s .current) (suc (stage (s .phase))) 0 0 (s .list .head) (s .list .tail)
   walking-on = record {
-    at-5 = λ a. walk-zero (s .memory) (s .current);
-    at-7 = λ a. walk-zero (s .memory) (s .current);
-    at-12 = λ a. walk-zero (s .memory) (s .current);
-    field-4 = λ a b. refl;
-    field-7 = λ a b. zero-le;
-    field-7-end = λ a b. refl;
+    at-allocate = λ a. walk-zero (s .memory) (s .current);
+    at-copy = λ a. walk-zero (s .memory) (s .current);
+    at-reclaim = λ a. walk-zero (s .memory) (s .current);
+    field-heap-mark = λ a b. refl;
+    field-copy = λ a b. zero-le;
+    field-copy-end = λ a b. refl;
     cleared = λ a v t l. absurd (omega arith);
   }
 

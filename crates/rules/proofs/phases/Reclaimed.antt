@@ -134,7 +134,7 @@ module _ {K : ℕ → Type 0} {m : ℕ → ℕ} {s : Store} {f : Free} (h : Sim 
   }
 
   kept-empty : Kept K M′ m (s .current) stRest (f .records) (f .sessions) (f .globals)
-  kept-empty = kept-carried (λ a b. absurd (omega arith)) (λ a. absurd (omega arith)) (λ a v t. h .kept .left-12 e v (in-back t)) (h .kept)
+  kept-empty = kept-carried (λ a b. absurd (omega arith)) (λ a. absurd (omega arith)) (λ a v t. h .kept .left-at-reclaim e v (in-back t)) (h .kept)
 
   -- 12 Reclaim, at the frontier
   pub reclaim-moves : haveLevel s ≡ true → Sim K m (moveOn (withMemory s (withFrontier (s .memory) (otherHalf (s .current)) 0))) f

@@ -64,8 +64,8 @@ module _ {K : ℕ → Type 0} (b : Beside) (h : Holds K b) (z : b .store .phase 
     globals = λ g e. inl (by-global g e);
     fields = field;
     marked = λ lo hi v t e. absurd (e (h .colours .at-rest (stage-is z) v t));
-    left-12 = λ e. absurd (omega arith);
-    left-0 = λ e. absurd (omega arith);
+    left-at-reclaim = λ e. absurd (omega arith);
+    left-at-rest = λ e. absurd (omega arith);
   }
     where
       field : (q i : ℕ) → Living (b .free) q → getD (recOf (b .free .records) q .refs) i null ≢ null → Living (b .free) (getD (recOf (b .free .records) q .refs) i null)
@@ -113,7 +113,7 @@ module _ {K : ℕ → Type 0} {e : Beside} (h : Holds K e) (z : e .store .phase 
   -- the current half has only such records, the other none
   pub ended-kept : AllKept K e
   ended-kept v t = in-or (e .store .current) (cur-two h) t
-      (h .kept .left-0 (stage-is z) v)
+      (h .kept .left-at-rest (stage-is z) v)
       (λ o. absurd (empty-none (rw (o .side) (h .pairs .empty (omega (arith, stage-is z)))) t))
 
   sizes : (v : ℕ) → Start (e .store .memory) v → halfOf v ≡ e .store .current

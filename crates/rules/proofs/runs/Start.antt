@@ -179,8 +179,8 @@ module _ (K : ℕ → Type 0) (to-come : (q : ℕ) → 0 < q → K q) (h0 h1 ws 
       globals = λ g z. absurd (z (no-free-global g));
       fields = λ q i k z. absurd (z (rw no-records));
       marked = λ a. absurd (omega (arith, new-stage));
-      left-12 = λ a. absurd (omega (arith, new-stage));
-      left-0 = λ a v t. absurd (none-in t);
+      left-at-reclaim = λ a. absurd (omega (arith, new-stage));
+      left-at-rest = λ a v t. absurd (none-in t);
     };
   }
 

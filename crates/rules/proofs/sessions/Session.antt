@@ -89,8 +89,8 @@ module _ {K : ℕ → Type 0} {m : ℕ → ℕ} {s : Store} {f : Free} (h : Sim 
     globals = r .globals;
     fields = r .fields;
     marked = r .marked;
-    left-12 = r .left-12;
-    left-0 = r .left-0;
+    left-at-reclaim = r .left-at-reclaim;
+    left-at-rest = r .left-at-rest;
   }
 
 module _ {K : ℕ → Type 0} {m : ℕ → ℕ} {s : Store} {f : Free} (h : Sim K m s f) where
