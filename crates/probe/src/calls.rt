@@ -60,7 +60,7 @@ fn call_reading<'a>(
 }
 
 // The call of a case.
-pub fn call(
+pub(crate) fn call(
     control: Control,
     h0: &mut [u32],
     h1: &mut [u32],

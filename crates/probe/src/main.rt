@@ -8,12 +8,12 @@ mod records; // records.rt: the control record out of the words of a case, and i
 mod calls; // calls.rt: the call of a case
 
 // The words of a case before those that it lends, and the words of a reply before those.
-pub const CASE: usize = 237;
+pub(crate) const CASE: usize = 237;
 
-pub const REPLY: usize = 232;
+pub(crate) const REPLY: usize = 232;
 
 // The kind of a stretch, which no script has.
-pub const STRETCH: u32 = 15;
+pub(crate) const STRETCH: u32 = 15;
 
 // Writes the words of the stretch of a case, after their count; for another call the count 0.
 fn write_stretch<'a>(

@@ -88,7 +88,7 @@ fn sessions_of(case: &[u32; CASE]) -> [Session; 16] {
 }
 
 // The control record of a case.
-pub fn control_of(case: &[u32; CASE]) -> Control {
+pub(crate) fn control_of(case: &[u32; CASE]) -> Control {
     let cursor = cursor_of(case);
     let globals = globals_of(case);
     let sessions = sessions_of(case);
@@ -125,7 +125,7 @@ fn value_of(answer: rules::Answer) -> usize {
 }
 
 // The answer: refusal number, and value in two words.
-pub fn put_answer(out: &mut [u32; REPLY], answer: rules::Answer) {
+pub(crate) fn put_answer(out: &mut [u32; REPLY], answer: rules::Answer) {
     let value = value_of(answer);
     out[0] = number_of(answer);
     out[1] = high(value);
@@ -188,7 +188,7 @@ fn put_sessions(out: &mut [u32; REPLY], sessions: [Session; 16]) {
 }
 
 // The control record into the words of a reply.
-pub fn put_control(out: &mut [u32; REPLY], control: Control) {
+pub(crate) fn put_control(out: &mut [u32; REPLY], control: Control) {
     let cursor = control.cursor;
     let globals = control.globals;
     let sessions = control.sessions;

@@ -9,19 +9,19 @@ use libc::STDOUT_FILENO;
 const MOST: usize = 1024;
 
 // A word as a number of the machine.
-pub fn wide(word: u32) -> usize
+pub(crate) fn wide(word: u32) -> usize
     ensures { λ r. ⌜ r ≡ word ⌝ }
 {
     word as usize
 }
 
 // The lower 32 bits of a number.
-pub fn low(x: usize) -> u32 {
+pub(crate) fn low(x: usize) -> u32 {
     (x % 4294967296) as u32
 }
 
 // The upper 32 bits of a number.
-pub fn high(x: usize) -> u32 {
+pub(crate) fn high(x: usize) -> u32 {
     (x / 4294967296) as u32
 }
 
@@ -48,7 +48,7 @@ fn decode(bytes: &[u8; 4096], words: &mut [u32])
 }
 
 // Fills the words from standard input. Answers whether there were as many.
-pub fn read_words(words: &mut [u32]) -> bool {
+pub(crate) fn read_words(words: &mut [u32]) -> bool {
     let n = words.len();
     if MOST < n {
         return false;
@@ -93,7 +93,7 @@ fn write_bytes(bytes: &[u8; 4096], m: usize) -> bool
 }
 
 // Writes the words to standard output. Answers whether all were written.
-pub fn write_words(words: &[u32]) -> bool {
+pub(crate) fn write_words(words: &[u32]) -> bool {
     let n = words.len();
     if MOST < n {
         return false;
