@@ -10,7 +10,7 @@ use Rattle.store.specs.Cursors.{having}
 use Rattle.store.proofs.Cursors.{flipped, bounds-within, all-by, tospace-by}
 use Rattle.store.proofs.Flips.{stacks-done, stack-lost, stack-flips, moved-false, moved-true}
 use Rattle.store.proofs.Marked.{unmapped}
-use Rattle.store.proofs.Searches.{lowest, lowest-of}
+use Rattle.store.proofs.Searches.{lowest-of}
 use borrow.Author.Needs.{needs}
 use Rattle.store.proofs.Cursor.stack_flip.Statement.{statement}
 use Rattle.store.proofs.Cursor.stack_flip.Tie as tie
@@ -25,9 +25,7 @@ entry c = c .before .before .before .before
 
 next : (c : tie.After-lowest) (s : Store) → entry c .args .t2 ≡ s .sessions
     → (c .lowest .result ≡ lowestUnmarked (s .sessions)) × (length (s .sessions) ≡ sessionCount)
-next c s e =
-    let n = count (entry c) in
-    lowest-of (entry c .args .t2) (s .sessions) e n (lowest (entry c .args .t2) n (c .lowest .ensures))
+next c s e = lowest-of (entry c .args .t2) (s .sessions) e (count (entry c)) (c .lowest .ensures)
 
 bounds-requires : tie.Need-bounds-requires
 bounds-requires c κs = search needs
