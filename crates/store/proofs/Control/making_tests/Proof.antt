@@ -1,8 +1,8 @@
 -- Making: each path answers the number of the first test that the lengths fail.
 use mathlib.Core.Bool.{_&&_, true}
+use mathlib.Core.Path.{_≡_}
 use borrow.Author.Tests.{not-true, not-false, eq-eqb, ne-eqb, le-leb, lt-leb}
 use Rattle.rules.specs.Control.{making, listAllowed}
-use mathlib.Core.Path.{_≡_}
 use borrow.Author.Needs.{needs}
 use Rattle.store.proofs.Control.making_tests.Statement.{statement}
 use Rattle.store.proofs.Control.making_tests.Tie as tie
