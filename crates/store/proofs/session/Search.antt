@@ -34,8 +34,10 @@ pub record Lowest (p : Session → Bool) (l : List Session) (r : ℕ) : Type 0 w
   pub before : (j : ℕ) → j < r → p (getD l j absent) ≡ false
 
 -- as the code answers it, of sixteen sessions from the first on
-pub lowest : {p : Session → Bool} {r : ℕ} (l : List Session) → length l ≡ sessionCount
-    → (0 ≤ r) × (r ≤ sessionCount) × (r < sessionCount → p (getD l r absent) ≡ true) × ((j : ℕ) → 0 ≤ j → j < r → p (getD l j absent) ≡ false) → Lowest p l r
+abbrev Searched : (Session → Bool) → List Session → ℕ → Type 0
+Searched p l r = (0 ≤ r) × (r ≤ sessionCount) × (r < sessionCount → p (getD l r absent) ≡ true) × ((j : ℕ) → 0 ≤ j → j < r → p (getD l j absent) ≡ false)
+
+pub lowest : {p : Session → Bool} {r : ℕ} (l : List Session) → length l ≡ sessionCount → Searched p l r → Lowest p l r
 lowest l k f = record { bound = omega (arith, f .1); found = λ h. f .2 (omega arith); before = λ j h. f .3 j (omega arith) h }
 
 -- the same number by going along the list
@@ -65,9 +67,9 @@ lowest-unmarked : (l : List Session) (r : ℕ) → Lowest (isWanted Unscanned) l
 lowest-unmarked l r k = lowest-is (isWanted Unscanned) l r k ∙ unmarked-along l
 
 -- the same of a store's sessions, from an array of them
-pub lowest-of : {n : ℕ} (xs ys : List Session) → xs ≡ ys → length xs ≡ sessionCount → Lowest (isWanted Unscanned) xs n
+pub lowest-of : {n : ℕ} (xs ys : List Session) → xs ≡ ys → length xs ≡ sessionCount → Searched (isWanted Unscanned) xs n
     → (n ≡ lowestUnmarked ys) × (length ys ≡ sessionCount)
-lowest-of {n} xs ys e k h = (lowest-unmarked xs n h ∙ ap lowestUnmarked e, sym (ap length e) ∙ k)
+lowest-of {n} xs ys e k f = (lowest-unmarked xs n (lowest xs k f) ∙ ap lowestUnmarked e, sym (ap length e) ∙ k)
 
 -- none found, as a test of all
 none-at : (b q : Bool) (n m : ℕ) {c : Bool} → q ≡ not b → eqb n m ≡ c → eqb (cond b 0 (suc n)) (suc m) ≡ (q && c)

@@ -19,11 +19,7 @@ other-copy-requires c κs = search needs
 
 returns-2 : tie.Need-returns-2
 unfolding forward
-returns-2 c =
-    let c1 = c .before in
-    let c2 = c1 .before in
-    let c3 = c2 .before in
-    rw (← c3 .other-half .ensures, ← c2 .in-half .ensures, c1 .if1 .left) (c .other-copy .ensures)
+returns-2 c = rw (← c .before .before .before .other-half .ensures, ← c .before .before .in-half .ensures, c .before .if1 .left) (c .other-copy .ensures)
 
 pub forward-spec : {M : Type 1} → statement M
 forward-spec =

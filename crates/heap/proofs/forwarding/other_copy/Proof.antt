@@ -19,23 +19,14 @@ returns c = copy-damage _ _ (c .before .before .follow .ensures) (c .enum-told2 
 
 get-word-requires : tie.Need-get-word-requires
 get-word-requires c κs =
-    let c1 = c .before .before in
-    let c2 = c1 .before .before .before in
-    header-inside _ _ _ _ _ (found _ _ (c1 .follow .ensures) (c .enum-told .given .1) .sound) (c2 .pre .low) (c2 .pre .high) 2 (search needs)
+    let k = c .before .before .before .before .before .pre in
+    header-inside _ _ _ _ _ (found _ _ (c .before .before .follow .ensures) (c .enum-told .given .1) .sound) (k .low) (k .high) 2 (search needs)
 
 returns-2 : tie.Need-returns-2
-returns-2 c =
-    let c1 = c .before in
-    let c2 = c1 .before in
-    let c3 = c2 .before .before in
-    copy-own _ _ (c3 .follow .ensures) (c2 .enum-told .given .1) (c1 .get-word .ensures _ _) (c .if1 .taken)
+returns-2 c = copy-own _ _ (c .before .before .before .before .follow .ensures) (c .before .before .enum-told .given .1) (c .before .get-word .ensures _ _) (c .if1 .taken)
 
 returns-3 : tie.Need-returns-3
-returns-3 c =
-    let c1 = c .before in
-    let c2 = c1 .before in
-    let c3 = c2 .before .before in
-    copy-other _ _ (c3 .follow .ensures) (c2 .enum-told .given .1) (c1 .get-word .ensures _ _) (c .if1 .left)
+returns-3 c = copy-other _ _ (c .before .before .before .before .follow .ensures) (c .before .before .enum-told .given .1) (c .before .get-word .ensures _ _) (c .if1 .left)
 
 pub other-copy-spec : {M : Type 1} → statement M
 other-copy-spec =

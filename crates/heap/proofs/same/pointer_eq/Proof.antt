@@ -18,11 +18,7 @@ replica-is-requires c κs = search needs
 
 returns-2 : tie.Need-returns-2
 unfolding pointerEQ replicaIs
-returns-2 c =
-    let c1 = c .before in
-    let c2 = c1 .before in
-    let c3 = c2 .before in
-    rw (ne-eqb _ _ (c3 .if1 .left), ← c2 .in-half .ensures, c1 .if2 .taken) (c .replica-is .ensures)
+returns-2 c = rw (ne-eqb _ _ (c .before .before .before .if1 .left), ← c .before .before .in-half .ensures, c .before .if2 .taken) (c .replica-is .ensures)
 
 in-half-requires-2 : tie.Need-in-half-requires-2
 in-half-requires-2 c κs = search needs
@@ -33,21 +29,14 @@ replica-is-requires-2 c κs = search needs
 returns-3 : tie.Need-returns-3
 unfolding pointerEQ replicaIs
 returns-3 c =
-    let c1 = c .before in
-    let c2 = c1 .before in
-    let c3 = c2 .before in
-    let c4 = c3 .before in
-    let c5 = c4 .before in
-    rw (ne-eqb _ _ (c5 .if1 .left), ← c4 .in-half .ensures, c3 .if2 .left, ← c2 .in-half2 .ensures, c1 .if3 .taken) (c .replica-is2 .ensures)
+    let f = c .before .before .before .before in
+    rw (ne-eqb _ _ (f .before .if1 .left), ← f .in-half .ensures, c .before .before .before .if2 .left, ← c .before .before .in-half2 .ensures, c .before .if3 .taken) (c .replica-is2 .ensures)
 
 returns-4 : tie.Need-returns-4
 unfolding pointerEQ replicaIs
 returns-4 c =
-    let c1 = c .before in
-    let c2 = c1 .before in
-    let c3 = c2 .before in
-    let c4 = c3 .before in
-    rw (ne-eqb _ _ (c4 .if1 .left), ← c3 .in-half .ensures, c2 .if2 .left, ← c1 .in-half2 .ensures, c .if3 .left)
+    let f = c .before .before .before in
+    rw (ne-eqb _ _ (f .before .if1 .left), ← f .in-half .ensures, c .before .before .if2 .left, ← c .before .in-half2 .ensures, c .if3 .left)
 
 pub pointer-eq-spec : {M : Type 1} → statement M
 pointer-eq-spec =

@@ -19,9 +19,8 @@ returns c = replica-damage _ _ (c .before .before .follow .ensures) _ (c .enum-t
 
 get-word-requires : tie.Need-get-word-requires
 get-word-requires c κs =
-    let c1 = c .before .before in
-    let c2 = c1 .before .before .before in
-    header-inside _ _ _ _ _ (found _ _ (c1 .follow .ensures) (c .enum-told .given .1) .sound) (c2 .pre .low) (c2 .pre .high) 2 (search needs)
+    let k = c .before .before .before .before .before .pre in
+    header-inside _ _ _ _ _ (found _ _ (c .before .before .follow .ensures) (c .enum-told .given .1) .sound) (k .low) (k .high) 2 (search needs)
 
 returns-2 : tie.Need-returns-2
 returns-2 c = replica-compared _ _ (c .before .before .before .follow .ensures) (c .before .enum-told .given .1) _ (c .get-word .ensures _ _)

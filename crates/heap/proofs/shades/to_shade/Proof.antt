@@ -1,6 +1,6 @@
 -- `heap::shades::to_shade` meets its contract.
-use Rattle.rules.specs.Barriers.{toShade}
 use borrow.Author.Tests.{eq-eqb}
+use Rattle.rules.specs.Barriers.{toShade}
 use Rattle.heap.proofs.Soundness.{found, header-inside}
 use Rattle.heap.proofs.Copies.{shade-damage, shade-white, shade-other}
 use borrow.Author.Needs.{needs}
@@ -25,25 +25,18 @@ returns-2 c = shade-damage _ _ (c .before .before .follow .ensures) (c .before .
 
 get-word-requires : tie.Need-get-word-requires
 get-word-requires c κs =
-    let c1 = c .before .before in
-    let c2 = c1 .before .before .before .before in
-    header-inside _ _ _ _ _ (found _ _ (c1 .follow .ensures) (c .enum-told .given .1) .sound) (c2 .pre .low) (c2 .pre .high) 1 (search needs)
+    let k = c .before .before .before .before .before .before .pre in
+    header-inside _ _ _ _ _ (found _ _ (c .before .before .follow .ensures) (c .enum-told .given .1) .sound) (k .low) (k .high) 1 (search needs)
 
 returns-3 : tie.Need-returns-3
 returns-3 c =
-    let c1 = c .before in
-    let c2 = c1 .before in
-    let c3 = c2 .before .before in
-    let c4 = c3 .before in
-    shade-white _ _ (c3 .follow .ensures) (c2 .enum-told .given .1) (c4 .if1 .left) (c1 .get-word .ensures _ _) (c .if2 .taken)
+    let f = c .before .before .before .before in
+    shade-white _ _ (f .follow .ensures) (c .before .before .enum-told .given .1) (f .before .if1 .left) (c .before .get-word .ensures _ _) (c .if2 .taken)
 
 returns-4 : tie.Need-returns-4
 returns-4 c =
-    let c1 = c .before in
-    let c2 = c1 .before in
-    let c3 = c2 .before .before in
-    let c4 = c3 .before in
-    shade-other _ _ (c3 .follow .ensures) (c2 .enum-told .given .1) (c4 .if1 .left) (c1 .get-word .ensures _ _) (c .if2 .left)
+    let f = c .before .before .before .before in
+    shade-other _ _ (f .follow .ensures) (c .before .before .enum-told .given .1) (f .before .if1 .left) (c .before .get-word .ensures _ _) (c .if2 .left)
 
 pub to-shade-spec : {M : Type 1} → statement M
 to-shade-spec =

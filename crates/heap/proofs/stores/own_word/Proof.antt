@@ -27,21 +27,14 @@ other-copy-requires c κs = search needs
 returns-2 : tie.Need-returns-2
 unfolding ownWord
 returns-2 c =
-    let c1 = c .before in
-    let c2 = c1 .before in
-    let c3 = c2 .before in
-    let c4 = c3 .before in
-    let c5 = c4 .before in
-    rw (ne-eqb _ _ (c5 .if1 .left), ← c4 .other-half .ensures, ← c3 .in-half .ensures, ← c2 .in-half2 .ensures, c1 .if2 .taken) (c .other-copy .ensures)
+    let f = c .before .before .before in
+    rw (ne-eqb _ _ (c .before .before .before .before .before .if1 .left), ← f .before .other-half .ensures, ← f .in-half .ensures, ← c .before .before .in-half2 .ensures, c .before .if2 .taken) (c .other-copy .ensures)
 
 returns-3 : tie.Need-returns-3
 unfolding ownWord
 returns-3 c =
-    let c1 = c .before in
-    let c2 = c1 .before in
-    let c3 = c2 .before in
-    let c4 = c3 .before in
-    rw (ne-eqb _ _ (c4 .if1 .left), ← c3 .other-half .ensures, ← c2 .in-half .ensures, ← c1 .in-half2 .ensures, c .if2 .left)
+    let f = c .before .before in
+    rw (ne-eqb _ _ (c .before .before .before .before .if1 .left), ← f .before .other-half .ensures, ← f .in-half .ensures, ← c .before .in-half2 .ensures, c .if2 .left)
 
 pub own-word-spec : {M : Type 1} → statement M
 own-word-spec =

@@ -20,35 +20,20 @@ enum-told : tie.Need-enum-told
 enum-told c = search needs
 
 returns-2 : tie.Need-returns-2
-returns-2 c =
-    let c1 = c .before .before in
-    let c2 = c1 .before in
-    let c3 = c2 .before in
-    let c4 = c3 .before .before .before in
-    replica-lost _ (c4 .args .plain) _ _ _ (c3 .get-word .ensures _ _) (c2 .if1 .left) (c1 .follow .ensures) (c .enum-told .given .1)
+returns-2 c = replica-lost _ (c .before .before .before .before .before .before .before .args .plain) _ _ _ (c .before .before .before .before .get-word .ensures _ _) (c .before .before .before .if1 .left) (c .before .before .follow .ensures) (c .enum-told .given .1)
 
 count-of-requires : tie.Need-count-of-requires
 count-of-requires c κs = search needs
 
 returns-3 : tie.Need-returns-3
 returns-3 c =
-    let c1 = c .before in
-    let c2 = c1 .before .before in
-    let c3 = c2 .before .before in
-    let c4 = c3 .before in
-    let c5 = c4 .before in
-    let c6 = c5 .before .before .before in
-    replica-short _ (c6 .args .plain) _ _ _ (c5 .get-word .ensures _ _) (c4 .if1 .left) (c3 .follow .ensures) (c2 .r .given .1) (c1 .count-of .ensures) (c .if2 .taken)
+    let f = c .before .before .before .before .before in
+    replica-short _ (c .before .before .before .before .before .before .before .before .before .before .args .plain) _ _ _ (f .before .before .get-word .ensures _ _) (f .before .if1 .left) (f .follow .ensures) (c .before .before .before .r .given .1) (c .before .count-of .ensures) (c .if2 .taken)
 
 returns-4 : tie.Need-returns-4
 returns-4 c =
-    let c1 = c .before in
-    let c2 = c1 .before .before in
-    let c3 = c2 .before .before in
-    let c4 = c3 .before in
-    let c5 = c4 .before in
-    let c6 = c5 .before .before .before in
-    replica-long _ (c6 .args .plain) _ _ _ (c5 .get-word .ensures _ _) (c4 .if1 .left) (c3 .follow .ensures) (c2 .r .given .1) (c1 .count-of .ensures) (c .if2 .left)
+    let f = c .before .before .before .before .before in
+    replica-long _ (c .before .before .before .before .before .before .before .before .before .before .args .plain) _ _ _ (f .before .before .get-word .ensures _ _) (f .before .if1 .left) (f .follow .ensures) (c .before .before .before .r .given .1) (c .before .count-of .ensures) (c .if2 .left)
 
 pub replica-for-spec : {M : Type 1} → statement M
 replica-for-spec =

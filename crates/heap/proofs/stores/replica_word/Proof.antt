@@ -21,11 +21,7 @@ other-copy-requires c κs = search needs
 
 returns-2 : tie.Need-returns-2
 unfolding replicaWord halfOf
-returns-2 c =
-    let c1 = c .before in
-    let c2 = c1 .before in
-    let c3 = c2 .before in
-    rw (eq-eqb _ _ (c3 .if1 .left), ← c2 .in-half .ensures, c1 .if2 .taken) (c .other-copy .ensures)
+returns-2 c = rw (eq-eqb _ _ (c .before .before .before .if1 .left), ← c .before .before .in-half .ensures, c .before .if2 .taken) (c .other-copy .ensures)
 
 returns-3 : tie.Need-returns-3
 unfolding replicaWord halfOf

@@ -1,11 +1,18 @@
 -- `heap::words::get_word` meets its contract.
-use native.Mathlib.Omega.{arith}
+use Prim.Native.Nat.{_+_, _<_}
 use mathlib.Core.Path.{ap}
+use native.Mathlib.Omega.{arith}
 use lib.ListN.{length}
 use Rattle.rules.specs.Memory.{word}
 use borrow.Author.Needs.{needs}
 use Rattle.heap.proofs.words.get_word.Statement.{statement}
 use Rattle.heap.proofs.words.get_word.Tie as tie
+
+-- the word is one of its half
+inside : (c : tie.After-half-of) → c .before .word-of .result + c .before .before .before .before .args .j < length (c .half-of .result .now)
+inside c =
+    let e = ap length (c .half-of .ensures 0 0) in
+    omega (arith, c .before .before .before .before .pre .below, c .before .word-of .ensures)
 
 word-of-requires : tie.Need-word-of-requires
 word-of-requires c κs = search needs
@@ -14,23 +21,13 @@ half-of-requires : tie.Need-half-of-requires
 half-of-requires c κs = search needs
 
 add-result : tie.Need-add-result
-add-result c =
-    let c1 = c .before in
-    let c2 = c1 .before .before .before in
-    let e = ap length (c .half-of .ensures 0 0) in omega (arith, c2 .pre .below, c1 .word-of .ensures)
+add-result c = omega (arith, inside c)
 
 mul-result : tie.Need-mul-result
-mul-result c =
-    let c1 = c .before in
-    let c2 = c1 .before .before .before in
-    let e = ap length (c .half-of .ensures 0 0) in omega (arith, c2 .pre .below, c1 .word-of .ensures)
+mul-result c = omega (arith, inside c)
 
 shared-slice-read-result : tie.Need-shared-slice-read-result
-shared-slice-read-result c =
-    let c1 = c .before in
-    let c2 = c1 .before in
-    let c3 = c2 .before .before .before in
-    let e = ap length (c1 .half-of .ensures 0 0) in omega (arith, c3 .pre .below, c2 .word-of .ensures)
+shared-slice-read-result c = omega (arith, inside (c .before))
 
 returns : tie.Need-returns
 unfolding word

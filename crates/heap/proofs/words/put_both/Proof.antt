@@ -9,10 +9,8 @@ put-word-requires c κs = search needs
 
 put-word-requires-2 : tie.Need-put-word-requires-2
 put-word-requires-2 c κs =
-    let c1 = c .before .before in
-    let c2 = c1 .before .before .before .before .before in
-    let c3 = c2 .before .before .before .before .before in
-    inside-kept _ _ _ _ _ _ (c2 .put-word .kept .0) (c2 .put-word .kept .1 .0) (c3 .pre .1 (c1 .if1 .taken))
+    let k = c .before .before .before .before .before .before .before .put-word .kept in
+    inside-kept _ _ _ _ _ _ (k .0) (k .1 .0) (c .before .before .before .before .before .before .before .before .before .before .before .before .pre .1 (c .before .before .if1 .taken))
 
 same-length : tie.Need-same-length
 same-length c = search needs
@@ -22,10 +20,8 @@ same-length-2 c = search needs
 
 returns : tie.Need-returns
 returns c =
-    let c1 = c .before .before .before .before in
-    let c2 = c1 .before .before .before in
-    let c3 = c2 .before .before .before .before .before in
-    λ f0 f1. put-two _ _ _ _ _ _ _ (c3 .put-word .ensures f0 f1) (c2 .if1 .taken) (c1 .put-word2 .ensures f0 f1)
+    let t = c .before .before .before .before .before .before .before in
+    λ f0 f1. put-two _ _ _ _ _ _ _ (c .before .before .before .before .before .before .before .before .before .before .before .before .put-word .ensures f0 f1) (t .if1 .taken) (c .before .before .before .before .put-word2 .ensures f0 f1)
 
 same-length-3 : tie.Need-same-length-3
 same-length-3 c = search needs

@@ -27,9 +27,8 @@ add-k-2 c = search needs
 
 put-both-requires : tie.Need-put-both-requires
 put-both-requires c κs =
-    let c1 = c .before .before in
-    let c2 = c1 .before .before .before .before .before .before in
-    (c2 .pre .0, λ n. rw (c1 .refs-of .ensures 0 0) (c2 .pre .1 n .field))
+    let p = c .before .before .before .before .before .before .before .before .pre in
+    (p .0, λ n. rw (c .before .before .refs-of .ensures 0 0) (p .1 n .field))
 
 same-length : tie.Need-same-length
 same-length c = search needs
@@ -38,10 +37,7 @@ same-length-2 : tie.Need-same-length-2
 same-length-2 c = search needs
 
 returns : tie.Need-returns
-returns c =
-    let c1 = c .before .before .before .before in
-    let c2 = c1 .before .before .before in
-    λ f0 f1. put-one _ _ _ _ _ _ _ (c1 .put-word .ensures f0 f1) (c2 .if1 .taken)
+returns c = λ f0 f1. put-one _ _ _ _ _ _ _ (c .before .before .before .before .put-word .ensures f0 f1) (c .before .before .before .before .before .before .before .if1 .taken)
 
 same-length-3 : tie.Need-same-length-3
 same-length-3 c = search needs
@@ -50,10 +46,7 @@ same-length-4 : tie.Need-same-length-4
 same-length-4 c = search needs
 
 returns-2 : tie.Need-returns-2
-returns-2 c =
-    let c1 = c .before .before .before .before in
-    let c2 = c1 .before .before .before in
-    λ f0 f1. rw (← c2 .refs-of .ensures f0 f1) (c1 .put-both .ensures f0 f1)
+returns-2 c = λ f0 f1. rw (← c .before .before .before .before .before .before .before .refs-of .ensures f0 f1) (c .before .before .before .before .put-both .ensures f0 f1)
 
 pub put-plain-spec : {M : Type 1} → statement M
 put-plain-spec =

@@ -3,10 +3,15 @@ use native.Mathlib.Omega.{arith}
 use Rattle.rules.specs.Phases.{sessionAt}
 use Rattle.rules.specs.Calls.{allocate}
 use Rattle.store.proofs.tests.Numbers.{refused-by}
-use Rattle.store.proofs.allocation.Tests.{allocating, allocate-done}
+use Rattle.store.proofs.allocation.Tests.{Allocating, allocating, allocate-done}
 use borrow.Author.Needs.{needs}
 use Rattle.store.proofs.Control.allocate.Statement.{statement}
 use Rattle.store.proofs.Control.allocate.Tie as tie
+
+-- what holds past the tests
+known : (c : tie.Else1) → let a = c .before .before .before .before .before .before .before .args in
+    Allocating (a .t1) (a .h0 .now) (a .h1 .now) (a .list .now) (a .s) (a .register) (a .r) (a .p)
+known c = allocating _ _ _ _ _ _ _ _ (c .before .allocation-tests .ensures) (c .if1 .left)
 
 allocation-tests-requires : tie.Need-allocation-tests-requires
 allocation-tests-requires c κs = search needs
@@ -24,29 +29,20 @@ mul-session : tie.Need-mul-session
 mul-session c = search needs
 
 element-copy-out-session : tie.Need-element-copy-out-session
-element-copy-out-session c =
-    let k = allocating _ _ _ _ _ _ _ _ (c .before .allocation-tests .ensures) (c .if1 .left) in
-    omega (arith, k .number)
+element-copy-out-session c = omega (arith, known c .number)
 
 allocated-reference-requires : tie.Need-allocated-reference-requires
 allocated-reference-requires c κs =
-    let c1 = c .before in
-    let c2 = c1 .before in
-    let k = allocating _ _ _ _ _ _ _ _ (c2 .allocation-tests .ensures) (c1 .if1 .left) .ready .small in
+    let k = known (c .before) .ready .small in
     (k .half, k .low, k .high)
 
 allocated-requires : tie.Need-allocated-requires
 unfolding sessionAt
-allocated-requires c κs =
-    let c1 = c .before .before .before .before in
-    let c2 = c1 .before in
-    allocating _ _ _ _ _ _ _ _ (c2 .allocation-tests .ensures) (c1 .if1 .left) .ready
+allocated-requires c κs = known (c .before .before .before .before) .ready
 
 with-register-requires : tie.Need-with-register-requires
 with-register-requires c κs =
-    let c1 = c .before .before .before .before .before .before .before .before .before in
-    let c2 = c1 .before in
-    let k = allocating _ _ _ _ _ _ _ _ (c2 .allocation-tests .ensures) (c1 .if1 .left) in
+    let k = known (c .before .before .before .before .before .before .before .before .before) in
     (k .number, k .register)
 
 same-length-3 : tie.Need-same-length-3
@@ -58,12 +54,9 @@ same-length-4 c = search needs
 returns-2 : tie.Need-returns-2
 unfolding sessionAt
 returns-2 c =
-    let c1 = c .before .before .before .before .before in
-    let c2 = c1 .before .before .before in
-    let c3 = c2 .before .before in
-    let c4 = c3 .before in
-    let k = allocating _ _ _ _ _ _ _ _ (c4 .allocation-tests .ensures) (c3 .if1 .left) in
-    rw (allocate-done _ _ _ _ _ _ _ _ k (c2 .allocated-reference .ensures _ _ _) (c1 .allocated .ensures _) (c .with-register .ensures _ _ _))
+    rw
+    (allocate-done _ _ _ _ _ _ _ _ (known (c .before .before .before .before .before .before .before .before .before .before)) (c .before .before .before .before .before .before .before .before .allocated-reference .ensures _ _ _)
+    (c .before .before .before .before .before .allocated .ensures _) (c .with-register .ensures _ _ _))
 
 pub allocate-spec : {M : Type 1} → statement M
 allocate-spec =

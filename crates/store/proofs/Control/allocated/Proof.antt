@@ -1,8 +1,8 @@
 -- The record of each level.
 use Prim.Native.Nat.{_≤_}
 use mathlib.Core.List.{[]}
-use Rattle.store.proofs.allocation.Record.{below-at, other-small, fromspace-small, frontier-small, room-one, room-each, room-second, allocated-white, allocated-black, allocated-both}
 use native.Mathlib.Omega.{arith}
+use Rattle.store.proofs.allocation.Record.{below-at, other-small, fromspace-small, frontier-small, room-one, room-each, room-second, allocated-white, allocated-black, allocated-both}
 use borrow.Author.Needs.{needs}
 use Rattle.store.proofs.Control.allocated.Statement.{statement}
 use Rattle.store.proofs.Control.allocated.Tie as tie

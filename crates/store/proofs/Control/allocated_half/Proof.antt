@@ -21,12 +21,9 @@ other-half-requires : tie.Need-other-half-requires
 other-half-requires c κs = search needs
 
 returns-3 : tie.Need-returns-3
-returns-3 c =
-    let c1 = c .before in
-    let c2 = c1 .before in
-    let c3 = c2 .before in (
+returns-3 c = (
       below-at (c .other-half .ensures) (other-small _),
-      λ h0 h1 l. given-to _ _ (c3 .if1 .left) (c1 .if2 .left) (c2 .fromspace .ensures h0 h1 l) (c .other-half .ensures),
+      λ h0 h1 l. given-to _ _ (c .before .before .before .if1 .left) (c .before .if2 .left) (c .before .before .fromspace .ensures h0 h1 l) (c .other-half .ensures),
     )
 
 pub allocated-half-spec : {M : Type 1} → statement M

@@ -13,10 +13,8 @@ frontier-requires c κs = search needs
 
 reference-requires : tie.Need-reference-requires
 reference-requires c κs =
-    let c1 = c .before in
-    let c2 = c1 .before in
-    let p = c2 .pre in
-    (c1 .allocated-half .ensures .0, below-at (c .frontier .ensures [] []) (frontier-small [] [] _ _ _ (p .1) (p .2)))
+    let p = c .before .before .pre in
+    (c .before .allocated-half .ensures .0, below-at (c .frontier .ensures [] []) (frontier-small [] [] _ _ _ (p .1) (p .2)))
 
 returns : tie.Need-returns
 returns c = λ h0 h1 l. given _ _ _ (c .before .before .allocated-half .ensures .1 h0 h1 l) (c .before .frontier .ensures _ _) (c .reference .ensures)

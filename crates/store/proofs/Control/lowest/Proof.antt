@@ -33,9 +33,8 @@ is-wanted-requires c κs = search needs
 
 returns : tie.Need-returns Inv-loop μ-loop
 returns c =
-    let c1 = c .before in
-    let loop = c1 .before .before .before .loop in
-    (loop .inv .1, loop .inv .2, λ h. sym (c1 .is-wanted .ensures) ∙ c .if1 .taken, loop .inv .3)
+    let loop = c .before .before .before .before .loop in
+    (loop .inv .1, loop .inv .2, λ h. sym (c .before .is-wanted .ensures) ∙ c .if1 .taken, loop .inv .3)
 
 add-i : tie.Need-add-i Inv-loop μ-loop
 add-i c = search needs
@@ -45,11 +44,9 @@ loop-less c = search needs
 
 loop-again : tie.Need-loop-again Inv-loop μ-loop
 loop-again c =
-    let c1 = c .before in
-    let c2 = c1 .before .before .before in
-    let a = c2 .before .args in
-    let loop = c2 .loop in
-    (search needs, search needs, search needs, none-more (isWanted (a .wanted)) (a .t1) (a .first) (loop .i) (loop .inv .3) (sym (c1 .is-wanted .ensures) ∙ c .if1 .left))
+    let a = c .before .before .before .before .before .args in
+    let loop = c .before .before .before .before .loop in
+    (search needs, search needs, search needs, none-more (isWanted (a .wanted)) (a .t1) (a .first) (loop .i) (loop .inv .3) (sym (c .before .is-wanted .ensures) ∙ c .if1 .left))
 
 returns-2 : tie.Need-returns-2 Inv-loop μ-loop
 returns-2 c =

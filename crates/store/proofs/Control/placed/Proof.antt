@@ -25,9 +25,8 @@ add-with-frontier c = omega (arith, c .before .before .before .before .before .b
 
 add-with-frontier-2 : tie.Need-add-with-frontier-2
 add-with-frontier-2 c =
-    let c1 = c .before .before .before .before .before .before .before in
-    let c2 = c1 .before .before .before in
-    omega (arith, c2 .pre, below-at (c1 .frontier .ensures _ _) (c2 .pre .short))
+    let k = c .before .before .before .before .before .before .before .before .before .before .pre in
+    omega (arith, k, below-at (c .before .before .before .before .before .before .before .frontier .ensures _ _) (k .short))
 
 with-frontier-requires : tie.Need-with-frontier-requires
 with-frontier-requires c κs = search needs
@@ -39,10 +38,7 @@ same-length-2 : tie.Need-same-length-2
 same-length-2 c = search needs
 
 returns : tie.Need-returns
-returns c =
-    let c1 = c .before .before .before .before .before in
-    let c2 = c1 .before .before .before in
-    λ l. placed-at _ _ _ _ _ _ (c2 .frontier .ensures _ _) (c1 .append-record .ensures _ _) (c .with-frontier .ensures _ _ l)
+returns c = λ l. placed-at _ _ _ _ _ _ (c .before .before .before .before .before .before .before .before .frontier .ensures _ _) (c .before .before .before .before .before .append-record .ensures _ _) (c .with-frontier .ensures _ _ l)
 
 pub placed-spec : {M : Type 1} → statement M
 placed-spec =

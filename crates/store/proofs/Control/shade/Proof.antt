@@ -6,16 +6,10 @@ use Rattle.store.proofs.Control.shade.Statement.{statement}
 use Rattle.store.proofs.Control.shade.Tie as tie
 
 put-grey-requires : tie.Need-put-grey-requires
-put-grey-requires c κs =
-    let c1 = c .before .before .before in
-    let start = c1 .before .before .before .before in
-    start .pre (c1 .if1 .taken)
+put-grey-requires c κs = c .before .before .before .before .before .before .before .pre (c .before .before .before .if1 .taken)
 
 add-c : tie.Need-add-c
-add-c c =
-    let c1 = c .before .before .before .before .before .before .before .before .before .before .before in
-    let start = c1 .before .before .before .before in
-    omega (arith, start .pre (c1 .if1 .taken) .1)
+add-c c = omega (arith, c .before .before .before .before .before .before .before .before .before .before .before .before .before .before .before .pre (c .before .before .before .before .before .before .before .before .before .before .before .if1 .taken) .1)
 
 unmarked-requires : tie.Need-unmarked-requires
 unmarked-requires c κs = search needs
@@ -31,9 +25,8 @@ same-length-3 c = search needs
 
 returns : tie.Need-returns
 returns c =
-    let c1 = c .before .before .before .before .before .before .before .before .before in
-    let c2 = c1 .before .before .before .before in
-    shade-record _ _ (c2 .if1 .taken) (c1 .put-grey .ensures .0 _ _) (c1 .put-grey .ensures .1) (c .unmarked .ensures)
+    let e = c .before .before .before .before .before .before .before .before .before .put-grey .ensures in
+    shade-record _ _ (c .before .before .before .before .before .before .before .before .before .before .before .before .before .if1 .taken) (e .0 _ _) (e .1) (c .unmarked .ensures)
 
 returns-2 : tie.Need-returns-2
 returns-2 c = shade-null _ _ (c .if1 .left)

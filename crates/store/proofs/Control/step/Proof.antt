@@ -56,10 +56,7 @@ same-length-3 : tie.Need-same-length-3
 same-length-3 c = search needs
 
 returns : tie.Need-returns
-returns c =
-    let c1 = c .before in
-    let c2 = c1 .before .before .before .before .before .before .before .before in
-    rw (c1 .work2 .given .1) at (c2 .work .ensures)
+returns c = rw (c .before .work2 .given .1) at (c .before .before .before .before .before .before .before .before .before .work .ensures)
 
 same-length-4 : tie.Need-same-length-4
 same-length-4 c = search needs
@@ -72,9 +69,8 @@ same-length-6 c = search needs
 
 returns-2 : tie.Need-returns-2
 returns-2 c =
-    let c1 = c .before .before .before in
-    let c2 = c1 .before .before .before .before .before .before .before .before in
-    rw (c1 .work3 .given .1, c .enum-told .given .1) at (c2 .work .ensures)
+    let w = c .before .before .before in
+    rw (w .work3 .given .1, c .enum-told .given .1) at (c .before .before .before .before .before .before .before .before .before .before .before .work .ensures)
 
 same-length-7 : tie.Need-same-length-7
 same-length-7 c = search needs
@@ -87,10 +83,8 @@ same-length-9 c = search needs
 
 returns-3 : tie.Need-returns-3
 returns-3 c =
-    let c1 = c .before .before in
-    let c2 = c1 .before .before .before in
-    let c3 = c2 .before .before .before .before .before .before .before .before in
-    rw (c .unmarked .ensures) (rw (c2 .work3 .given .1, c1 .enum-told2 .given .1) at (c3 .work .ensures))
+    let w = c .before .before .before .before .before in
+    rw (c .unmarked .ensures) (rw (w .work3 .given .1, c .before .before .enum-told2 .given .1) at (c .before .before .before .before .before .before .before .before .before .before .before .before .before .work .ensures))
 
 same-length-10 : tie.Need-same-length-10
 same-length-10 c = search needs
@@ -103,10 +97,8 @@ same-length-12 c = search needs
 
 returns-4 : tie.Need-returns-4
 returns-4 c =
-    let c1 = c .before .before in
-    let c2 = c1 .before .before .before in
-    let c3 = c2 .before .before .before .before .before .before .before .before in
-    rw (c2 .work3 .given .1, c1 .touch .given .1) at (c3 .work .ensures)
+    let w = c .before .before .before .before .before in
+    rw (w .work3 .given .1, c .before .before .touch .given .1) at (c .before .before .before .before .before .before .before .before .before .before .before .before .before .work .ensures)
 
 same-length-13 : tie.Need-same-length-13
 same-length-13 c = search needs
@@ -119,14 +111,11 @@ same-length-15 c = search needs
 
 returns-5 : tie.Need-returns-5
 returns-5 c =
-    let c1 = c .before .before in
-    let c2 = c1 .before .before .before in
-    let c3 = c2 .before .before .before .before .before .before .before .before in
-    let start = c3 .before .before .before .before .before .before .before in
-    let t = c1 .touch .given in
-    let gs = start .args .t1 .globals in
+    let w = c .before .before .before .before .before in
+    let t = c .before .before .touch .given in
+    let start = c .before .before .before .before .before .before .before .before .before .before .before .before .before .before .before .before .before .before .before .before in
     let k = count start in
-    rw (c2 .work3 .given .1, t .1, set-out gs (t .0 .0) (t .0 .1 .0) (omega arith)) at (c3 .work .ensures)
+    rw (w .work3 .given .1, t .1, set-out (start .args .t1 .globals) (t .0 .0) (t .0 .1 .0) (omega arith)) at (c .before .before .before .before .before .before .before .before .before .before .before .before .before .work .ensures)
 
 same-length-16 : tie.Need-same-length-16
 same-length-16 c = search needs
@@ -140,10 +129,8 @@ same-length-18 c = search needs
 returns-6 : tie.Need-returns-6
 unfolding sessionAt withSession
 returns-6 c =
-    let c1 = c .before .before .before in
-    let c2 = c1 .before .before .before in
-    let c3 = c2 .before .before .before .before .before .before .before .before in
-    rw (c .marked .ensures) (rw (c2 .work3 .given .1, c1 .touch2 .given .1) at (c3 .work .ensures))
+    let w = c .before .before .before .before .before .before in
+    rw (c .marked .ensures) (rw (w .work3 .given .1, c .before .before .before .touch2 .given .1) at (c .before .before .before .before .before .before .before .before .before .before .before .before .before .before .work .ensures))
 
 pub step-spec : {M : Type 1} → statement M
 step-spec =

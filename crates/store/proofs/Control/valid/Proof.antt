@@ -15,10 +15,10 @@ lowest-requires c κs = search needs
 
 returns : tie.Need-returns
 returns c =
-    let c1 = c .before .before .before .before .before .before .before .before .before .before .before .before .before .before .before .before .before .before .before .before in
-    let a = c1 .args in
+    let start = c .before .before .before .before .before .before .before .before .before .before .before .before .before .before .before .before .before .before .before .before in
+    let a = start .args in
     let sessions = a .self .sessions in
-    let ok = c1 .good .0 .1 .1 .1 .1 .1 .1 .1 .0 in
+    let ok = start .good .0 .1 .1 .1 .1 .1 .1 .1 .0 in
     let k : length sessions ≡ sessionCount = search (needs, unmapped) in
     in-groups (view (a .self) (a .h0 .now) (a .h1 .now) (a .list .now)) _ (rw k at (levels-in-range sessions _ (lowest sessions k (c .lowest .ensures))))
 

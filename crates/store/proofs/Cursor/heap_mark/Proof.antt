@@ -3,13 +3,13 @@ use mathlib.Core.Path.{_≡_, ap}
 use mathlib.Core.List.{List}
 use native.Mathlib.Omega.{arith}
 use lib.ListN.{length, getD}
-use Rattle.rules.specs.Control.{sessionCount}
-use Rattle.rules.specs.Phases.{absent}
+use Rattle.rules.specs.Control.{Store, sessionCount}
+use Rattle.rules.specs.Phases.{absent, lowestUnmarked}
 use Rattle.rules.specs.declared.Session.{Session}
 use Rattle.store.specs.Cursors.{having}
 use Rattle.store.proofs.collector.Numbers.{moves}
 use Rattle.store.proofs.shading.Phases.{unmapped, listed-next, session-next, marking-done}
-use Rattle.store.proofs.session.Search.{lowest, lowest-of}
+use Rattle.store.proofs.session.Search.{lowest-of}
 use borrow.Author.Needs.{needs}
 use Rattle.store.proofs.Cursor.heap_mark.Statement.{statement}
 use Rattle.store.proofs.Cursor.heap_mark.Tie as tie
@@ -17,6 +17,14 @@ use Rattle.store.proofs.Cursor.heap_mark.Tie as tie
 -- the number of sessions
 count : (c : tie.Start) → length (c .args .t2) ≡ sessionCount
 count c = search (needs, unmapped)
+
+-- the entry, from where the list is done and the next session is looked for, and that session
+abbrev entry : tie.After-lowest → tie.Start
+entry c = c .before .before .before .before .before .before
+
+next : (c : tie.After-lowest) (s : Store) → entry c .args .t2 ≡ s .sessions
+    → (c .lowest .result ≡ lowestUnmarked (s .sessions)) × (length (s .sessions) ≡ sessionCount)
+next c s e = lowest-of (entry c .args .t2) (s .sessions) e (count (entry c)) (c .lowest .ensures)
 
 mul-v : tie.Need-mul-v
 mul-v c = search needs
@@ -38,11 +46,8 @@ same-length-3 c = search needs
 
 returns : tie.Need-returns
 returns c =
-    let c1 = c .before .before .before .before .before .before in
-    let c2 = c1 .before .before .before .before .before in
-    let start = c2 .before .before .before .before .before in
-    let a = start .args in
-    λ s e. rw (listed-next (having s (a .self) (a .h0 .now) (a .h1 .now) (a .list .now)) (c2 .if1 .taken)) (c1 .scan-record .ensures s)
+    let a = c .before .before .before .before .before .before .before .before .before .before .before .before .before .before .before .before .args in
+    λ s e. rw (listed-next (having s (a .self) (a .h0 .now) (a .h1 .now) (a .list .now)) (c .before .before .before .before .before .before .before .before .before .before .before .if1 .taken)) (c .before .before .before .before .before .before .scan-record .ensures s)
 
 lowest-requires : tie.Need-lowest-requires
 lowest-requires c κs = search needs
@@ -67,32 +72,25 @@ same-length-6 c = search needs
 
 returns-2 : tie.Need-returns-2
 returns-2 c =
-    let c1 = c .before .before .before .before .before .before in
-    let c2 = c1 .before .before .before .before .before .before in
-    let c3 = c2 .before in
-    let c4 = c3 .before in
-    let start = c4 .before .before .before .before .before in
-    let a = start .args in
-    let n = c3 .lowest .result in
+    let n = c .before .before .before .before .before .before .before .before .before .before .before .before .before in
+    let a = entry n .args in
+    let i = n .lowest .result in
     λ s e.
-    let m = lowest-of (a .t2) (s .sessions) e (count start) (lowest (a .t2) (count start) (c3 .lowest .ensures)) in
-    rw (session-next (having s (a .self) (a .h0 .now) (a .h1 .now) (a .list .now)) (c4 .if1 .left) (m .0) (omega (arith, m .1, c2 .if2 .taken)))
-    (c1 .scan-session .ensures s (ap (λ (xs : List Session). getD xs n absent .registers) e))
+    let m = next n s e in
+    rw (session-next (having s (a .self) (a .h0 .now) (a .h1 .now) (a .list .now)) (n .before .if1 .left) (m .0) (omega (arith, m .1, c .before .before .before .before .before .before .before .before .before .before .before .before .if2 .taken)))
+    (c .before .before .before .before .before .before .scan-session .ensures s (ap (λ (xs : List Session). getD xs i absent .registers) e))
 
 move-on-requires : tie.Need-move-on-requires
-move-on-requires c κs = c .before .before .before .before .before .before .before .pre .0 .phases
+move-on-requires c κs = entry (c .before) .pre .0 .phases
 
 returns-3 : tie.Need-returns-3
 returns-3 c =
-    let c1 = c .before in
-    let c2 = c1 .before in
-    let c3 = c2 .before in
-    let start = c3 .before .before .before .before .before in
-    let a = start .args in
+    let n = c .before .before in
+    let a = entry n .args in
     λ s e.
-    let m = lowest-of (a .t2) (s .sessions) e (count start) (lowest (a .t2) (count start) (c2 .lowest .ensures)) in
+    let m = next n s e in
     moves s (a .self) _ _ _ (c .move-on .ensures)
-    (rw (marking-done (having s (a .self) (a .h0 .now) (a .h1 .now) (a .list .now)) (c3 .if1 .left) (m .0) (omega (arith, m .1, c1 .if2 .left))))
+    (rw (marking-done (having s (a .self) (a .h0 .now) (a .h1 .now) (a .list .now)) (n .before .if1 .left) (m .0) (omega (arith, m .1, c .before .if2 .left))))
 
 pub heap-mark-spec : {M : Type 1} → statement M
 heap-mark-spec =

@@ -12,15 +12,17 @@ use borrow.Author.Needs.{needs}
 use Rattle.store.proofs.Cursor.root_flip.Statement.{statement}
 use Rattle.store.proofs.Cursor.root_flip.Tie as tie
 
+-- the entry, from where the next global is forwarded
+abbrev entry : tie.After-bounds → tie.Start
+entry c = c .before .before .before .before
+
 move-on-requires : tie.Need-move-on-requires
 move-on-requires c κs = c .before .before .before .pre .phases
 
 returns : tie.Need-returns
 returns c =
-    let c1 = c .before in
-    let start = c1 .before .before .before in
-    let a = start .args in
-    λ s l e. moves s (a .self) _ _ l (c .move-on .ensures) (roots-done (having s (a .self) (a .h0 .now) (a .h1 .now) l) (c1 .if1 .taken))
+    let a = c .before .before .before .before .args in
+    λ s l e. moves s (a .self) _ _ l (c .move-on .ensures) (roots-done (having s (a .self) (a .h0 .now) (a .h1 .now) l) (c .before .if1 .taken))
 
 bounds-requires : tie.Need-bounds-requires
 bounds-requires c κs = search needs
@@ -32,9 +34,7 @@ array-read-forward : tie.Need-array-read-forward
 array-read-forward c = search needs
 
 forward-requires : tie.Need-forward-requires
-forward-requires c κs =
-    let start = c .before .before .before .before in
-    bounds-within (start .args .self) _ _ (c .bounds .ensures) (start .pre) (omega arith)
+forward-requires c κs = bounds-within (entry c .args .self) _ _ (c .bounds .ensures) (entry c .pre) (omega arith)
 
 enum-known-q : tie.Need-enum-known-q
 enum-known-q c = search needs
@@ -44,27 +44,20 @@ enum-told c = search needs
 
 returns-2 : tie.Need-returns-2
 returns-2 c =
-    let c1 = c .before .before in
-    let c2 = c1 .before in
-    let c3 = c2 .before in
-    let start = c3 .before .before .before in
-    let a = start .args in
-    λ s l e. root-lost (having s (a .self) (a .h0 .now) (a .h1 .now) l) (c3 .if1 .left) (ap (λ (gs : List ℕ). getD gs (a .self .place) 0) e)
-    (forward-by (a .self) _ _ (c2 .bounds .ensures) s l _ (c1 .forward .ensures) (ap checked (c .enum-told .given .1)))
+    let b = c .before .before .before in
+    let a = entry b .args in
+    λ s l e. root-lost (having s (a .self) (a .h0 .now) (a .h1 .now) l) (b .before .if1 .left) (ap (λ (gs : List ℕ). getD gs (a .self .place) 0) e)
+    (forward-by (a .self) _ _ (b .bounds .ensures) s l _ (c .before .before .forward .ensures) (ap checked (c .enum-told .given .1)))
 
 add-self : tie.Need-add-self
 add-self c = search needs
 
 returns-3 : tie.Need-returns-3
 returns-3 c =
-    let c1 = c .before in
-    let c2 = c1 .before .before in
-    let c3 = c2 .before in
-    let c4 = c3 .before in
-    let start = c4 .before .before .before in
-    let a = start .args in
-    λ s l e. root-flips (having s (a .self) (a .h0 .now) (a .h1 .now) l) (c4 .if1 .left) (ap (λ (gs : List ℕ). getD gs (a .self .place) 0) e)
-    (forward-by (a .self) _ _ (c3 .bounds .ensures) s l _ (c2 .forward .ensures) (ap checked (c1 .q .given .1)))
+    let b = c .before .before .before .before in
+    let a = entry b .args in
+    λ s l e. root-flips (having s (a .self) (a .h0 .now) (a .h1 .now) l) (b .before .if1 .left) (ap (λ (gs : List ℕ). getD gs (a .self .place) 0) e)
+    (forward-by (a .self) _ _ (b .bounds .ensures) s l _ (c .before .before .before .forward .ensures) (ap checked (c .before .q .given .1)))
 
 pub root-flip-spec : {M : Type 1} → statement M
 root-flip-spec =

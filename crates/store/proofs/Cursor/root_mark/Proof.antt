@@ -15,10 +15,8 @@ move-on-requires c κs = c .before .before .before .before .pre .0 .phases
 
 returns : tie.Need-returns
 returns c =
-    let c1 = c .before in
-    let start = c1 .before .before .before .before in
-    let a = start .args in
-    λ s e. moves s (a .self) _ _ _ (c .move-on .ensures) (rw (roots-done (having s (a .self) (a .h0 .now) (a .h1 .now) (a .list .now)) (c1 .if1 .taken)))
+    let a = c .before .before .before .before .before .args in
+    λ s e. moves s (a .self) _ _ _ (c .move-on .ensures) (rw (roots-done (having s (a .self) (a .h0 .now) (a .h1 .now) (a .list .now)) (c .before .if1 .taken)))
 
 mul-shade-next : tie.Need-mul-shade-next
 mul-shade-next c = search needs
@@ -43,12 +41,9 @@ same-length-3 c = search needs
 
 returns-2 : tie.Need-returns-2
 returns-2 c =
-    let c1 = c .before .before .before .before .before .before in
-    let c2 = c1 .before .before .before .before in
-    let start = c2 .before .before .before .before in
-    let a = start .args in
-    λ s e. rw (root-next (having s (a .self) (a .h0 .now) (a .h1 .now) (a .list .now)) (c2 .if1 .left) (ap (λ (gs : List ℕ). getD gs (a .self .place) 0) e))
-    (c1 .shade-next .ensures s)
+    let a = c .before .before .before .before .before .before .before .before .before .before .before .before .before .before .args in
+    λ s e. rw (root-next (having s (a .self) (a .h0 .now) (a .h1 .now) (a .list .now)) (c .before .before .before .before .before .before .before .before .before .before .if1 .left) (ap (λ (gs : List ℕ). getD gs (a .self .place) 0) e))
+    (c .before .before .before .before .before .before .shade-next .ensures s)
 
 pub root-mark-spec : {M : Type 1} → statement M
 root-mark-spec =

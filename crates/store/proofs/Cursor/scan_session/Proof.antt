@@ -13,36 +13,32 @@ use borrow.Author.Needs.{needs}
 use Rattle.store.proofs.Cursor.scan_session.Statement.{statement}
 use Rattle.store.proofs.Cursor.scan_session.Tie as tie
 
-bounds-requires : tie.Need-bounds-requires
-bounds-requires c κs = search needs
+-- the entry, from where the registers are looked at
+abbrev entry : tie.After-white-registers → tie.Start
+entry c = c .before .before .before .before .before .before .before
 
-white-registers-requires : tie.Need-white-registers-requires
-white-registers-requires c κs =
-    let c1 = c .before .before in
-    let start = c1 .before .before .before .before in
-    bounds-within (start .args .self) _ _ (c1 .bounds .ensures) (start .pre .0) (start .pre .1)
-
--- what is known once the registers were looked at
-known : (c : tie.After-words)
-    → let c1 = c .before in
-    let a = c1 .before .before .before .before .before .before .before .args in
-    Scanning (a .self) (a .h0 .now) (a .h1 .now) (a .list .now) (a .registers) (c1 .white-registers .result)
+-- what is known once they were
+known : (c : tie.After-words) → let a = entry (c .before) .args in
+    Scanning (a .self) (a .h0 .now) (a .h1 .now) (a .list .now) (a .registers) (c .before .white-registers .result)
 known c =
-    let c1 = c .before in
-    let c2 = c1 .before .before .before in
-    let start = c2 .before .before .before .before in
-    let o = c1 .white-registers in
-    let ok = o .ok .1 .1 in
+    let o = c .before .white-registers in
+    let start = entry (c .before) in
     let long : length (o .result .words) ≡ registerCount = search needs in
     record {
       ranges = start .pre .0;
       ends = start .pre .1;
       few = omega (arith, o .ensures .0);
-      answer = o .ensures .1 ∙ ap (λ (z : Heap). toShadeAll (z .memory) (start .args .registers)) (c2 .bounds .ensures some _ _ (start .args .list .now) refl);
+      answer = o .ensures .1 ∙ ap (λ (z : Heap). toShadeAll (z .memory) (start .args .registers)) (c .before .before .before .before .bounds .ensures some _ _ (start .args .list .now) refl);
     }
 
+bounds-requires : tie.Need-bounds-requires
+bounds-requires c κs = search needs
+
+white-registers-requires : tie.Need-white-registers-requires
+white-registers-requires c κs = bounds-within (c .before .before .before .before .before .before .args .self) _ _ (c .before .before .bounds .ensures) (c .before .before .before .before .before .before .pre .0) (c .before .before .before .before .before .before .pre .1)
+
 sub-fits : tie.Need-sub-fits
-sub-fits c = omega (arith, c .before .before .before .before .before .before .before .before .pre .1)
+sub-fits c = omega (arith, entry (c .before) .pre .1)
 
 same-length : tie.Need-same-length
 same-length c = search needs
@@ -64,27 +60,19 @@ same-length-4 c = search needs
 
 returns-2 : tie.Need-returns-2
 unfolding sessionAt
-returns-2 c =
-    let c1 = c .before in
-    let c2 = c1 .before in
-    let c3 = c2 .before in
-    λ s e. rw (session-marked (known c3) s _ e (c2 .if1 .left) (c1 .if2 .taken), c .of .ensures, e)
+returns-2 c = λ s e. rw (session-marked (known (c .before .before .before)) s _ e (c .before .before .if1 .left) (c .before .if2 .taken), c .of .ensures, e)
 
 shade-all-requires : tie.Need-shade-all-requires
 shade-all-requires c κs =
-    let c1 = c .before .before .before .before in
-    let c2 = c1 .before in
-    let c3 = c2 .before in
-    let k = known c2 in
-    let t = c1 .if1 .left in
-    (c3 .white-registers .ensures .0, session-room k t, session-inside k t)
+    let t = c .before .before .before .before in
+    let k = known (t .before) in
+    (t .before .before .white-registers .ensures .0, session-room k (t .if1 .left), session-inside k (t .if1 .left))
 
 add-shaded : tie.Need-add-shaded
 add-shaded c =
-    let c1 = c .before .before .before .before .before .before .before .before .before .before .before in
-    let c2 = c1 .before in
-    let start = c2 .before .before .before .before .before .before .before .before in
-    let room = session-room (known c2) (c1 .if1 .left) in
+    let t = c .before .before .before .before .before .before .before .before .before .before .before in
+    let start = entry (t .before .before) in
+    let room = session-room (known (t .before)) (t .if1 .left) in
     omega arith
 
 shaded-requires : tie.Need-shaded-requires
@@ -101,14 +89,9 @@ same-length-7 c = search needs
 
 returns-3 : tie.Need-returns-3
 returns-3 c =
-    let c1 = c .before .before .before .before .before .before .before in
-    let c2 = c1 .before .before .before .before in
-    let c3 = c2 .before in
-    let c4 = c3 .before in
-    let start = c4 .before .before .before .before .before .before .before .before in
-    let e = c1 .shade-all .ensures in
-    let self = start .args .self in
-    λ s g. rw (session-shaded (known c4) s _ g (c3 .if1 .left) (c2 .if2 .left) (e .0 (self .frontier0) (self .frontier1)) (e .1), c .shaded .ensures)
+    let t = c .before .before .before .before .before .before .before .before .before .before .before .before in
+    let e = c .before .before .before .before .before .before .before .shade-all .ensures in
+    λ s g. rw (session-shaded (known (t .before)) s _ g (t .if1 .left) (c .before .before .before .before .before .before .before .before .before .before .before .if2 .left) (e .0 _ _) (e .1), c .shaded .ensures)
 
 pub scan-session-spec : {M : Type 1} → statement M
 scan-session-spec =

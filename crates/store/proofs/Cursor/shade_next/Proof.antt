@@ -11,23 +11,23 @@ use borrow.Author.Needs.{needs}
 use Rattle.store.proofs.Cursor.shade_next.Statement.{statement}
 use Rattle.store.proofs.Cursor.shade_next.Tie as tie
 
+-- the entry, from where the reference is tested, and a store with these numbers over the words lent
+module _ (c : tie.After-shading) where
+  abbrev entry : tie.Start
+  entry = c .before .before .before .before .before .before .before
+
+  abbrev entered : Store → Store
+  entered s = having s (entry .args .self) (entry .args .h0 .now) (entry .args .h1 .now) (entry .args .list .now)
+
+  -- the answer is the rules' answer for every such store
+  answered : (s : Store) → checked (c .shading .result) ≡ shading (heapOf (entered s)) (entry .args .q)
+  answered s = c .shading .ensures ∙ ap (λ (z : Heap). shading z (entry .args .q)) (c .before .before .before .bounds .ensures s _ _ (entry .args .list .now) refl)
+
 bounds-requires : tie.Need-bounds-requires
 bounds-requires c κs = search needs
 
 shading-requires : tie.Need-shading-requires
-shading-requires c κs =
-    let c1 = c .before .before in
-    let start = c1 .before .before .before .before in
-    bounds-within (start .args .self) _ _ (c1 .bounds .ensures) (start .pre .0) (start .pre .1)
-
--- the answer is the rules' answer for every store with these numbers
-answered : (c : tie.After-shading) (s : Store)
-    → let a = c .before .before .before .before .before .before .before .args in
-    checked (c .shading .result) ≡ shading (heapOf (having s (a .self) (a .h0 .now) (a .h1 .now) (a .list .now))) (a .q)
-answered c s =
-    let c1 = c .before .before .before in
-    let a = c1 .before .before .before .before .args in
-    c .shading .ensures ∙ ap (λ (z : Heap). shading z (a .q)) (c1 .bounds .ensures s _ _ (a .list .now) refl)
+shading-requires c κs = bounds-within (c .before .before .before .before .before .before .args .self) _ _ (c .before .before .bounds .ensures) (c .before .before .before .before .before .before .pre .0) (c .before .before .before .before .before .before .pre .1)
 
 enum-known-w : tie.Need-enum-known-w
 enum-known-w c = search needs
@@ -54,26 +54,16 @@ same-length-4 : tie.Need-same-length-4
 same-length-4 c = search needs
 
 returns-2 : tie.Need-returns-2
-returns-2 c =
-    let c1 = c .before in
-    let c2 = c1 .before .before in
-    let c3 = c2 .before .before in
-    λ s. rw (next-walked _ _ (answered c3 s) (c2 .w .given .1) (c1 .if1 .taken), c .walk-to .ensures)
+returns-2 c = λ s. rw (next-walked _ _ (answered (c .before .before .before .before .before) s) (c .before .before .before .w .given .1) (c .before .if1 .taken), c .walk-to .ensures)
 
 put-grey-requires : tie.Need-put-grey-requires
 put-grey-requires c κs =
-    let c1 = c .before .before .before in
-    let c2 = c1 .before .before in
-    let c3 = c2 .before .before in
-    let start = c3 .before .before .before .before .before .before .before in
-    next-allowed (having some (start .args .self) (start .args .h0 .now) (start .args .h1 .now) (start .args .list .now)) _ (answered c3 some)
-    (c2 .w .given .1) (start .pre .0 .low) (start .pre .0 .high) (c1 .if1 .left)
+    let q = c .before .before .before .before .before .before .before in
+    let k = entry q .pre .0 in
+    next-allowed (entered q some) _ (answered q some) (c .before .before .before .before .before .w .given .1) (k .low) (k .high) (c .before .before .before .if1 .left)
 
 add-shaded : tie.Need-add-shaded
-add-shaded c =
-    let start = c .before .before .before .before .before .before .before .before .before .before .before .before .before .before .before .before
-    .before .before .before .before .before in
-    omega (arith, start .pre .1)
+add-shaded c = omega (arith, entry (c .before .before .before .before .before .before .before .before .before .before .before .before .before .before) .pre .1)
 
 shaded-requires : tie.Need-shaded-requires
 shaded-requires c κs = search needs
@@ -89,16 +79,9 @@ same-length-7 c = search needs
 
 returns-3 : tie.Need-returns-3
 returns-3 c =
-    let c1 = c .before .before .before .before .before .before .before in
-    let c2 = c1 .before .before .before .before in
-    let c3 = c2 .before .before in
-    let c4 = c3 .before .before in
-    let self = c4 .before .before .before .before .before .before .before .args .self in
-    let e = c1 .put-grey .ensures in
-    λ s. rw (
-      next-shaded _ _ (answered c4 s) (c3 .w .given .1) (c2 .if1 .left) (e .0 (self .frontier0) (self .frontier1)) (e .1),
-      c .shaded .ensures,
-    )
+    let w = c .before .before .before .before .before .before .before .before .before .before .before .before .before in
+    let e = c .before .before .before .before .before .before .before .put-grey .ensures in
+    λ s. rw (next-shaded _ _ (answered (w .before .before) s) (w .w .given .1) (c .before .before .before .before .before .before .before .before .before .before .before .if1 .left) (e .0 _ _) (e .1), c .shaded .ensures)
 
 pub shade-next-spec : {M : Type 1} → statement M
 shade-next-spec =

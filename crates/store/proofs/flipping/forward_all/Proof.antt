@@ -4,7 +4,7 @@ use mathlib.Core.Path.{_≡_, _∙_, sym, ap}
 use native.Mathlib.Omega.{arith}
 use lib.ListN.{length}
 use Rattle.rules.specs.Control.{registerCount}
-use Rattle.rules.specs.Barriers.{to}
+use Rattle.rules.specs.Barriers.{Heap, to}
 use Rattle.heap.specs.View.{heap, checked}
 use Rattle.store.proofs.collector.Forward.{So, all-start, all-lost, all-more, all-done}
 use borrow.Author.Needs.{needs}
@@ -17,11 +17,17 @@ Inv-loop b h0 h1 old new₀ i₀ new i = (length old ≡ registerCount) × (leng
 abbrev μ-loop : tie.MeasureT-loop
 μ-loop b h0 h1 old new₀ i₀ new i = registerCount - i
 
+-- the entry, and the words lent, from a turn of the loop
+abbrev entry : tie.At-loop Inv-loop μ-loop → tie.Start Inv-loop μ-loop
+entry c = c .before .before .before
+
+abbrev lent : tie.Start Inv-loop μ-loop → Heap
+lent c = heap (c .args .b) (c .args .h0 .now) (c .args .h1 .now)
+
 loop-holds : tie.Need-loop-holds Inv-loop μ-loop
 loop-holds c =
-    let c1 = c .before .before in
-    let a = c1 .args in
-    (search needs, search needs, search needs, all-start ((heap (a .b) (a .h0 .now) (a .h1 .now)) .memory) (to (heap (a .b) (a .h0 .now) (a .h1 .now))) (a .t4) (a .t4))
+    let x = c .before .before in
+    (search needs, search needs, search needs, all-start (lent x .memory) (to (lent x)) (x .args .t4) (x .args .t4))
 
 mul-v : tie.Need-mul-v Inv-loop μ-loop
 mul-v c = search needs
@@ -40,11 +46,9 @@ enum-told c = search needs
 
 returns : tie.Need-returns Inv-loop μ-loop
 returns c =
-    let c1 = c .before .before in
-    let c2 = c1 .before .before in
-    let c3 = c2 .before .before .before in
-    let a = c3 .args in
-    sym (all-lost ((heap (a .b) (a .h0 .now) (a .h1 .now)) .memory) (to (heap (a .b) (a .h0 .now) (a .h1 .now))) (a .t4) (c2 .loop .new) (c2 .loop .i) (c2 .loop .inv .3) (omega arith) (sym (c1 .forward .ensures) ∙ ap checked (c .enum-told .given .1)))
+    let t = c .before .before .before .before in
+    let x = entry t in
+    sym (all-lost (lent x .memory) (to (lent x)) (x .args .t4) (t .loop .new) (t .loop .i) (t .loop .inv .3) (omega arith) (sym (c .before .before .forward .ensures) ∙ ap checked (c .enum-told .given .1)))
 
 mul-new : tie.Need-mul-new Inv-loop μ-loop
 mul-new c = search needs
@@ -60,19 +64,15 @@ loop-less c = search needs
 
 loop-again : tie.Need-loop-again Inv-loop μ-loop
 loop-again c =
-    let c1 = c .before in
-    let c2 = c1 .before .before in
-    let c3 = c2 .before .before in
-    let c4 = c3 .before .before .before in
-    let a = c4 .args in
-    (search needs, search needs, search needs, all-more ((heap (a .b) (a .h0 .now) (a .h1 .now)) .memory) (to (heap (a .b) (a .h0 .now) (a .h1 .now))) (a .t4) (c3 .loop .new) (c3 .loop .i) (c3 .loop .inv .3) (omega arith) _ (sym (c2 .forward .ensures) ∙ ap checked (c1 .w .given .1)) (omega arith))
+    let t = c .before .before .before .before .before in
+    let x = entry t in
+    (search needs, search needs, search needs, all-more (lent x .memory) (to (lent x)) (x .args .t4) (t .loop .new) (t .loop .i) (t .loop .inv .3) (omega arith) _ (sym (c .before .before .before .forward .ensures) ∙ ap checked (c .before .w .given .1)) (omega arith))
 
 returns-2 : tie.Need-returns-2 Inv-loop μ-loop
 returns-2 c =
-    let c1 = c .before in
-    let c2 = c1 .before .before .before in
-    let a = c2 .args in
-    sym (all-done ((heap (a .b) (a .h0 .now) (a .h1 .now)) .memory) (to (heap (a .b) (a .h0 .now) (a .h1 .now))) (a .t4) (c1 .loop .new) (c1 .loop .i) (c1 .loop .inv .3) (omega arith) (omega arith))
+    let t = c .before in
+    let x = entry t in
+    sym (all-done (lent x .memory) (to (lent x)) (x .args .t4) (t .loop .new) (t .loop .i) (t .loop .inv .3) (omega arith) (omega arith))
 
 pub forward-all-spec : {M : Type 1} → statement M
 forward-all-spec =

@@ -31,11 +31,9 @@ array-read-if2 c = search needs
 
 returns-2 : tie.Need-returns-2 Inv-loop μ-loop
 returns-2 c =
-    let c1 = c .before in
-    let c2 = c1 .before in
-    let c3 = c2 .before .before in
-    let a = c3 .args in
-    search-found (a .v) (a .t1) (a .count) (c2 .loop .i) (omega arith) (c2 .loop .inv .3) (c1 .loop-test .taken) (c .if2 .taken)
+    let t = c .before .before in
+    let a = t .before .before .args in
+    search-found (a .v) (a .t1) (a .count) (t .loop .i) (omega arith) (t .loop .inv .3) (c .before .loop-test .taken) (c .if2 .taken)
 
 add-i : tie.Need-add-i Inv-loop μ-loop
 add-i c = search needs
@@ -45,19 +43,15 @@ loop-less c = search needs
 
 loop-again : tie.Need-loop-again Inv-loop μ-loop
 loop-again c =
-    let c1 = c .before in
-    let c2 = c1 .before in
-    let c3 = c2 .before .before in
-    let a = c3 .args in
-    (search needs, search needs, search needs, search-on (a .v) (a .t1) (a .count) (c2 .loop .i) (omega arith) (c2 .loop .inv .3) (c1 .loop-test .taken) (c .if2 .left))
+    let t = c .before .before in
+    let a = t .before .before .args in
+    (search needs, search needs, search needs, search-on (a .v) (a .t1) (a .count) (t .loop .i) (omega arith) (t .loop .inv .3) (c .before .loop-test .taken) (c .if2 .left))
 
 returns-3 : tie.Need-returns-3 Inv-loop μ-loop
 returns-3 c =
-    let c1 = c .before in
-    let c2 = c1 .before in
-    let c3 = c2 .before in
-    let a = c3 .args in
-    search-ended (a .v) (a .t1) (a .count) (c1 .loop .i) (omega arith) (c1 .loop .inv .3) (c2 .if1 .left) (c .loop-test .left)
+    let t = c .before in
+    let a = t .before .before .args in
+    search-ended (a .v) (a .t1) (a .count) (t .loop .i) (omega arith) (t .loop .inv .3) (t .before .if1 .left) (c .loop-test .left)
 
 pub new-white-spec : {M : Type 1} → statement M
 new-white-spec =

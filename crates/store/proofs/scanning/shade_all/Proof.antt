@@ -27,11 +27,9 @@ array-read-put-grey c = let k = c .before .before .before .before .loop .inv in 
 
 put-grey-requires : tie.Need-put-grey-requires Inv-loop μ-loop
 put-grey-requires c κs =
-    let c1 = c .before .before .before in
-    let c2 = c1 .before in
-    let pre = c2 .before .before .before .before .pre in
-    let k = c2 .loop .inv in
-    (inside-kept _ _ _ _ _ _ (k .half0) (k .half1) (pre .2 (c2 .loop .i) (c1 .loop-test .taken)), omega arith)
+    let t = c .before .before .before .before in
+    let k = t .loop .inv in
+    (inside-kept _ _ _ _ _ _ (k .half0) (k .half1) (c .before .before .before .before .before .before .before .before .pre .2 (t .loop .i) (c .before .before .before .loop-test .taken)), omega (arith, c .before .before .before .before .before .before .before .before .pre))
 
 add-i : tie.Need-add-i Inv-loop μ-loop
 add-i c = let k = c .before .before .before .before .before .before .before .before .before .before .before .loop .inv in search needs
@@ -41,10 +39,8 @@ loop-less c = search needs
 
 loop-again : tie.Need-loop-again Inv-loop μ-loop
 loop-again c =
-    let c1 = c .before .before .before .before .before .before in
-    let c2 = c1 .before .before .before .before in
-    let c3 = c2 .before in
-    next-turn (c3 .loop .inv) (c2 .loop-test .taken) (c1 .put-grey .ensures .0) (c1 .put-grey .ensures .1)
+    let e = c .before .before .before .before .before .before .put-grey .ensures in
+    next-turn (c .before .before .before .before .before .before .before .before .before .before .before .loop .inv) (c .before .before .before .before .before .before .before .before .before .before .loop-test .taken) (e .0) (e .1)
 
 same-length : tie.Need-same-length Inv-loop μ-loop
 same-length c = c .before .loop .inv .half0

@@ -16,9 +16,8 @@ append-record-requires c κs = search needs
 
 put-word-requires : tie.Need-put-word-requires
 put-word-requires c κs =
-    let c1 = c .before .before .before .before .before .before in
-    let c2 = c1 .before .before .before .before .before .before .before .before .before in
-    inside-kept _ _ _ _ _ _ (c1 .append-record .kept .0) (c1 .append-record .kept .1 .0) (c2 .pre .replica)
+    let k = c .before .before .before .before .before .before .append-record .kept in
+    inside-kept _ _ _ _ _ _ (k .0) (k .1 .0) (c .before .before .before .before .before .before .before .before .before .before .before .before .before .before .before .pre .replica)
 
 same-length : tie.Need-same-length
 same-length c = search needs
@@ -28,12 +27,10 @@ same-length-2 c = search needs
 
 returns : tie.Need-returns
 returns c =
-    let c1 = c .before .before .before .before in
-    let c2 = c1 .before .before .before .before .before .before .before in
-    let c3 = c2 .before .before .before in
-    let c4 = c3 .before in
-    let c5 = c4 .before .before .before .before .before in
-    λ f0 f1 e. shell-put _ _ f0 f1 _ _ _ _ (c5 .pre .fields) (c4 .get-word .ensures f0 f1) (c3 .reference .ensures) (c2 .append-record .ensures f0 f1) (c1 .put-word .ensures f0 f1) e
+    let r = c .before .before .before .before .before .before .before .before .before .before .before .before .before .before in
+    let start = c .before .before .before .before .before .before .before .before .before .before .before .before .before .before .before .before .before .before .before .before in
+    λ f0 f1 e. shell-put _ _ f0 f1 _ _ _ _ (start .pre .fields) (r .before .get-word .ensures f0 f1) (r .reference .ensures)
+    (c .before .before .before .before .before .before .before .before .before .before .before .append-record .ensures f0 f1) (c .before .before .before .before .put-word .ensures f0 f1) e
 
 pub put-shell-spec : {M : Type 1} → statement M
 put-shell-spec =
