@@ -88,7 +88,7 @@ allocate s n k r p = do
   check (allocationRoom s (x .level) r p) 14
   done (withRegister (withMemory s (allocated s (x .level) r p)) n k (allocatedReference s (x .level)))
 
--- load: the word that the register gets
+-- the word that the register of a load gets
 unfoldable pub loadPlan : Store → ℕ → ℕ → ℕ → ℕ → Tested ℕ
 loadPlan s n to k i = do
   x ← recordOf s n k to
@@ -100,11 +100,12 @@ load s n to k i = do
   w ← loadPlan s n to k i
   done (withRegister s n to w)
 
--- store: the record that is written, and what is written to it and its replica
+-- the record that a store writes, and what it writes to it and its replica
 pub record StorePlan : Type 0 where
   pub into : ℕ
   pub writes : Writes
 
+-- the tests of a store
 unfoldable pub storePlan : Store → ℕ → ℕ → ℕ → ℕ → Tested StorePlan
 storePlan s n k i from = do
   x ← recordOf s n k from
@@ -112,6 +113,7 @@ storePlan s n k i from = do
   w ← storeWrites (heapOf s) (x .level) (x .own) i (x .other)
   passed (record { into = x .own; writes = w })
 
+-- "first shade the stored record", then the field of the record and of its replica
 unfoldable pub storeCommit : Store → ℕ → StorePlan → Store
 storeCommit s i q =
     let w = q .writes in
@@ -129,12 +131,13 @@ read s n k i = do
   check (ltb i (plains (s .memory) (x .own))) 13
   answered s (Word (word (s .memory) (x .own) (plainField (refs (s .memory) (x .own)) i)))
 
--- write: the record, its count of reference fields, and its replica, or null where none is written
+-- the record that a write goes to, its count of reference fields, and its replica, or null where none is written
 pub record WritePlan : Type 0 where
   pub own : ℕ
   pub refs : ℕ
   pub replica : ℕ
 
+-- the tests of a write
 unfoldable pub writePlan : Store → ℕ → ℕ → ℕ → Tested WritePlan
 writePlan s n k i = do
   x ← recordOf s n k k
@@ -181,6 +184,7 @@ get s n to g = do
   check (isGlobal g) 9
   done (withRegister s n to (getD (s .globals) g null))
 
+-- the tests of a put, and what it writes
 unfoldable pub putPlan : Store → ℕ → ℕ → ℕ → Tested Writes
 putPlan s n g from = do
   x ← sessionOf s n
@@ -188,6 +192,7 @@ putPlan s n g from = do
   check (isGlobal g) 9
   putWrites (heapOf s) (x .level) (register x from)
 
+-- "first shade the stored record", then the global
 unfoldable pub putCommit : Store → ℕ → Writes → Store
 putCommit s g w = withGlobals (shade s (w .shade)) (set (s .globals) g (w .own))
 
