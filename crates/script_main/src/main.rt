@@ -80,7 +80,7 @@ fn run(
     let mut more = true;
     while more & (number < u64::MAX) {
         let window = fetch(input, at, filled);
-        let start = window.at;
+        at = window.at;
         filled = window.filled;
         let room = flush(out, end);
         if !room.written {
@@ -88,18 +88,7 @@ fn run(
         }
         let stop = script::stop_of(filled, input.len());
         let part = &input[..filled];
-        let turn = script::take_turns(
-            control,
-            h0,
-            h1,
-            list,
-            part,
-            start,
-            stop,
-            number,
-            out,
-            room.at,
-        );
+        let turn = script::take_turns(control, h0, h1, list, part, at, stop, number, out, room.at);
         let next = turn.control;
         control = next;
         at = turn.at;
