@@ -102,12 +102,13 @@ same-length-6 c = search needs
 
 returns-3 : tie.Need-returns-3
 returns-3 c =
-    let w = c .before .before .before .before .before .before .before .before .before .before .before .before .before .before .before in
+    let f = c .before .before .before .before .before .before .before .before .before .before .before in
+    let w = f .before .before .before .before in
     let a = start w .args in
     λ s l. goes _ (c .past-field .ensures)
     (ref-copied (having s (a .self) (a .h0 .now) (a .h1 .now) l) (a .v) (a .t) (a .self .field)
     (has w .before .refs-of .ensures (a .self .frontier0) (a .self .frontier1)) (has w .if1 .left) (w .get-word .ensures (a .self .frontier0) (a .self .frontier1))
-    (forward-by (a .self) (a .h0 .now) (a .h1 .now) (c .before .before .before .before .before .before .before .before .before .before .before .before .before .before .bounds .ensures) s l _ (c .before .before .before .before .before .before .before .before .before .before .before .forward .ensures) (ap checked (c .before .before .before .before .before .before .before .before .before .w .given .1)))
+    (forward-by (a .self) (a .h0 .now) (a .h1 .now) (f .before .before .before .bounds .ensures) s l _ (f .forward .ensures) (ap checked (c .before .before .before .before .before .before .before .before .before .w .given .1)))
     (c .before .before .before .before .before .put-word .ensures (a .self .frontier0) (a .self .frontier1)))
 
 pub copy-ref-spec : {M : Type 1} → statement M
