@@ -11,11 +11,11 @@ use borrow.Author.Needs.{needs}
 use Rattle.store.proofs.Cursor.copy_ref.Statement.{statement}
 use Rattle.store.proofs.Cursor.copy_ref.Tie as tie
 
--- the entry, from where the replica's reference fields are counted
+-- the entry, from the count of the replica's reference fields
 abbrev entry : tie.After-refs-of → tie.Start
 entry c = c .before .before .before .before .before
 
--- and from where the replica has the field and its word is read
+-- that the replica has the field, and the entry, from the field's word
 abbrev has : tie.After-get-word → tie.Else1
 has c = c .before .before .before
 
