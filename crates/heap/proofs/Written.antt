@@ -6,10 +6,7 @@ use native.Mathlib.Omega.{arith}
 use native.Mathlib.Nat.{zero-add}
 use lib.ListN.{length, take, drop, set, replicate, length-drop, length-replicate, drop-of-length-le}
 use lib.Seq.{take-all, drop-drop, sets, sets-eq}
-use mathlib.Core.Bool.{true}
-use borrow.Author.Tests.{eq-eqb, ne-eqb, leb-true}
-use Rattle.rules.specs.Barriers.{roomIn}
-use Rattle.heap.proofs.Halves.{half-any}
+use borrow.Author.Tests.{eq-eqb, ne-eqb}
 use Rattle.rules.specs.Memory.{Memory, half, frontier, withHalf, withFrontier, newRecord, append, header, shapeAt, colourAt, replicaAt}
 use Rattle.heap.specs.View.{memory}
 
@@ -89,15 +86,6 @@ module _ (h0 h1 : List ℕ) (f0 f1 h at : ℕ) where
   placed-high w c v n r z e = rw (ne-eqb h 0 z, record-back at h1 w c v n r e)
 
 -- ---- room, and appending
-
--- the room that the rules ask for is the room that append_record asks for
-pub room-known : (h0 h1 : List ℕ) (f0 f1 h r p : ℕ) → roomIn (memory h0 h1 f0 f1) h r p ≡ true
-    → frontier (memory h0 h1 f0 f1) h + (r + p + header) ≤ length (half (memory h0 h1 0 0) h)
-unfolding roomIn
-room-known h0 h1 f0 f1 h r p e =
-    let l : frontier (memory h0 h1 f0 f1) h + (header + r + p) ≤ length (half (memory h0 h1 f0 f1) h) = leb-true _ _ e in
-    let k = ap length (half-any h0 h1 f0 f1 h) in
-    omega arith
 
 -- the record put at the frontier, which moves past it, is the record appended
 pub appended : {N : Memory} (M : Memory) (h w c v n : ℕ) → N ≡ withHalf M h (sets (half M h) (frontier M h) (newRecord w c v n))

@@ -55,11 +55,11 @@ module _ (h0 h1 : List ℕ) (f0 f1 : ℕ) {N P : Memory} {shape shell : ℕ} (ot
       ∙ ap (λ (X : Memory). put X v 2 shell) (rw e at q)
       ∙ shell-words M other v w t (c ∙ fields-any h0 h1 f0 f1 v) e
 
+-- ---- a record that is to get its shell
+
 half-long : (b : Bool) (h0 h1 : List ℕ) {n : ℕ} → n ≡ length h0 → n ≡ length h1 → length (cond b h0 h1) ≡ n
 half-long true h0 h1 x y = sym x
 half-long false h0 h1 x y = sym y
-
--- ---- a record that is to get its shell
 
 -- the record at the walk's place needs a shell, at a word of the other half
 pub record AtShell (c : Cursor) (h0 h1 : List ℕ) (v k r p h at : ℕ) : Type 0 where
@@ -101,10 +101,9 @@ module _ {c : Cursor} {h0 h1 : List ℕ} {v k r p other at : ℕ} (x : AtShell c
 
 -- ---- the arms of the phase
 
-module _ (s : Store) where
-  pub shells-done : {o : Outcome Store} → below s ≡ false → o ≡ stepped s (handshake s) → o ≡ stepped s (allocateShells s)
-  unfolding allocateShells
-  shells-done b e = rw b e
+pub shells-done : {o : Outcome Store} (s : Store) → below s ≡ false → o ≡ stepped s (handshake s) → o ≡ stepped s (allocateShells s)
+unfolding allocateShells
+shells-done s b e = rw b e
 
 module _ {c : Cursor} {h0 h1 : List ℕ} {v : ℕ} (s : Store) (l : List ℕ) where
   pub shells-lost : AtWalk c h0 h1 v → sound (memory h0 h1 (c .frontier0) (c .frontier1)) v ≡ false

@@ -22,9 +22,9 @@ other-half-requires c κs = search needs
 
 returns-3 : tie.Need-returns-3
 returns-3 c = (
-      below-at (c .other-half .ensures) (other-small _),
-      λ h0 h1 l. given-to _ _ (c .before .before .before .if1 .left) (c .before .if2 .left) (c .before .before .fromspace .ensures h0 h1 l) (c .other-half .ensures),
-    )
+  below-at (c .other-half .ensures) (other-small _),
+  λ h0 h1 l. given-to _ _ (c .before .before .before .if1 .left) (c .before .if2 .left) (c .before .before .fromspace .ensures h0 h1 l) (c .other-half .ensures),
+)
 
 pub allocated-half-spec : {M : Type 1} → statement M
 allocated-half-spec = tie.close (tie.spec returns fromspace-requires returns-2 other-half-requires returns-3)

@@ -9,7 +9,9 @@ put-grey-requires : tie.Need-put-grey-requires
 put-grey-requires c κs = c .before .before .before .before .before .before .before .pre (c .before .before .before .if1 .taken)
 
 add-c : tie.Need-add-c
-add-c c = omega (arith, c .before .before .before .before .before .before .before .before .before .before .before .before .before .before .before .pre (c .before .before .before .before .before .before .before .before .before .before .before .if1 .taken) .1)
+add-c c =
+    let t = c .before .before .before .before .before .before .before .before .before .before .before in
+    omega (arith, t .before .before .before .before .pre (t .if1 .taken) .1)
 
 unmarked-requires : tie.Need-unmarked-requires
 unmarked-requires c κs = search needs
@@ -25,8 +27,9 @@ same-length-3 c = search needs
 
 returns : tie.Need-returns
 returns c =
-    let e = c .before .before .before .before .before .before .before .before .before .put-grey .ensures in
-    shade-record _ _ (c .before .before .before .before .before .before .before .before .before .before .before .before .before .if1 .taken) (e .0 _ _) (e .1) (c .unmarked .ensures)
+    let g = c .before .before .before .before .before .before .before .before .before in
+    let e = g .put-grey .ensures in
+    shade-record _ _ (g .before .before .before .before .if1 .taken) (e .0 _ _) (e .1) (c .unmarked .ensures)
 
 returns-2 : tie.Need-returns-2
 returns-2 c = shade-null _ _ (c .if1 .left)

@@ -70,7 +70,7 @@ same-length-6 c = search needs
 returns-2 : tie.Need-returns-2
 returns-2 c =
     let w = c .before .before .before in
-    rw (w .work3 .given .1, c .enum-told .given .1) at (c .before .before .before .before .before .before .before .before .before .before .before .work .ensures)
+    rw (w .work3 .given .1, c .enum-told .given .1) at (w .before .before .before .before .before .before .before .before .work .ensures)
 
 same-length-7 : tie.Need-same-length-7
 same-length-7 c = search needs
@@ -84,7 +84,7 @@ same-length-9 c = search needs
 returns-3 : tie.Need-returns-3
 returns-3 c =
     let w = c .before .before .before .before .before in
-    rw (c .unmarked .ensures) (rw (w .work3 .given .1, c .before .before .enum-told2 .given .1) at (c .before .before .before .before .before .before .before .before .before .before .before .before .before .work .ensures))
+    rw (c .unmarked .ensures) (rw (w .work3 .given .1, c .before .before .enum-told2 .given .1) at (w .before .before .before .before .before .before .before .before .work .ensures))
 
 same-length-10 : tie.Need-same-length-10
 same-length-10 c = search needs
@@ -98,7 +98,7 @@ same-length-12 c = search needs
 returns-4 : tie.Need-returns-4
 returns-4 c =
     let w = c .before .before .before .before .before in
-    rw (w .work3 .given .1, c .before .before .touch .given .1) at (c .before .before .before .before .before .before .before .before .before .before .before .before .before .work .ensures)
+    rw (w .work3 .given .1, c .before .before .touch .given .1) at (w .before .before .before .before .before .before .before .before .work .ensures)
 
 same-length-13 : tie.Need-same-length-13
 same-length-13 c = search needs
@@ -113,9 +113,9 @@ returns-5 : tie.Need-returns-5
 returns-5 c =
     let w = c .before .before .before .before .before in
     let t = c .before .before .touch .given in
-    let start = c .before .before .before .before .before .before .before .before .before .before .before .before .before .before .before .before .before .before .before .before in
+    let start = w .before .before .before .before .before .before .before .before .before .before .before .before .before .before .before in
     let k = count start in
-    rw (w .work3 .given .1, t .1, set-out (start .args .t1 .globals) (t .0 .0) (t .0 .1 .0) (omega arith)) at (c .before .before .before .before .before .before .before .before .before .before .before .before .before .work .ensures)
+    rw (w .work3 .given .1, t .1, set-out (start .args .t1 .globals) (t .0 .0) (t .0 .1 .0) (omega arith)) at (w .before .before .before .before .before .before .before .before .work .ensures)
 
 same-length-16 : tie.Need-same-length-16
 same-length-16 c = search needs
@@ -130,7 +130,7 @@ returns-6 : tie.Need-returns-6
 unfolding sessionAt withSession
 returns-6 c =
     let w = c .before .before .before .before .before .before in
-    rw (c .marked .ensures) (rw (w .work3 .given .1, c .before .before .before .touch2 .given .1) at (c .before .before .before .before .before .before .before .before .before .before .before .before .before .before .work .ensures))
+    rw (c .marked .ensures) (rw (w .work3 .given .1, c .before .before .before .touch2 .given .1) at (w .before .before .before .before .before .before .before .before .work .ensures))
 
 pub step-spec : {M : Type 1} → statement M
 step-spec =

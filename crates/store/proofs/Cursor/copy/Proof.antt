@@ -9,14 +9,14 @@ use borrow.Author.Needs.{needs}
 use Rattle.store.proofs.Cursor.copy.Statement.{statement}
 use Rattle.store.proofs.Cursor.copy.Tie as tie
 
--- what is known at the walk's place
+-- the entry, from the walk's place, and what is known there
 abbrev entry : tie.After-walked → tie.Start
 entry c = c .before .before .before .before .before
 
 walk : (c : tie.After-walked) → let a = entry c .args in AtWalk (a .self) (a .h0 .now) (a .h1 .now) (c .walked .result)
 walk c = at-walk (entry c .pre) (c .before .before .below .ensures) (c .before .if1 .left) (c .walked .ensures)
 
--- of the record found there
+-- the walk's place, from the record found there, and what is known of the record
 abbrev place : tie.After-r → tie.After-walked
 place c = c .before .before .before .before .before
 
@@ -24,7 +24,7 @@ known : (c : tie.After-r) → let a = entry (place c) .args in let x = c .r .giv
     AtRecord (a .self) (a .h0 .now) (a .h1 .now) (place c .walked .result) (x .0) (x .1 .0) (x .1 .1 .0)
 known c = at-record (walk (place c)) (c .before .before .follow .ensures) (c .r .given .1)
 
--- and of its replica
+-- the record and its replica word
 replica : (c : tie.After-get-word) → let r = c .before .before .before .before in let a = entry (place r) .args in let x = r .r .given .0 in
     AtReplica (a .self) (a .h0 .now) (a .h1 .now) (place r .walked .result) (x .0) (x .1 .0) (x .1 .1 .0) (c .get-word .result)
 replica c = record { here = known (c .before .before .before .before); replica = replica-word _ _ (c .get-word .ensures _ _) }

@@ -9,11 +9,11 @@ use borrow.Author.Needs.{needs}
 use Rattle.store.proofs.Cursor.copy_plain.Statement.{statement}
 use Rattle.store.proofs.Cursor.copy_plain.Tie as tie
 
--- the entry, from where the replica's plain fields are counted
+-- the entry, from the count of the replica's plain fields
 abbrev entry : tie.After-plains-of → tie.Start
 entry c = c .before .before .before .before .before
 
--- and from where the replica has the field and both records' reference fields are counted
+-- that the replica has the field, and the entry, from the counts of both records' reference fields
 abbrev has : tie.After-refs-of2 → tie.Else1
 has c = c .before .before .before .before .before .before
 

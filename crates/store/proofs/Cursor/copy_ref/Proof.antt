@@ -11,11 +11,11 @@ use borrow.Author.Needs.{needs}
 use Rattle.store.proofs.Cursor.copy_ref.Statement.{statement}
 use Rattle.store.proofs.Cursor.copy_ref.Tie as tie
 
--- the entry, from where the replica's reference fields are counted
+-- the entry, from the count of the replica's reference fields
 abbrev entry : tie.After-refs-of → tie.Start
 entry c = c .before .before .before .before .before
 
--- and from where the replica has the field and its word is read
+-- that the replica has the field, and the entry, from the field's word
 abbrev has : tie.After-get-word → tie.Else1
 has c = c .before .before .before
 
@@ -102,12 +102,13 @@ same-length-6 c = search needs
 
 returns-3 : tie.Need-returns-3
 returns-3 c =
-    let w = c .before .before .before .before .before .before .before .before .before .before .before .before .before .before .before in
+    let f = c .before .before .before .before .before .before .before .before .before .before .before in
+    let w = f .before .before .before .before in
     let a = start w .args in
     λ s l. goes _ (c .past-field .ensures)
     (ref-copied (having s (a .self) (a .h0 .now) (a .h1 .now) l) (a .v) (a .t) (a .self .field)
     (has w .before .refs-of .ensures (a .self .frontier0) (a .self .frontier1)) (has w .if1 .left) (w .get-word .ensures (a .self .frontier0) (a .self .frontier1))
-    (forward-by (a .self) (a .h0 .now) (a .h1 .now) (c .before .before .before .before .before .before .before .before .before .before .before .before .before .before .bounds .ensures) s l _ (c .before .before .before .before .before .before .before .before .before .before .before .forward .ensures) (ap checked (c .before .before .before .before .before .before .before .before .before .w .given .1)))
+    (forward-by (a .self) (a .h0 .now) (a .h1 .now) (f .before .before .before .bounds .ensures) s l _ (f .forward .ensures) (ap checked (c .before .before .before .before .before .before .before .before .before .w .given .1)))
     (c .before .before .before .before .before .put-word .ensures (a .self .frontier0) (a .self .frontier1)))
 
 pub copy-ref-spec : {M : Type 1} → statement M

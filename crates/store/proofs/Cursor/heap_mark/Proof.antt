@@ -46,8 +46,9 @@ same-length-3 c = search needs
 
 returns : tie.Need-returns
 returns c =
-    let a = c .before .before .before .before .before .before .before .before .before .before .before .before .before .before .before .before .args in
-    λ s e. rw (listed-next (having s (a .self) (a .h0 .now) (a .h1 .now) (a .list .now)) (c .before .before .before .before .before .before .before .before .before .before .before .if1 .taken)) (c .before .before .before .before .before .before .scan-record .ensures s)
+    let t = c .before .before .before .before .before .before .before .before .before .before .before in
+    let a = t .before .before .before .before .before .args in
+    λ s e. rw (listed-next (having s (a .self) (a .h0 .now) (a .h1 .now) (a .list .now)) (t .if1 .taken)) (c .before .before .before .before .before .before .scan-record .ensures s)
 
 lowest-requires : tie.Need-lowest-requires
 lowest-requires c κs = search needs
@@ -72,12 +73,13 @@ same-length-6 c = search needs
 
 returns-2 : tie.Need-returns-2
 returns-2 c =
-    let n = c .before .before .before .before .before .before .before .before .before .before .before .before .before in
+    let t = c .before .before .before .before .before .before .before .before .before .before .before .before in
+    let n = t .before in
     let a = entry n .args in
     let i = n .lowest .result in
     λ s e.
     let m = next n s e in
-    rw (session-next (having s (a .self) (a .h0 .now) (a .h1 .now) (a .list .now)) (n .before .if1 .left) (m .0) (omega (arith, m .1, c .before .before .before .before .before .before .before .before .before .before .before .before .if2 .taken)))
+    rw (session-next (having s (a .self) (a .h0 .now) (a .h1 .now) (a .list .now)) (n .before .if1 .left) (m .0) (omega (arith, m .1, t .if2 .taken)))
     (c .before .before .before .before .before .before .scan-session .ensures s (ap (λ (xs : List Session). getD xs i absent .registers) e))
 
 move-on-requires : tie.Need-move-on-requires

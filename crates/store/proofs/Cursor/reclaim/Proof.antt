@@ -8,14 +8,14 @@ use borrow.Author.Needs.{needs}
 use Rattle.store.proofs.Cursor.reclaim.Statement.{statement}
 use Rattle.store.proofs.Cursor.reclaim.Tie as tie
 
--- what is known at the walk's place
+-- the entry, from the walk's place, and what is known there
 abbrev entry : tie.After-walked → tie.Start
 entry c = c .before .before .before .before .before .before
 
 walk : (c : tie.After-walked) → let a = entry c .args in AtWalk (a .self) (a .h0 .now) (a .h1 .now) (c .walked .result)
 walk c = at-walk (entry c .pre) (c .before .before .below .ensures) (c .before .if2 .left) (c .walked .ensures)
 
--- and of the record found there
+-- the walk's place, from the record found there, and what is known of the record
 abbrev place : tie.After-r → tie.After-walked
 place c = c .before .before .before .before .before
 

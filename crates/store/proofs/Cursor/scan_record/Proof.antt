@@ -73,8 +73,9 @@ same-length-5 c = search needs
 
 returns-2 : tie.Need-returns-2
 returns-2 c =
-    let r = c .before .before .before .before .before .before .before .before .before .before .before .before .before .before .before in
-    λ s. rw (field-next (entered (r .before .before) s) _ (known r) (c .before .before .before .before .before .before .before .before .before .before .before .before .before .if1 .taken) (c .before .before .before .before .before .before .before .before .before .before .get-word .ensures _ _)) (c .before .before .before .before .before .before .shade-next .ensures s)
+    let t = c .before .before .before .before .before .before .before .before .before .before .before .before .before in
+    let r = t .before .before in
+    λ s. rw (field-next (entered (r .before .before) s) _ (known r) (t .if1 .taken) (c .before .before .before .before .before .before .before .before .before .before .get-word .ensures _ _)) (c .before .before .before .before .before .before .shade-next .ensures s)
 
 put-word-requires : tie.Need-put-word-requires
 put-word-requires c κs = colour-inside (entry (c .before .before .before .before .before .before) .pre .1) (known (c .before .before .before .before))
@@ -95,9 +96,10 @@ same-length-7 c = search needs
 
 returns-3 : tie.Need-returns-3
 returns-3 c =
-    let r = c .before .before .before .before .before .before .before .before .before .before .before in
+    let t = c .before .before .before .before .before .before .before .before .before in
+    let r = t .before .before in
     λ s. rw (
-      record-done (entered (r .before .before) s) _ (known r) (c .before .before .before .before .before .before .before .before .before .if1 .left) (c .before .before .before .before .before .before .put-word .ensures _ _),
+      record-done (entered (r .before .before) s) _ (known r) (t .if1 .left) (c .before .before .before .before .before .before .put-word .ensures _ _),
       c .past-entry .ensures,
     )
 

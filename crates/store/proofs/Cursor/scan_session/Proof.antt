@@ -89,9 +89,10 @@ same-length-7 c = search needs
 
 returns-3 : tie.Need-returns-3
 returns-3 c =
-    let t = c .before .before .before .before .before .before .before .before .before .before .before .before in
+    let w = c .before .before .before .before .before .before .before .before .before .before .before in
+    let t = w .before in
     let e = c .before .before .before .before .before .before .before .shade-all .ensures in
-    λ s g. rw (session-shaded (known (t .before)) s _ g (t .if1 .left) (c .before .before .before .before .before .before .before .before .before .before .before .if2 .left) (e .0 _ _) (e .1), c .shaded .ensures)
+    λ s g. rw (session-shaded (known (t .before)) s _ g (t .if1 .left) (w .if2 .left) (e .0 _ _) (e .1), c .shaded .ensures)
 
 pub scan-session-spec : {M : Type 1} → statement M
 scan-session-spec =

@@ -40,7 +40,8 @@ loop-less c = search needs
 loop-again : tie.Need-loop-again Inv-loop μ-loop
 loop-again c =
     let e = c .before .before .before .before .before .before .put-grey .ensures in
-    next-turn (c .before .before .before .before .before .before .before .before .before .before .before .loop .inv) (c .before .before .before .before .before .before .before .before .before .before .loop-test .taken) (e .0) (e .1)
+    let t = c .before .before .before .before .before .before .before .before .before .before in
+    next-turn (t .before .loop .inv) (t .loop-test .taken) (e .0) (e .1)
 
 same-length : tie.Need-same-length Inv-loop μ-loop
 same-length c = c .before .loop .inv .half0

@@ -28,8 +28,7 @@ same-length-2 c = search needs
 returns : tie.Need-returns
 returns c =
     let r = c .before .before .before .before .before .before .before .before .before .before .before .before .before .before in
-    let start = c .before .before .before .before .before .before .before .before .before .before .before .before .before .before .before .before .before .before .before .before in
-    λ f0 f1 e. shell-put _ _ f0 f1 _ _ _ _ (start .pre .fields) (r .before .get-word .ensures f0 f1) (r .reference .ensures)
+    λ f0 f1 e. shell-put _ _ f0 f1 _ _ _ _ (r .before .before .before .before .before .before .pre .fields) (r .before .get-word .ensures f0 f1) (r .reference .ensures)
     (c .before .before .before .before .before .before .before .before .before .before .before .append-record .ensures f0 f1) (c .before .before .before .before .put-word .ensures f0 f1) e
 
 pub put-shell-spec : {M : Type 1} → statement M
