@@ -4,7 +4,7 @@ use mathlib.Core.Path.{_≡_}
 use lib.Dec.{eqb}
 use borrow.Author.Tests.{eq-eqb, ne-eqb}
 use Rattle.rules.specs.Refusals.{refused, passed}
-use Rattle.rules.specs.Memory.{Memory, word, colour, replica, follow, followed, copyOf, otherCopy}
+use Rattle.rules.specs.Memory.{Memory, word, colour, replica, follow, followed, copyOf, otherCopy, colourAt, replicaAt}
 use Rattle.rules.specs.Barriers.{toShade}
 use Rattle.rules.specs.declared.Followed.{Followed}
 use Rattle.rules.specs.declared.Followed.the-variants.{Sound, Damage}
@@ -27,22 +27,22 @@ module _ {x : Followed} (M : Memory) (v : ℕ) (e : x ≡ follow M v) where
 
   -- a sound record
   module _ {at r p t : ℕ} (s : x ≡ Sound at r p) where
-    pub copy-own : t ≡ word M v 2 → t ≡ 0 → passed v ≡ otherCopy M v
+    pub copy-own : t ≡ word M v replicaAt → t ≡ 0 → passed v ≡ otherCopy M v
     unfolding otherCopy followed copyOf replica
     copy-own w z = rw (found M v e s .sound, ← w, eq-eqb t 0 z)
 
-    pub copy-other : t ≡ word M v 2 → (t ≡ 0 → ⊥) → passed t ≡ otherCopy M v
+    pub copy-other : t ≡ word M v replicaAt → (t ≡ 0 → ⊥) → passed t ≡ otherCopy M v
     unfolding otherCopy followed copyOf replica
     copy-other w z = rw (found M v e s .sound, ← w, ne-eqb t 0 z)
 
-    pub shade-white : (v ≡ 0 → ⊥) → t ≡ word M v 1 → t ≡ 0 → passed v ≡ toShade M v
+    pub shade-white : (v ≡ 0 → ⊥) → t ≡ word M v colourAt → t ≡ 0 → passed v ≡ toShade M v
     unfolding toShade followed colour
     shade-white n w z = rw (ne-eqb v 0 n, found M v e s .sound, ← w, eq-eqb t 0 z)
 
-    pub shade-other : (v ≡ 0 → ⊥) → t ≡ word M v 1 → (t ≡ 0 → ⊥) → passed 0 ≡ toShade M v
+    pub shade-other : (v ≡ 0 → ⊥) → t ≡ word M v colourAt → (t ≡ 0 → ⊥) → passed 0 ≡ toShade M v
     unfolding toShade followed colour
     shade-other n w z = rw (ne-eqb v 0 n, found M v e s .sound, ← w, ne-eqb t 0 z)
 
-    pub replica-compared : (q : ℕ) → t ≡ word M v 2 → passed (eqb t q) ≡ replicaIs M v q
+    pub replica-compared : (q : ℕ) → t ≡ word M v replicaAt → passed (eqb t q) ≡ replicaIs M v q
     unfolding replicaIs followed replica
     replica-compared q w = rw (found M v e s .sound, ← w)

@@ -5,7 +5,7 @@ use mathlib.Core.Bool.{Bool, true, false, cond, not, _||_}
 use lib.Dec.{leb, eqb}
 use borrow.Author.Tests.{lt-ltb, le-ltb}
 use Rattle.rules.specs.Refusals.{refused, passed}
-use Rattle.rules.specs.Memory.{Memory, word, replica, refs, plains, follow, followed}
+use Rattle.rules.specs.Memory.{Memory, word, replica, refs, plains, follow, followed, replicaAt}
 use Rattle.rules.specs.Barriers.{copiesAt, replicaFor}
 use Rattle.rules.specs.declared.Followed.{Followed}
 use Rattle.rules.specs.declared.Followed.the-variants.{Sound, Damage}
@@ -16,7 +16,7 @@ count-found : (plain : Bool) (M : Memory) (t : ℕ) {at r p n : ℕ} → Found M
 count-found true M t f e = e ∙ f .plains
 count-found false M t f e = e ∙ f .refs
 
-module _ {t : ℕ} (M : Memory) (plain : Bool) (l v i : ℕ) (w : t ≡ word M v 2) where
+module _ {t : ℕ} (M : Memory) (plain : Bool) (l v i : ℕ) (w : t ≡ word M v replicaAt) where
   pub no-replica : (not (leb 4 l) || eqb t 0) ≡ true → passed 0 ≡ replicaFor M (cond plain plains refs) l v i
   unfolding replicaFor copiesAt replica
   no-replica b = rw (← w, b)

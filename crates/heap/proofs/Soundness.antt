@@ -75,13 +75,13 @@ unfolding refsOf plainsOf
 small w h = (omega arith, omega arith)
 
 sound-passed : (M : Memory) (v : ℕ) → sound M v ≡ true
-    → (2 ≤ v) × (word M v 0 ≤ mostShape) × (wordOf v + size M v ≤ frontier M (halfOf v))
+    → (2 ≤ v) × (word M v shapeAt ≤ mostShape) × (wordOf v + size M v ≤ frontier M (halfOf v))
 unfolding sound
 sound-passed M v e =
-    let x = both (leb 2 v && leb (word M v 0) 65535 && leb (colour M v) 2) (leb (wordOf v + size M v) (frontier M (halfOf v))) e in
-    let y = both (leb 2 v && leb (word M v 0) 65535) (leb (colour M v) 2) (x .0) in
-    let z = both (leb 2 v) (leb (word M v 0) 65535) (y .0) in
-    (leb-true 2 v (z .0), leb-true (word M v 0) 65535 (z .1), leb-true (wordOf v + size M v) (frontier M (halfOf v)) (x .1))
+    let x = both (leb 2 v && leb (word M v shapeAt) mostShape && leb (colour M v) black) (leb (wordOf v + size M v) (frontier M (halfOf v))) e in
+    let y = both (leb 2 v && leb (word M v shapeAt) mostShape) (leb (colour M v) black) (x .0) in
+    let z = both (leb 2 v) (leb (word M v shapeAt) mostShape) (y .0) in
+    (leb-true 2 v (z .0), leb-true (word M v shapeAt) mostShape (z .1), leb-true (wordOf v + size M v) (frontier M (halfOf v)) (x .1))
 
 pub sound-named : (M : Memory) (v : ℕ) → sound M v ≡ true → 2 ≤ v
 sound-named M v e = sound-passed M v e .0
@@ -91,7 +91,7 @@ sound-below M v e = sound-passed M v e .2
 
 sound-small : (M : Memory) (v : ℕ) → sound M v ≡ true → (refs M v ≤ mostCount) × (plains M v ≤ mostCount)
 unfolding refs plains
-sound-small M v e = small (word M v 0) (sound-passed M v e .1)
+sound-small M v e = small (word M v shapeAt) (sound-passed M v e .1)
 
 pub found : {x : Followed} (M : Memory) (v : ℕ) {at r p : ℕ} → x ≡ follow M v → x ≡ Sound at r p → Found M v at r p
 unfolding follow

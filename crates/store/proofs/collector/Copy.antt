@@ -7,7 +7,7 @@ use native.Mathlib.Omega.{arith}
 use lib.Dec.{leb, ltb, eqb}
 use borrow.Author.Tests.{leb-true, leb-false, lt-ltb, le-ltb}
 use Rattle.rules.specs.Refusals.{refused, passed, _>>=_, Outcome, answer}
-use Rattle.rules.specs.Memory.{Memory, word, put, refs, plains, replica, sound, followed, forward, header}
+use Rattle.rules.specs.Memory.{Memory, word, put, refs, plains, replica, sound, followed, forward, header, replicaAt}
 use Rattle.rules.specs.Control.{Store, withMemory, withWalk}
 use Rattle.rules.specs.Phases.{tospace, moveOn}
 use Rattle.rules.specs.Collector.{below, pastRecord, copyRef, copyPlain, copyField, copy}
@@ -19,7 +19,7 @@ use Rattle.store.specs.Copies.{nextField, Copying}
 use Rattle.store.specs.declared.Cursor.{Cursor}
 use Rattle.store.proofs.collector.Walk.{AtWalk, AtRecord, size-found}
 
-pub replica-word : {t : ℕ} (M : Memory) (v : ℕ) → t ≡ word M v 2 → t ≡ replica M v
+pub replica-word : {t : ℕ} (M : Memory) (v : ℕ) → t ≡ word M v replicaAt → t ≡ replica M v
 unfolding replica
 replica-word M v e = e
 

@@ -58,7 +58,7 @@ module _ {r : Checked} (s : Store) (q : ℕ) (e : checked r ≡ shading (heapOf 
         → Inside (s .memory .half0) (s .memory .half1) w colourAt × (s .list .tail < length (s .list .words))
     next-allowed a b n =
         let f = shading-known (heapOf s) q w (answered (check.Word w) d) n in
-        (header-inside (s .memory .half0) (s .memory .half1) (s .memory .frontier0) (s .memory .frontier1) w (f .sound) a b 1 (omega arith), f .room)
+        (header-inside (s .memory .half0) (s .memory .half1) (s .memory .frontier0) (s .memory .frontier1) w (f .sound) a b colourAt (omega arith), f .room)
 
 -- ---- RootMark
 
@@ -94,7 +94,7 @@ module _ (s : Store) (v : ℕ) where
 
 module _ {c : Cursor} {h0 h1 : List ℕ} {v at r p : ℕ} (k : Ready c h0 h1) (f : Found (memory h0 h1 (c .frontier0) (c .frontier1)) v at r p) where
   pub colour-inside : Inside h0 h1 v colourAt
-  colour-inside = header-inside h0 h1 _ _ v (f .sound) (k .low) (k .high) 1 (omega arith)
+  colour-inside = header-inside h0 h1 _ _ v (f .sound) (k .low) (k .high) colourAt (omega arith)
 
   pub field-inside : (i : ℕ) → i < r → Inside h0 h1 v (i + header)
   field-inside i h =

@@ -1,4 +1,5 @@
 -- `heap::forwarding::other_copy` meets its contract.
+use Rattle.rules.specs.Memory.{replicaAt}
 use Rattle.heap.proofs.Soundness.{found, header-inside}
 use Rattle.heap.proofs.Copies.{copy-damage, copy-own, copy-other}
 use borrow.Author.Needs.{needs}
@@ -20,7 +21,7 @@ returns c = copy-damage _ _ (c .before .before .follow .ensures) (c .enum-told2 
 get-word-requires : tie.Need-get-word-requires
 get-word-requires c κs =
     let k = c .before .before .before .before .before .pre in
-    header-inside _ _ _ _ _ (found _ _ (c .before .before .follow .ensures) (c .enum-told .given .1) .sound) (k .low) (k .high) 2 (search needs)
+    header-inside _ _ _ _ _ (found _ _ (c .before .before .follow .ensures) (c .enum-told .given .1) .sound) (k .low) (k .high) replicaAt (search needs)
 
 returns-2 : tie.Need-returns-2
 returns-2 c = copy-own _ _ (c .before .before .before .before .follow .ensures) (c .before .before .enum-told .given .1) (c .before .get-word .ensures _ _) (c .if1 .taken)

@@ -1,5 +1,6 @@
 -- `heap::shades::to_shade` meets its contract.
 use borrow.Author.Tests.{eq-eqb}
+use Rattle.rules.specs.Memory.{colourAt}
 use Rattle.rules.specs.Barriers.{toShade}
 use Rattle.heap.proofs.Soundness.{found, header-inside}
 use Rattle.heap.proofs.Copies.{shade-damage, shade-white, shade-other}
@@ -26,7 +27,7 @@ returns-2 c = shade-damage _ _ (c .before .before .follow .ensures) (c .before .
 get-word-requires : tie.Need-get-word-requires
 get-word-requires c κs =
     let k = c .before .before .before .before .before .before .pre in
-    header-inside _ _ _ _ _ (found _ _ (c .before .before .follow .ensures) (c .enum-told .given .1) .sound) (k .low) (k .high) 1 (search needs)
+    header-inside _ _ _ _ _ (found _ _ (c .before .before .follow .ensures) (c .enum-told .given .1) .sound) (k .low) (k .high) colourAt (search needs)
 
 returns-3 : tie.Need-returns-3
 returns-3 c =

@@ -1,6 +1,7 @@
 -- The handshake at the frontier; below it damage, the record passed over, no room, or its shell.
 use mathlib.Core.Path.{sym}
 use native.Mathlib.Omega.{arith}
+use Rattle.rules.specs.Memory.{colourAt, replicaAt}
 use Rattle.heap.proofs.Soundness.{lost}
 use Rattle.store.proofs.tests.Flags.{no, yes}
 use Rattle.store.proofs.collector.Numbers.{goes, shells}
@@ -82,7 +83,7 @@ add-n c = search needs
 needs-shell-requires : tie.Need-needs-shell-requires
 needs-shell-requires c κs =
     let k = known (c .before .before .before) in
-    (header-of k 1 (omega arith), header-of k 2 (omega arith))
+    (header-of k colourAt (omega arith), header-of k replicaAt (omega arith))
 
 add-past-record : tie.Need-add-past-record
 add-past-record c = search needs

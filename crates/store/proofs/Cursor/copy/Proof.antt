@@ -1,5 +1,6 @@
 -- At the frontier the step moves on; below it damage, the record passed over, or its next field copied.
 use native.Mathlib.Omega.{arith}
+use Rattle.rules.specs.Memory.{replicaAt}
 use Rattle.heap.proofs.Soundness.{lost}
 use Rattle.store.proofs.tests.Flags.{no}
 use Rattle.store.proofs.collector.Numbers.{goes, moves}
@@ -64,7 +65,7 @@ returns-2 : tie.Need-returns-2
 returns-2 c = λ s l. copy-lost s l (walk (c .before .before .before .before .before)) (lost _ _ (c .before .before .follow .ensures) (c .enum-told .given .1))
 
 get-word-requires : tie.Need-get-word-requires
-get-word-requires c κs = header-of (known (c .before .before .before)) 2 (omega arith)
+get-word-requires c κs = header-of (known (c .before .before .before)) replicaAt (omega arith)
 
 cast-n : tie.Need-cast-n
 cast-n c = search needs

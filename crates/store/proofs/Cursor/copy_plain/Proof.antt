@@ -1,5 +1,6 @@
 -- A replica without the field, or the field written.
 use native.Mathlib.Omega.{arith}
+use Rattle.rules.specs.Memory.{shapeAt}
 use Rattle.heap.proofs.Soundness.{header-inside}
 use Rattle.heap.proofs.Fields.{plain-inside}
 use Rattle.store.specs.Cursors.{having}
@@ -23,7 +24,7 @@ start c = entry (has c .before)
 plains-of-requires : tie.Need-plains-of-requires
 plains-of-requires c κs =
     let k = c .before .before .before .before .pre .0 in
-    header-inside _ _ _ _ _ (k .there) (k .ranges .low) (k .ranges .high) 0 (omega arith)
+    header-inside _ _ _ _ _ (k .there) (k .ranges .low) (k .ranges .high) shapeAt (omega arith)
 
 cast-if1 : tie.Need-cast-if1
 cast-if1 c = search needs
@@ -43,12 +44,12 @@ returns c =
 refs-of-requires : tie.Need-refs-of-requires
 refs-of-requires c κs =
     let k = entry (c .before .before .before) .pre .0 in
-    header-inside _ _ _ _ _ (k .here) (k .ranges .low) (k .ranges .high) 0 (omega arith)
+    header-inside _ _ _ _ _ (k .here) (k .ranges .low) (k .ranges .high) shapeAt (omega arith)
 
 refs-of-requires-2 : tie.Need-refs-of-requires-2
 refs-of-requires-2 c κs =
     let k = entry (c .before .before .before .before .before .before) .pre .0 in
-    header-inside _ _ _ _ _ (k .there) (k .ranges .low) (k .ranges .high) 0 (omega arith)
+    header-inside _ _ _ _ _ (k .there) (k .ranges .low) (k .ranges .high) shapeAt (omega arith)
 
 cast-get-word : tie.Need-cast-get-word
 cast-get-word c = search needs

@@ -1,6 +1,7 @@
 -- A replica without the field, damage, or the field forwarded and written.
 use mathlib.Core.Path.{ap}
 use native.Mathlib.Omega.{arith}
+use Rattle.rules.specs.Memory.{shapeAt}
 use Rattle.heap.specs.View.{checked}
 use Rattle.heap.proofs.Soundness.{header-inside}
 use Rattle.heap.proofs.Fields.{ref-inside}
@@ -25,7 +26,7 @@ start c = entry (has c .before)
 refs-of-requires : tie.Need-refs-of-requires
 refs-of-requires c κs =
     let k = c .before .before .before .before .pre .0 in
-    header-inside _ _ _ _ _ (k .there) (k .ranges .low) (k .ranges .high) 0 (omega arith)
+    header-inside _ _ _ _ _ (k .there) (k .ranges .low) (k .ranges .high) shapeAt (omega arith)
 
 cast-if1 : tie.Need-cast-if1
 cast-if1 c = search needs

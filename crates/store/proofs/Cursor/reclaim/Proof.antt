@@ -1,5 +1,6 @@
 -- Waiting for level 0, the other half emptied, damage, or the next record's replica word cleared.
 use native.Mathlib.Omega.{arith}
+use Rattle.rules.specs.Memory.{replicaAt}
 use Rattle.heap.proofs.Soundness.{lost}
 use Rattle.store.proofs.tests.Flags.{no, yes}
 use Rattle.store.proofs.collector.Numbers.{goes, empties}
@@ -72,7 +73,7 @@ returns-3 c =
     λ s l e. reclaim-lost s l (yes e (w .before .before .before .if1 .left)) (walk w) (lost _ _ (c .before .before .follow .ensures) (c .enum-told .given .1))
 
 put-word-requires : tie.Need-put-word-requires
-put-word-requires c κs = header-of (known (c .before .before .before)) 2 (omega arith)
+put-word-requires c κs = header-of (known (c .before .before .before)) replicaAt (omega arith)
 
 cast-past-record : tie.Need-cast-past-record
 cast-past-record c = search needs
