@@ -89,12 +89,28 @@ impl Control {
 
     pub const RECLAIM: usize = 12;
 
-    pub const LAST_PHASE: usize = Control::RECLAIM;
+    pub const PHASES: usize = 13;
+
+    pub const LAST_PHASE: usize = Control::PHASES - 1;
 
     // Both tables in bytes: a constant table is written out on the stack at each use, and thirteen bytes are two stores.
-    pub const LEVELS: [u8; 13] = [0, 1, 2, 2, 2, 3, 4, 4, 5, 6, 6, 6, 0];
+    pub const LEVELS: [u8; Control::PHASES] = [0, 1, 2, 2, 2, 3, 4, 4, 5, 6, 6, 6, 0];
 
-    pub const FOLLOWERS: [u8; 13] = [1, 2, 3, 4, 5, 6, 7, 8, 9, 10, 11, 12, 0];
+    pub const FOLLOWERS: [u8; Control::PHASES] = [
+        Control::PRE_MARK1 as u8,
+        Control::PRE_MARK2 as u8,
+        Control::ROOT_MARK as u8,
+        Control::HEAP_MARK as u8,
+        Control::ALLOCATE as u8,
+        Control::PRE_COPY as u8,
+        Control::COPY as u8,
+        Control::PRE_FLIP1 as u8,
+        Control::PRE_FLIP2 as u8,
+        Control::ROOT_FLIP as u8,
+        Control::STACK_FLIP as u8,
+        Control::RECLAIM as u8,
+        Control::REST as u8,
+    ];
 
     pub const LEAST_LENGTH: usize = 16;
 
