@@ -28,7 +28,7 @@ returns-2 : tie.Need-returns-2
 unfolding ownWord
 returns-2 c =
     let f = c .before .before .before in
-    rw (ne-eqb _ _ (c .before .before .before .before .before .if1 .left), ← f .before .other-half .ensures, ← f .in-half .ensures, ← c .before .before .in-half2 .ensures, c .before .if2 .taken) (c .other-copy .ensures)
+    rw (ne-eqb _ _ (f .before .before .if1 .left), ← f .before .other-half .ensures, ← f .in-half .ensures, ← c .before .before .in-half2 .ensures, c .before .if2 .taken) (c .other-copy .ensures)
 
 returns-3 : tie.Need-returns-3
 unfolding ownWord

@@ -28,12 +28,12 @@ count-of-requires c κs = search needs
 returns-3 : tie.Need-returns-3
 returns-3 c =
     let f = c .before .before .before .before .before in
-    replica-short _ (c .before .before .before .before .before .before .before .before .before .before .args .plain) _ _ _ (f .before .before .get-word .ensures _ _) (f .before .if1 .left) (f .follow .ensures) (c .before .before .before .r .given .1) (c .before .count-of .ensures) (c .if2 .taken)
+    replica-short _ (f .before .before .before .before .before .args .plain) _ _ _ (f .before .before .get-word .ensures _ _) (f .before .if1 .left) (f .follow .ensures) (c .before .before .before .r .given .1) (c .before .count-of .ensures) (c .if2 .taken)
 
 returns-4 : tie.Need-returns-4
 returns-4 c =
     let f = c .before .before .before .before .before in
-    replica-long _ (c .before .before .before .before .before .before .before .before .before .before .args .plain) _ _ _ (f .before .before .get-word .ensures _ _) (f .before .if1 .left) (f .follow .ensures) (c .before .before .before .r .given .1) (c .before .count-of .ensures) (c .if2 .left)
+    replica-long _ (f .before .before .before .before .before .args .plain) _ _ _ (f .before .before .get-word .ensures _ _) (f .before .if1 .left) (f .follow .ensures) (c .before .before .before .r .given .1) (c .before .count-of .ensures) (c .if2 .left)
 
 pub replica-for-spec : {M : Type 1} → statement M
 replica-for-spec =

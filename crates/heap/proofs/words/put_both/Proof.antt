@@ -9,8 +9,8 @@ put-word-requires c κs = search needs
 
 put-word-requires-2 : tie.Need-put-word-requires-2
 put-word-requires-2 c κs =
-    let k = c .before .before .before .before .before .before .before .put-word .kept in
-    inside-kept _ _ _ _ _ _ (k .0) (k .1 .0) (c .before .before .before .before .before .before .before .before .before .before .before .before .pre .1 (c .before .before .if1 .taken))
+    let p = c .before .before .before .before .before .before .before in
+    inside-kept _ _ _ _ _ _ (p .put-word .kept .0) (p .put-word .kept .1 .0) (p .before .before .before .before .before .pre .1 (c .before .before .if1 .taken))
 
 same-length : tie.Need-same-length
 same-length c = search needs
@@ -21,7 +21,7 @@ same-length-2 c = search needs
 returns : tie.Need-returns
 returns c =
     let t = c .before .before .before .before .before .before .before in
-    λ f0 f1. put-two _ _ _ _ _ _ _ (c .before .before .before .before .before .before .before .before .before .before .before .before .put-word .ensures f0 f1) (t .if1 .taken) (c .before .before .before .before .put-word2 .ensures f0 f1)
+    λ f0 f1. put-two _ _ _ _ _ _ _ (t .before .before .before .before .before .put-word .ensures f0 f1) (t .if1 .taken) (c .before .before .before .before .put-word2 .ensures f0 f1)
 
 same-length-3 : tie.Need-same-length-3
 same-length-3 c = search needs

@@ -69,11 +69,12 @@ placed-requires-3 c κs =
 
 placed-requires-4 : tie.Need-placed-requires-4
 placed-requires-4 c κs =
-    let h = c .before .before .before .before .before .before .before .before .before .before .before .before .before in
+    let p = c .before .before .before .before .before .before in
+    let h = p .before .before .before .before .before .before .before in
     let f = h .before in
     room-second _ _ _ _ _ _ _ _ _ _ _ (from-small f) (h .other-half .ensures)
     (room-each _ _ _ _ _ _ (entry (f .before) .pre) (f .before .if2 .left) _ (below-at (h .other-half .ensures) (other-small _)))
-    (c .before .before .before .before .before .before .placed3 .ensures [])
+    (p .placed3 .ensures [])
 
 same-length-5 : tie.Need-same-length-5
 same-length-5 c = search needs
@@ -83,13 +84,14 @@ same-length-6 c = search needs
 
 returns-3 : tie.Need-returns-3
 returns-3 c =
-    let r = c .before .before .before .before .before .before .before .before .before .before .before .before .before .before in
+    let p = c .before .before .before .before .before .before .before .before .before .before .before in
+    let r = p .before .before .before in
     let a = r .before .before in
     let f = a .before .before .before in
     let b = f .before in
     λ l. allocated-both _ _ _ _ (b .before .if1 .left) (b .if2 .left) (f .fromspace .ensures _ _ l) (a .before .before .other-half .ensures)
     (a .before .frontier .ensures _ _) (a .reference .ensures) (r .before .frontier2 .ensures _ _) (r .reference2 .ensures)
-    (c .before .before .before .before .before .before .before .before .before .before .before .placed3 .ensures l) (c .before .before .before .before .placed4 .ensures l)
+    (p .placed3 .ensures l) (c .before .before .before .before .placed4 .ensures l)
 
 pub allocated-spec : {M : Type 1} → statement M
 allocated-spec =

@@ -150,9 +150,10 @@ same-length-8 c = search needs
 
 returns-5 : tie.Need-returns-5
 returns-5 c =
-    let x = shell (c .before .before .before .before .before .before .before .before .before .before) in
+    let t = c .before .before .before .before .before .before .before .before .before in
+    let x = shell (t .before) in
     λ s l e. shells s _ _ _ l _ _ _ (c .before .with-frontier .ensures) (c .past-record2 .ensures)
-    (shells-made s l x (c .before .before .before .before .before .before .before .before .before .if3 .left) (c .before .before .before .before .before .before .put-shell .ensures _ _ (sym (x .place))))
+    (shells-made s l x (t .if3 .left) (c .before .before .before .before .before .before .put-shell .ensures _ _ (sym (x .place))))
 
 pub allocate-shells-spec : {M : Type 1} → statement M
 allocate-shells-spec =

@@ -101,7 +101,9 @@ same-length-6 : tie.Need-same-length-6
 same-length-6 c = search needs
 
 returns-4 : tie.Need-returns-4
-returns-4 c = λ s l. copy-copies (replica (c .before .before .before .before .before .before .before .before .before)) s l (c .before .before .before .before .before .before .before .if2 .left) (c .before .before .before .before .copy-field .ensures s l)
+returns-4 c =
+    let t = c .before .before .before .before .before .before .before in
+    λ s l. copy-copies (replica (t .before .before)) s l (t .if2 .left) (c .before .before .before .before .copy-field .ensures s l)
 
 pub copy-spec : {M : Type 1} → statement M
 copy-spec =

@@ -50,9 +50,9 @@ same-length-4 c = search needs
 
 returns-2 : tie.Need-returns-2
 returns-2 c =
-    let k = c .before .before .before .before .before .before .before .before in
-    let p = entry (k .before .before) .pre in
-    λ s l. field-ref _ _ (p .replica) (known k .there) (p .count) (c .before .before .before .before .before .before .before .if1 .taken) (c .before .before .before .before .copy-ref .ensures s l)
+    let t = c .before .before .before .before .before .before .before in
+    let p = entry (t .before .before .before) .pre in
+    λ s l. field-ref _ _ (p .replica) (known (t .before) .there) (p .count) (t .if1 .taken) (c .before .before .before .before .copy-ref .ensures s l)
 
 copy-plain-requires : tie.Need-copy-plain-requires
 copy-plain-requires c κs =
@@ -67,9 +67,9 @@ same-length-6 c = search needs
 
 returns-3 : tie.Need-returns-3
 returns-3 c =
-    let k = c .before .before .before .before .before .before .before .before in
-    let p = entry (k .before .before) .pre in
-    λ s l. field-plain _ _ (p .replica) (known k .there) (p .count) (c .before .before .before .before .before .before .before .if1 .left) (c .before .before .before .before .copy-plain .ensures s l)
+    let t = c .before .before .before .before .before .before .before in
+    let p = entry (t .before .before .before) .pre in
+    λ s l. field-plain _ _ (p .replica) (known (t .before) .there) (p .count) (t .if1 .left) (c .before .before .before .before .copy-plain .ensures s l)
 
 pub copy-field-spec : {M : Type 1} → statement M
 copy-field-spec =

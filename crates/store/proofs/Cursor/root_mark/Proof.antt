@@ -41,8 +41,9 @@ same-length-3 c = search needs
 
 returns-2 : tie.Need-returns-2
 returns-2 c =
-    let a = c .before .before .before .before .before .before .before .before .before .before .before .before .before .before .args in
-    λ s e. rw (root-next (having s (a .self) (a .h0 .now) (a .h1 .now) (a .list .now)) (c .before .before .before .before .before .before .before .before .before .before .if1 .left) (ap (λ (gs : List ℕ). getD gs (a .self .place) 0) e))
+    let t = c .before .before .before .before .before .before .before .before .before .before in
+    let a = t .before .before .before .before .args in
+    λ s e. rw (root-next (having s (a .self) (a .h0 .now) (a .h1 .now) (a .list .now)) (t .if1 .left) (ap (λ (gs : List ℕ). getD gs (a .self .place) 0) e))
     (c .before .before .before .before .before .before .shade-next .ensures s)
 
 pub root-mark-spec : {M : Type 1} → statement M

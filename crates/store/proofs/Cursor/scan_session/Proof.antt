@@ -35,7 +35,10 @@ bounds-requires : tie.Need-bounds-requires
 bounds-requires c κs = search needs
 
 white-registers-requires : tie.Need-white-registers-requires
-white-registers-requires c κs = bounds-within (c .before .before .before .before .before .before .args .self) _ _ (c .before .before .bounds .ensures) (c .before .before .before .before .before .before .pre .0) (c .before .before .before .before .before .before .pre .1)
+white-registers-requires c κs =
+    let b = c .before .before in
+    let x = b .before .before .before .before in
+    bounds-within (x .args .self) _ _ (b .bounds .ensures) (x .pre .0) (x .pre .1)
 
 sub-fits : tie.Need-sub-fits
 sub-fits c = omega (arith, entry (c .before) .pre .1)

@@ -27,7 +27,10 @@ bounds-requires : tie.Need-bounds-requires
 bounds-requires c κs = search needs
 
 shading-requires : tie.Need-shading-requires
-shading-requires c κs = bounds-within (c .before .before .before .before .before .before .args .self) _ _ (c .before .before .bounds .ensures) (c .before .before .before .before .before .before .pre .0) (c .before .before .before .before .before .before .pre .1)
+shading-requires c κs =
+    let b = c .before .before in
+    let x = b .before .before .before .before in
+    bounds-within (x .args .self) _ _ (b .bounds .ensures) (x .pre .0) (x .pre .1)
 
 enum-known-w : tie.Need-enum-known-w
 enum-known-w c = search needs

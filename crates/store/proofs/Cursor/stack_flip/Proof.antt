@@ -61,10 +61,11 @@ forward-all-requires c κs =
 returns-2 : tie.Need-returns-2
 returns-2 c =
     let f = c .before .before .forward-all in
-    let n = c .before .before .before .before .before .before in
+    let t = c .before .before .before .before .before in
+    let n = t .before in
     let a = entry n .args in
     let i = n .lowest .result in
-    λ s l e. stack-lost (having s (a .self) (a .h0 .now) (a .h1 .now) l) (next n s e .0) (next n s e .1) (c .before .before .before .before .before .if1 .left)
+    λ s l e. stack-lost (having s (a .self) (a .h0 .now) (a .h1 .now) l) (next n s e .0) (next n s e .1) (t .if1 .left)
     (ap (λ (xs : List Session). getD xs i absent .registers) e)
     (all-by (a .self) (a .h0 .now) (a .h1 .now) (n .before .bounds .ensures) s l (getD (a .t2) i absent .registers) (f .ensures) (moved-false (f .result) (c .if2 .taken)))
 
@@ -74,10 +75,11 @@ of-requires c κs = search needs
 returns-3 : tie.Need-returns-3
 returns-3 c =
     let f = c .before .before .before .before .forward-all in
-    let n = c .before .before .before .before .before .before .before .before in
+    let t = c .before .before .before .before .before .before .before in
+    let n = t .before in
     let a = entry n .args in
     let i = n .lowest .result in
-    λ s l e. stack-flips (having s (a .self) (a .h0 .now) (a .h1 .now) l) (next n s e .0) (next n s e .1) (c .before .before .before .before .before .before .before .if1 .left)
+    λ s l e. stack-flips (having s (a .self) (a .h0 .now) (a .h1 .now) l) (next n s e .0) (next n s e .1) (t .if1 .left)
     (ap (λ (xs : List Session). getD xs i absent .registers) e)
     (all-by (a .self) (a .h0 .now) (a .h1 .now) (n .before .bounds .ensures) s l (getD (a .t2) i absent .registers) (f .ensures) (moved-true (f .result) (c .before .before .if2 .left)))
     (c .of .ensures)

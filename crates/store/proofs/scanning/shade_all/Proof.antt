@@ -29,7 +29,7 @@ put-grey-requires : tie.Need-put-grey-requires Inv-loop μ-loop
 put-grey-requires c κs =
     let t = c .before .before .before .before in
     let k = t .loop .inv in
-    (inside-kept _ _ _ _ _ _ (k .half0) (k .half1) (c .before .before .before .before .before .before .before .before .pre .2 (t .loop .i) (c .before .before .before .loop-test .taken)), omega (arith, c .before .before .before .before .before .before .before .before .pre))
+    (inside-kept _ _ _ _ _ _ (k .half0) (k .half1) (t .before .before .before .before .pre .2 (t .loop .i) (c .before .before .before .loop-test .taken)), omega (arith, t .before .before .before .before .pre))
 
 add-i : tie.Need-add-i Inv-loop μ-loop
 add-i c = let k = c .before .before .before .before .before .before .before .before .before .before .before .loop .inv in search needs

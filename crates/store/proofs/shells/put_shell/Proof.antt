@@ -16,8 +16,8 @@ append-record-requires c κs = search needs
 
 put-word-requires : tie.Need-put-word-requires
 put-word-requires c κs =
-    let k = c .before .before .before .before .before .before .append-record .kept in
-    inside-kept _ _ _ _ _ _ (k .0) (k .1 .0) (c .before .before .before .before .before .before .before .before .before .before .before .before .before .before .before .pre .replica)
+    let a = c .before .before .before .before .before .before in
+    inside-kept _ _ _ _ _ _ (a .append-record .kept .0) (a .append-record .kept .1 .0) (a .before .before .before .before .before .before .before .before .before .pre .replica)
 
 same-length : tie.Need-same-length
 same-length c = search needs
@@ -27,9 +27,10 @@ same-length-2 c = search needs
 
 returns : tie.Need-returns
 returns c =
-    let r = c .before .before .before .before .before .before .before .before .before .before .before .before .before .before in
+    let a = c .before .before .before .before .before .before .before .before .before .before .before in
+    let r = a .before .before .before in
     λ f0 f1 e. shell-put _ _ f0 f1 _ _ _ _ (r .before .before .before .before .before .before .pre .fields) (r .before .get-word .ensures f0 f1) (r .reference .ensures)
-    (c .before .before .before .before .before .before .before .before .before .before .before .append-record .ensures f0 f1) (c .before .before .before .before .put-word .ensures f0 f1) e
+    (a .append-record .ensures f0 f1) (c .before .before .before .before .put-word .ensures f0 f1) e
 
 pub put-shell-spec : {M : Type 1} → statement M
 put-shell-spec =
