@@ -5,11 +5,9 @@ use mathlib.Core.Bool.{true, false}
 use mathlib.Core.List.{List}
 use mathlib.Core.Logic.{_⊎_, inl, inr}
 use native.Mathlib.Omega.{arith}
-use borrow.Author.Tests.{lt-ltb, le-ltb, le-leb}
-use lib.ListN.{length}
+use borrow.Author.Tests.{le-ltb}
 use Rattle.rules.specs.Script.{entryAt}
-use Rattle.rules.proofs.memory.Cases.{lt-or, bool-or, either}
-use Rattle.script.specs.Lines.{longest}
+use Rattle.rules.proofs.memory.Cases.{bool-or, either}
 use Rattle.script.specs.Turns.{Left, turn, goesOn, turns}
 use Rattle.script.proofs.Places.{entry-or, moves-on}
 
@@ -22,21 +20,6 @@ no-more stop x e = rw e
 pub arrived : (stop : ℕ) (x : Left) → stop ≤ x .at → goesOn stop x ≡ false
 unfolding goesOn
 arrived stop x past = bool-or (x .more) (λ e. rw (e, le-ltb (x .at) stop past)) (λ e. rw e)
-
--- where there is more to do, room for a line, and a number that can be counted, it stops only at the place
-pub stops-there : (stop : ℕ) (x : Left) → goesOn stop x ≡ false → x .more ≡ true → x .end + longest ≤ length (x .out) →
-    x .number < 18446744073709551615 → stop ≤ x .at
-unfolding goesOn
-stops-there stop x off more room count =
-    lt-or
-    (x .at)
-    stop
-    (λ before.
-    let on : goesOn stop x ≡ true =
-    rw (more, lt-ltb (x .at) stop before, le-leb (x .end + longest) (length (x .out)) room, lt-ltb (x .number) 18446744073709551615 count) in
-    let none : _≡_ {A = ℕ} 0 1 = cc in
-    omega arith)
-    (λ past. past)
 
 pub has-more : (stop : ℕ) (x : Left) → goesOn stop x ≡ true → x .more ≡ true
 has-more stop x on =

@@ -37,11 +37,9 @@ cast-if3 c = omega (arith, size-small (c .before .before .byte .result))
 returns-3 : tie.Need-returns-3
 unfolding callOf
 returns-3 c =
-    let c1 = c .before in
-    let c2 = c1 .before .before in
-    let kind = c2 .byte .result in
-    let least : 1 ≤ kind = omega arith in
-    rw (← c2 .byte .ensures .0, le-leb _ _ least, le-leb _ _ (c1 .if2 .left), ← size-of _ kind, ne-eqb _ _ (λ e. c .if3 .taken (sym e)))
+    let kind = c .before .before .before .byte in
+    let least : 1 ≤ kind .result = omega arith in
+    rw (← kind .ensures .0, le-leb _ _ least, le-leb _ _ (c .before .if2 .left), ← size-of _ (kind .result), ne-eqb _ _ (λ e. c .if3 .taken (sym e)))
 
 command-of-requires : tie.Need-command-of-requires
 command-of-requires c κs = search needs
@@ -49,12 +47,9 @@ command-of-requires c κs = search needs
 returns-4 : tie.Need-returns-4
 unfolding callOf
 returns-4 c =
-    let c1 = c .before in
-    let c2 = c1 .before in
-    let c3 = c2 .before .before in
-    let kind = c3 .byte .result in
-    let least : 1 ≤ kind = omega arith in
-    rw (← c3 .byte .ensures .0, le-leb _ _ least, le-leb _ _ (c2 .if2 .left), ← size-of _ kind, eq-eqb _ _ (sym (c1 .if3 .left)), c .command-of .ensures)
+    let kind = c .before .before .before .before .byte in
+    let least : 1 ≤ kind .result = omega arith in
+    rw (← kind .ensures .0, le-leb _ _ least, le-leb _ _ (c .before .before .if2 .left), ← size-of _ (kind .result), eq-eqb _ _ (sym (c .before .if3 .left)), c .command-of .ensures)
 
 pub decode-spec : {M : Type 1} → statement M
 decode-spec =

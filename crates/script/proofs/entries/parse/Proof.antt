@@ -1,7 +1,11 @@
 -- The end of the input, a cut entry, or a body that is decoded.
+use Prim.Native.Nat.{_+_}
+use mathlib.Core.Path.{_≡_}
 use native.Mathlib.Omega.{arith}
 use borrow.Author.Tests.{le-leb}
-use Rattle.rules.specs.Script.{entryAt}
+use lib.ListN.{getD}
+use Rattle.rules.specs.Script.{entryAt, callThen}
+use Rattle.script.specs.Commands.{tested}
 use Rattle.script.proofs.Bodies.{whole, cut}
 use borrow.Author.Needs.{needs}
 use Rattle.script.proofs.entries.parse.Statement.{statement}
@@ -48,20 +52,16 @@ enum-known-command c = search needs
 enum-told : tie.Need-enum-told
 enum-told c = search needs
 
+-- the entry is whole, and its body was decoded
+decoded : (d : tie.After-decode) → let a = d .before .before .before .before .before .before .args in
+    entryAt (a .bytes .now) (a .at) ≡ callThen (tested (d .decode .result)) (a .at + 1 + getD (a .bytes .now) (a .at) 0)
+decoded d = rw (whole _ _ (d .before .before .before .before .if1 .left) (d .before .before .if2 .left), ← d .decode .ensures)
+
 returns-3 : tie.Need-returns-3
-returns-3 c =
-    let c1 = c .before in
-    let c2 = c1 .before .before in
-    let c3 = c2 .before .before in
-    let c4 = c3 .before .before in
-    rw (whole _ _ (c4 .if1 .left) (c3 .if2 .left), ← c2 .decode .ensures, c1 .command .given .1)
+returns-3 c = rw (decoded (c .before .before .before), c .before .command .given .1)
 
 returns-4 : tie.Need-returns-4
-returns-4 c =
-    let c1 = c .before .before in
-    let c2 = c1 .before .before in
-    let c3 = c2 .before .before in
-    rw (whole _ _ (c3 .if1 .left) (c2 .if2 .left), ← c1 .decode .ensures, c .enum-told .given .1)
+returns-4 c = rw (decoded (c .before .before), c .enum-told .given .1)
 
 pub parse-spec : {M : Type 1} → statement M
 parse-spec =

@@ -37,10 +37,7 @@ add-result-3 c = search needs
 returns : tie.Need-returns
 unfolding bigEndian
 returns c =
-    let c1 = c .before in
-    let c2 = c1 .before in
-    let c3 = c2 .before in
-    rw (c .byte4 .ensures .0, c1 .byte3 .ensures .0, c2 .byte2 .ensures .0, c3 .byte .ensures .0)
+    rw (c .byte4 .ensures .0, c .before .byte3 .ensures .0, c .before .before .byte2 .ensures .0, c .before .before .before .byte .ensures .0)
 
 pub value-spec : {M : Type 1} → statement M
 value-spec =

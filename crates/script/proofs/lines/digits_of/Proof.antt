@@ -10,9 +10,7 @@ count-digits-requires : tie.Need-count-digits-requires
 count-digits-requires c κs = search needs
 
 add-result : tie.Need-add-result
-add-result c =
-    let c1 = c .before .before .before .before .before .before in
-    omega (arith, long64 (c1 .args .n) (search needs), decimal-longer 10 (c .before .if10 .left))
+add-result c = omega (arith, long64 (c .before .before .before .before .before .before .args .n) (search needs), decimal-longer 10 (c .before .if10 .left))
 
 returns : tie.Need-returns
 returns c = sym (one-long (omega arith))

@@ -51,9 +51,8 @@ loop-less c = search needs
 
 loop-again : tie.Need-loop-again Inv-loop μ-loop
 loop-again c =
-    let c1 = c .before .before in
-    let c2 = c1 .before .before in
-    pair-written (c2 .before .loop .inv) (c2 .loop-test .taken) (c1 .write-pair .ensures)
+    let turn = c .before .before .before .before in
+    pair-written (turn .before .loop .inv) (turn .loop-test .taken) (c .before .before .write-pair .ensures)
 
 cast-out-2 : tie.Need-cast-out-2 Inv-loop μ-loop
 cast-out-2 c = search needs
@@ -78,10 +77,8 @@ same-length-3 c = search needs
 
 returns-3 : tie.Need-returns-3 Inv-loop μ-loop
 returns-3 c =
-    let c1 = c .before .before in
-    let c2 = c1 .before .before in
-    let c3 = c2 .before in
-    (omega arith, rw (← c3 .before .loop .inv .text, decimal-two (c2 .if2 .left) (c3 .loop-test .left)) (c1 .write-pair2 .ensures))
+    let done = c .before .before .before .before .before in
+    (omega arith, rw (← done .before .loop .inv .text, decimal-two (c .before .before .before .before .if2 .left) (done .loop-test .left)) (c .before .before .write-pair2 .ensures))
 
 pub write-decimal-spec : {M : Type 1} → statement M
 write-decimal-spec =

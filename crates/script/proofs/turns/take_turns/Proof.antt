@@ -47,9 +47,7 @@ abbrev stop : tie.At-loop Inv-loop μ-loop → ℕ
 stop d = d .before .before .before .before .before .before .before .args .stop
 
 a-turn : (c : tie.In-loop Inv-loop μ-loop) → Open (input (c .before)) (stop (c .before)) (x₀ (c .before)) (x (c .before))
-a-turn c =
-    let c1 = c .before in
-    opened _ _ _ _ _ _ _ _ _ (c1 .loop .inv .0) (c1 .loop .inv .1) (c .loop-test .taken)
+a-turn c = opened _ _ _ _ _ _ _ _ _ (c .before .loop .inv .0) (c .before .loop .inv .1) (c .loop-test .taken)
 
 -- what stands at the place
 stands : (c : tie.After-parsed Inv-loop μ-loop) → let d = c .before .before .before .before in
@@ -100,8 +98,7 @@ left-requires c κs = search needs
 
 returns : tie.Need-returns Inv-loop μ-loop
 returns c =
-    let c1 = c .before .before .before .before .before .before .before in
-    let a = c1 .args in
+    let a = c .before .before .before .before .before .before .before .args in
     rw (c .left .ensures) (full (a .stop) (a .stop) (a .input .now) _ _ _ _ _ (c .before .if1 .taken), (search needs, λ l. l))
 
 loop-holds : tie.Need-loop-holds Inv-loop μ-loop
@@ -130,9 +127,8 @@ left-requires-2 c κs = search needs
 
 returns-2 : tie.Need-returns-2 Inv-loop μ-loop
 returns-2 c =
-    let c1 = c .before .before .before in
-    let turn = a-turn (c1 .before) in
-    let here = sym (c1 .parse .ensures) ∙ ap found (c .before .enum-told .given .1) in
+    let turn = a-turn (c .before .before .before .before) in
+    let here = sym (c .before .before .before .parse .ensures) ∙ ap found (c .before .enum-told .given .1) in
     rw (c .left2 .ensures) (ends _ _ _ _ turn _ (turn-ended _ _ _ _ _ _ here) refl, (turn .progress .counted, turn .progress .within))
 
 enum-told-2 : tie.Need-enum-told-2 Inv-loop μ-loop
@@ -158,12 +154,10 @@ left-requires-3 c κs = search needs
 
 returns-3 : tie.Need-returns-3 Inv-loop μ-loop
 returns-3 c =
-    let c1 = c .before .before .before in
-    let c2 = c1 .before .before in
-    let c3 = c2 .before .before in
-    let turn = a-turn (c3 .before) in
-    let line = c1 .write-line in
-    let here = sym (c3 .parse .ensures) ∙ ap found (c2 .enum-told2 .given .1) in
+    let told = c .before .before .before .before .before in
+    let turn = a-turn (told .before .before .before) in
+    let line = c .before .before .before .write-line in
+    let here = sym (told .before .before .parse .ensures) ∙ ap found (told .enum-told2 .given .1) in
     rw (c .left3 .ensures)
     (ends _ _ _ _ turn _ (turn-bad _ _ _ _ _ _ here (line .ensures .0) (line .ensures .1 .0)) refl, (turn .progress .counted, λ h. omega (arith, line .ensures .1 .1, line .kept, turn .room)))
 
@@ -238,25 +232,19 @@ add-number c = omega (arith, a-turn (c .before .before .before .before .before .
 
 loop-less : tie.Need-loop-less Inv-loop μ-loop
 loop-less c =
-    let c1 = c .before .before .before .before .before .before .before .before in
-    let c2 = c1 .before .before .before in
-    omega (arith, a-turn c2 .before, moves-on _ _ (stands c1))
+    let entry = c .before .before .before .before .before .before .before .before in
+    omega (arith, a-turn (entry .before .before .before) .before, moves-on _ _ (stands entry))
 
 loop-again : tie.Need-loop-again Inv-loop μ-loop
 loop-again c =
-    let c1 = c .before .before in
-    let c2 = c1 .before .before in
-    let c3 = c2 .before in
-    let c4 = c3 .before in
-    let c5 = c4 .before .before in
-    let c6 = c5 .before .before .before in
-    let c7 = c6 .before in
-    let turn = a-turn c6 in
-    let call = joined c4 in
-    let here = stands c5 in
-    let line = c1 .write-line2 in
-    let inv = c7 .loop .inv in
-    let taken = turn-called _ _ _ _ _ _ (record { control = c4 .match2 .control; answer = c4 .match2 .answer }) here (call .left) (c3 .number-of .ensures) (c2 .value-of .ensures) (line .ensures .0) (line .ensures .1 .0) in
+    let met = c .before .before .before .before .before .before in
+    let start = met .before .before .before .before .before in
+    let turn = a-turn start in
+    let call = joined met in
+    let here = stands (met .before .before) in
+    let line = c .before .before .write-line2 in
+    let inv = start .before .loop .inv in
+    let taken = turn-called _ _ _ _ _ _ (record { control = met .match2 .control; answer = met .match2 .answer }) here (call .left) (c .before .before .before .before .before .number-of .ensures) (c .before .before .before .before .value-of .ensures) (line .ensures .0) (line .ensures .1 .0) in
     (goes-on _ _ _ _ turn _ taken refl (moves-on _ _ here) (omega (arith, line .ensures .1 .1, line .kept, turn .room)), omega (arith, inv .1, line .kept), call .half0 ∙ inv .2, call .half1 ∙ inv .3, call .list ∙ inv .4, omega (arith, inv .5, line .kept))
 
 same-length-9 : tie.Need-same-length-9 Inv-loop μ-loop
