@@ -1,10 +1,35 @@
 -- `heap::stores::store_writes` meets its contract.
+use mathlib.Core.Path.{_≡_}
 use borrow.Author.Tests.{ne-eqb}
 use Rattle.heap.proofs.Answers.{word-passed, word-refused}
-use Rattle.rules.specs.Barriers.{storeWrites}
+use Rattle.rules.specs.Refusals.{passed}
+use Rattle.rules.specs.Memory.{refs}
+use Rattle.rules.specs.Barriers.{barrierShade, replicaFor, ownWord, storeWrites}
+use Rattle.heap.specs.View.{heap}
 use borrow.Author.Needs.{needs}
 use Rattle.heap.proofs.stores.store_writes.Statement.{statement}
 use Rattle.heap.proofs.stores.store_writes.Tie as tie
+
+-- past the first test: the record to shade
+shade : (c : tie.After-w) → let a = c .before .before .before .before .before .args in
+    barrierShade (heap (a .b) (a .h0 .now) (a .h1 .now)) (a .l) (a .q) ≡ passed (c .w .given .0 .0)
+shade c = word-passed (c .before .before .barrier-shade .ensures) (c .w .given .1)
+
+-- past the second: the replica that is written as well
+abbrev first : tie.After-t → tie.After-w
+first c = c .before .before .before .before
+
+replica : (c : tie.After-t) → let a = first c .before .before .before .before .before .args in
+    replicaFor (heap (a .b) (a .h0 .now) (a .h1 .now) .memory) refs (a .l) (a .v) (a .i) ≡ passed (c .t .given .0 .0)
+replica c = word-passed (c .before .before .replica-for .ensures) (c .t .given .1)
+
+-- past the third: the word for the record itself
+abbrev second : tie.After-own → tie.After-t
+second c = c .before .before .before .before
+
+own : (c : tie.After-own) → let a = first (second c) .before .before .before .before .before .args in
+    ownWord (heap (a .b) (a .h0 .now) (a .h1 .now)) (a .l) (a .v) (a .q) ≡ passed (c .own .given .0 .0)
+own c = word-passed (c .before .before .own-word .ensures) (c .own .given .1)
 
 barrier-shade-requires : tie.Need-barrier-shade-requires
 barrier-shade-requires c κs = search needs
@@ -30,11 +55,7 @@ enum-told-2 c = search needs
 
 returns-2 : tie.Need-returns-2
 unfolding storeWrites
-returns-2 c =
-    let c1 = c .before .before in
-    let c2 = c1 .before .before in
-    let c3 = c2 .before .before in
-    rw (word-passed (c3 .barrier-shade .ensures) (c2 .w .given .1), word-refused (c1 .replica-for .ensures) (c .enum-told2 .given .1))
+returns-2 c = rw (shade (c .before .before .before .before), word-refused (c .before .before .replica-for .ensures) (c .enum-told2 .given .1))
 
 own-word-requires : tie.Need-own-word-requires
 own-word-requires c κs = search needs
@@ -48,23 +69,15 @@ enum-told-3 c = search needs
 returns-3 : tie.Need-returns-3
 unfolding storeWrites
 returns-3 c =
-    let c1 = c .before .before in
-    let c2 = c1 .before .before in
-    let c3 = c2 .before .before in
-    let c4 = c3 .before .before in
-    let c5 = c4 .before .before in
-    rw (word-passed (c5 .barrier-shade .ensures) (c4 .w .given .1), word-passed (c3 .replica-for .ensures) (c2 .t .given .1), word-refused (c1 .own-word .ensures) (c .enum-told3 .given .1))
+    let t = c .before .before .before .before in
+    rw (shade (first t), replica t, word-refused (c .before .before .own-word .ensures) (c .enum-told3 .given .1))
 
 returns-4 : tie.Need-returns-4
 unfolding storeWrites
 returns-4 c =
-    let c1 = c .before .before in
-    let c2 = c1 .before .before in
-    let c3 = c2 .before .before in
-    let c4 = c3 .before .before in
-    let c5 = c4 .before .before in
-    let c6 = c5 .before .before in
-    rw (word-passed (c6 .barrier-shade .ensures) (c5 .w .given .1), word-passed (c4 .replica-for .ensures) (c3 .t .given .1), word-passed (c2 .own-word .ensures) (c1 .own .given .1), c .if1 .taken)
+    let o = c .before .before in
+    let t = second o in
+    rw (replica t, c .if1 .taken, shade (first t), own o)
 
 replica-word-requires : tie.Need-replica-word-requires
 replica-word-requires c κs = search needs
@@ -78,29 +91,18 @@ enum-told-4 c = search needs
 returns-5 : tie.Need-returns-5
 unfolding storeWrites
 returns-5 c =
-    let c1 = c .before .before in
-    let c2 = c1 .before in
-    let c3 = c2 .before .before in
-    let c4 = c3 .before .before in
-    let c5 = c4 .before .before in
-    let c6 = c5 .before .before in
-    let c7 = c6 .before .before in
-    let c8 = c7 .before .before in
-    rw (word-passed (c8 .barrier-shade .ensures) (c7 .w .given .1), word-passed (c6 .replica-for .ensures) (c5 .t .given .1), word-passed (c4 .own-word .ensures) (c3 .own .given .1), ne-eqb _ _ (c2 .if1 .left), word-refused (c1 .replica-word .ensures) (c .enum-told4 .given .1))
+    let n = c .before .before .before in
+    let o = n .before .before in
+    let t = second o in
+    rw (shade (first t), replica t, own o, ne-eqb _ _ (n .if1 .left), word-refused (c .before .before .replica-word .ensures) (c .enum-told4 .given .1))
 
 returns-6 : tie.Need-returns-6
 unfolding storeWrites
 returns-6 c =
-    let c1 = c .before in
-    let c2 = c1 .before .before in
-    let c3 = c2 .before in
-    let c4 = c3 .before .before in
-    let c5 = c4 .before .before in
-    let c6 = c5 .before .before in
-    let c7 = c6 .before .before in
-    let c8 = c7 .before .before in
-    let c9 = c8 .before .before in
-    rw (word-passed (c9 .barrier-shade .ensures) (c8 .w .given .1), word-passed (c7 .replica-for .ensures) (c6 .t .given .1), word-passed (c5 .own-word .ensures) (c4 .own .given .1), ne-eqb _ _ (c3 .if1 .left), word-passed (c2 .replica-word .ensures) (c1 .copy .given .1))
+    let n = c .before .before .before .before in
+    let o = n .before .before in
+    let t = second o in
+    rw (shade (first t), replica t, own o, ne-eqb _ _ (n .if1 .left), word-passed (c .before .before .before .replica-word .ensures) (c .before .copy .given .1))
 
 pub store-writes-spec : {M : Type 1} → statement M
 store-writes-spec =

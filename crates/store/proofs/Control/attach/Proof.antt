@@ -28,16 +28,14 @@ mul-session c = search needs
 
 element-set-from-session : tie.Need-element-set-from-session
 element-set-from-session c =
-    let c1 = c .before .before in
-    let k = attachable _ _ (c1 .before .before .session-tests .ensures) (c1 .if2 .left) in
+    let k = attachable _ _ (c .before .before .before .before .session-tests .ensures) (c .before .before .if2 .left) in
     omega arith
 
 returns-3 : tie.Need-returns-3
 unfolding withSession sessionAt
 returns-3 c =
-    let c1 = c .before in
-    let c2 = c1 .before in
-    rw (attachable _ _ (c2 .before .before .session-tests .ensures) (c2 .if2 .left) .outcome, c1 .level-of .ensures, c .nobody .ensures)
+    let l = c .before .before in
+    rw (attachable _ _ (l .before .before .session-tests .ensures) (l .if2 .left) .outcome, c .before .level-of .ensures, c .nobody .ensures)
 
 pub attach-spec : {M : Type 1} → statement M
 attach-spec =

@@ -30,15 +30,13 @@ mul-left c = search needs
 
 element-set-from-left : tie.Need-element-set-from-left
 element-set-from-left c =
-    let c1 = c .before .before in
-    let k = known _ _ (c1 .before .session-tests .ensures) (c1 .if1 .left) in
+    let k = known _ _ (c .before .before .before .session-tests .ensures) (c .before .before .if1 .left) in
     omega arith
 
 returns-2 : tie.Need-returns-2
 unfolding detach withSession sessionAt
 returns-2 c =
-    let c1 = c .before .before in
-    rw (let-in _ _ (c1 .before .session-tests .ensures) (c1 .if1 .left), c .nobody .ensures)
+    rw (let-in _ _ (c .before .before .before .session-tests .ensures) (c .before .before .if1 .left), c .nobody .ensures)
 
 pub detach-spec : {M : Type 1} → statement M
 detach-spec =

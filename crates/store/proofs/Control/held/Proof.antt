@@ -54,30 +54,24 @@ element-copy-out-word c =
 returns-3 : tie.Need-returns-3
 unfolding operandsOf register sessionAt
 returns-3 c =
-    let c1 = c .before .before .before .before .before in
-    let c2 = c1 .before in
-    let c3 = c2 .before in
-    let c4 = c3 .before .before .before .before in
-    let a = c4 .args in
+    let k = c .before .before .before .before .before .before in
+    let a = k .before .before .before .before .before .args in
     let v = getD (getD (a .self .sessions) (a .s) absent .registers) (a .register) 0 in
     rw (
-      let-in _ _ (c3 .session-tests .ensures) (c2 .if1 .left),
-      registers-in (a .register) (a .other) (c1 .if2 .left),
+      let-in _ _ (k .before .session-tests .ensures) (k .if1 .left),
+      registers-in (a .register) (a .other) (c .before .before .before .before .before .if2 .left),
       eq-eqb v 0 (c .if3 .taken),
     )
 
 returns-4 : tie.Need-returns-4
 unfolding operandsOf register sessionAt
 returns-4 c =
-    let c1 = c .before .before .before .before .before in
-    let c2 = c1 .before in
-    let c3 = c2 .before in
-    let c4 = c3 .before .before .before .before in
-    let a = c4 .args in
+    let k = c .before .before .before .before .before .before in
+    let a = k .before .before .before .before .before .args in
     let v = getD (getD (a .self .sessions) (a .s) absent .registers) (a .register) 0 in
     rw (
-      let-in _ _ (c3 .session-tests .ensures) (c2 .if1 .left),
-      registers-in (a .register) (a .other) (c1 .if2 .left),
+      let-in _ _ (k .before .session-tests .ensures) (k .if1 .left),
+      registers-in (a .register) (a .other) (c .before .before .before .before .before .if2 .left),
       ne-eqb v 0 (c .if3 .left),
     )
 

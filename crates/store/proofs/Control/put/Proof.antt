@@ -1,13 +1,20 @@
 -- The plan's refusal, or what it says written: the record shaded, then the global.
+use Prim.Native.Nat.{_≤_}
+use mathlib.Core.Path.{_≡_}
 use mathlib.Core.Logic.{⊎-elim}
 use native.Mathlib.Omega.{arith}
-use Rattle.rules.specs.Control.{Store}
+use Rattle.rules.specs.Control.{Store, lastGlobal}
 use Rattle.rules.specs.declared.Writes.{Writes}
 use Rattle.store.specs.View.{view}
-use Rattle.store.proofs.calls.Store.{Next, unshaded, met, put-away, put-known-by, put-done}
+use Rattle.store.proofs.calls.Store.{Ready, Next, unshaded, met, put-away, put-known-by, put-done}
 use borrow.Author.Needs.{needs}
 use Rattle.store.proofs.Control.put.Statement.{statement}
 use Rattle.store.proofs.Control.put.Tie as tie
+
+-- what the plan says of the global and of the record to shade
+told : (c : tie.After-plan2) → let a = c .before .before .before .before .before .before .before .before .before .args in
+    (a .global ≤ lastGlobal) × ((c .plan2 .given .0 .1 .0 .shade ≡ 0 → ⊥) → Ready (view (a .t1) (a .h0 .now) (a .h1 .now) (a .list .now)) (c .plan2 .given .0 .1 .0 .shade))
+told c = put-known-by _ _ _ _ (c .before .before .put-plan .ensures) (c .plan2 .given .1)
 
 put-plan-requires : tie.Need-put-plan-requires
 put-plan-requires c κs = search needs
@@ -19,10 +26,7 @@ enum-known-plan-2 : tie.Need-enum-known-plan-2
 enum-known-plan-2 c = search needs
 
 shade-requires : tie.Need-shade-requires
-shade-requires c κs =
-    let c1 = c .before .before .before .before .before .before in
-    let c2 = c1 .before .before in
-    λ n. let r = put-known-by _ _ _ _ (c2 .put-plan .ensures) (c1 .plan2 .given .1) .1 n in (r .coloured, r .listed)
+shade-requires c κs = λ n. let r = told (c .before .before .before .before .before .before) .1 n in (r .coloured, r .listed)
 
 -- the call where the ways meet: the store that it came with, and what the plan says
 abbrev entered : tie.Joined1 → Store
@@ -42,16 +46,10 @@ shaded j =
     (j .if1 .came)
 
 mul-self : tie.Need-mul-self
-mul-self c =
-    let c1 = c .before .before .before in
-    let c2 = c1 .before .before in
-    omega (arith, put-known-by _ _ _ _ (c2 .put-plan .ensures) (c1 .plan2 .given .1) .0)
+mul-self c = omega (arith, told (c .before .before .before) .0)
 
 element-write-self : tie.Need-element-write-self
-element-write-self c =
-    let c1 = c .before .before .before in
-    let c2 = c1 .before .before in
-    omega (arith, put-known-by _ _ _ _ (c2 .put-plan .ensures) (c1 .plan2 .given .1) .0)
+element-write-self c = omega (arith, told (c .before .before .before) .0)
 
 same-length : tie.Need-same-length
 same-length c = search needs
@@ -76,9 +74,8 @@ same-length-6 c = shaded c .listed
 
 returns-2 : tie.Need-returns-2
 returns-2 c =
-    let c1 = c .before .before .before in
-    let c2 = c1 .before .before in
-    rw (put-done _ _ _ _ (c2 .put-plan .ensures) (c1 .plan2 .given .1) (shaded c .shaded))
+    let p = c .before .before .before in
+    rw (put-done _ _ _ _ (p .before .before .put-plan .ensures) (p .plan2 .given .1) (shaded c .shaded))
 
 pub put-spec : {M : Type 1} → statement M
 put-spec =

@@ -21,10 +21,8 @@ returns-2 c = put-register _ _ _ _ (let-in _ _ (c .before .before .session-tests
 
 returns-3 : tie.Need-returns-3
 returns-3 c =
-    let c1 = c .before in
-    let c2 = c1 .before in
-    let c3 = c2 .before in
-    put-global _ _ _ _ (let-in _ _ (c3 .session-tests .ensures) (c2 .if1 .left)) (c1 .if2 .left) (c .if3 .taken)
+    let k = c .before .before in
+    put-global _ _ _ _ (let-in _ _ (k .before .session-tests .ensures) (k .if1 .left)) (c .before .if2 .left) (c .if3 .taken)
 
 mul-session : tie.Need-mul-session
 mul-session c = search needs
@@ -45,9 +43,8 @@ bounds-requires c κs = search needs
 
 put-writes-requires : tie.Need-put-writes-requires
 put-writes-requires c κs =
-    let c1 = c .before .before .before .before .before .before in
-    let c2 = c1 .before in
-    let k = known _ _ (c2 .session-tests .ensures) (c1 .if1 .left) .known in
+    let l = c .before .before .before .before .before .before in
+    let k = known _ _ (l .before .session-tests .ensures) (l .if1 .left) .known in
     within _ _ (c .bounds .ensures _ _ _ (k .lent2)) k
 
 enum-known-w : tie.Need-enum-known-w
@@ -59,27 +56,20 @@ enum-told c = search needs
 returns-4 : tie.Need-returns-4
 unfolding register sessionAt
 returns-4 c =
-    let c1 = c .before .before in
-    let c2 = c1 .before in
-    let c3 = c2 .before .before .before .before in
-    let c4 = c3 .before in
-    let c5 = c4 .before in
-    let c6 = c5 .before in
-    let k = known _ _ (c6 .session-tests .ensures) (c5 .if1 .left) .known in
-    put-unwritable _ _ _ _ (let-in _ _ (c6 .session-tests .ensures) (c5 .if1 .left)) (c4 .if2 .left) (c3 .if3 .left) (c2 .bounds .ensures _ _ _ (k .lent2)) (c1 .put-writes .ensures) (c .enum-told .given .1)
+    let b = c .before .before .before in
+    let m = b .before .before .before .before in
+    let l = m .before .before in
+    let k = known _ _ (l .before .session-tests .ensures) (l .if1 .left) .known in
+    put-unwritable _ _ _ _ (let-in _ _ (l .before .session-tests .ensures) (l .if1 .left)) (m .before .if2 .left) (m .if3 .left) (b .bounds .ensures _ _ _ (k .lent2)) (c .before .before .put-writes .ensures) (c .enum-told .given .1)
 
 returns-5 : tie.Need-returns-5
 unfolding register sessionAt
 returns-5 c =
-    let c1 = c .before in
-    let c2 = c1 .before .before in
-    let c3 = c2 .before in
-    let c4 = c3 .before .before .before .before in
-    let c5 = c4 .before in
-    let c6 = c5 .before in
-    let c7 = c6 .before in
-    let k = known _ _ (c7 .session-tests .ensures) (c6 .if1 .left) .known in
-    put-made _ _ _ _ (let-in _ _ (c7 .session-tests .ensures) (c6 .if1 .left)) (c5 .if2 .left) (c4 .if3 .left) (c3 .bounds .ensures _ _ _ (k .lent2)) (c2 .put-writes .ensures) (c1 .w .given .1)
+    let b = c .before .before .before .before in
+    let m = b .before .before .before .before in
+    let l = m .before .before in
+    let k = known _ _ (l .before .session-tests .ensures) (l .if1 .left) .known in
+    put-made _ _ _ _ (let-in _ _ (l .before .session-tests .ensures) (l .if1 .left)) (m .before .if2 .left) (m .if3 .left) (b .bounds .ensures _ _ _ (k .lent2)) (c .before .before .before .put-writes .ensures) (c .before .w .given .1)
 
 pub put-plan-spec : {M : Type 1} → statement M
 put-plan-spec =

@@ -31,10 +31,8 @@ enum-told c = search needs
 returns-2 : tie.Need-returns-2
 unfolding read
 returns-2 c =
-    let c1 = c .before .before in
-    let c2 = c1 .before .before in
-    let c3 = c2 .before .before in
-    rw (unsound _ _ _ _ (c3 .held .ensures) (c2 .operands .given .1) (c1 .follow .ensures) (c .enum-told .given .1))
+    let x = c .before .before .before .before in
+    rw (unsound _ _ _ _ (x .before .before .held .ensures) (x .operands .given .1) (c .before .before .follow .ensures) (c .enum-told .given .1))
 
 -- what the opening gives of the record found
 opening : (c : tie.After-r)
@@ -43,9 +41,8 @@ opening : (c : tie.After-r)
     Opened (view (a .self) (a .h0 .now) (a .h1 .now) (a .list .now)) (a .s) (a .register) (a .register)
     (c .before .before .before .before .operands .given .0 .0) (f .0) (f .1 .0) (f .1 .1 .0)
 opening c =
-    let c1 = c .before .before in
-    let c2 = c1 .before .before in
-    opened _ _ _ _ (c2 .before .before .held .ensures) (c2 .operands .given .1) (c1 .follow .ensures) (c .r .given .1)
+    let x = c .before .before .before .before in
+    opened _ _ _ _ (x .before .before .held .ensures) (x .operands .given .1) (c .before .before .follow .ensures) (c .r .given .1)
 
 returns-3 : tie.Need-returns-3
 unfolding read
@@ -68,9 +65,8 @@ get-word-requires c κs = opening (c .before .before) .plain _ (c .if1 .left)
 returns-4 : tie.Need-returns-4
 unfolding read
 returns-4 c =
-    let c1 = c .before in
-    let d = opening (c1 .before .before) in
-    rw (d .tests, plain-in d _ (c1 .if1 .left), ← d .found .refs, ← c .get-word .ensures)
+    let d = opening (c .before .before .before) in
+    rw (d .tests, plain-in d _ (c .before .if1 .left), ← d .found .refs, ← c .get-word .ensures)
 
 pub read-answer-spec : {M : Type 1} → statement M
 read-answer-spec =

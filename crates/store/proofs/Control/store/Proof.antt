@@ -5,10 +5,15 @@ use Rattle.rules.specs.Control.{Store}
 use Rattle.rules.specs.declared.Writes.{Writes}
 use Rattle.heap.proofs.Halves.{inside-kept}
 use Rattle.store.specs.View.{view}
-use Rattle.store.proofs.calls.Store.{Next, unshaded, met, store-away, store-known-by, store-done}
+use Rattle.store.proofs.calls.Store.{Storable, Next, unshaded, met, store-away, store-known-by, store-done}
 use borrow.Author.Needs.{needs}
 use Rattle.store.proofs.Control.store.Statement.{statement}
 use Rattle.store.proofs.Control.store.Tie as tie
+
+-- what the plan says of the records that it writes
+told : (c : tie.After-plan2) → let a = c .before .before .before .before .before .before .before .before .before .args in let x = c .plan2 .given .0 in
+    Storable (view (a .self) (a .h0 .now) (a .h1 .now) (a .list .now)) (a .field) (x .0) (x .1 .0)
+told c = store-known-by _ _ _ _ _ (c .before .before .store-plan .ensures) (c .plan2 .given .1)
 
 store-plan-requires : tie.Need-store-plan-requires
 store-plan-requires c κs = search needs
@@ -23,10 +28,7 @@ add-j : tie.Need-add-j
 add-j c = search needs
 
 shade-requires : tie.Need-shade-requires
-shade-requires c κs =
-    let c1 = c .before .before .before .before .before .before in
-    let c2 = c1 .before .before in
-    λ n. let r = store-known-by _ _ _ _ _ (c2 .store-plan .ensures) (c1 .plan2 .given .1) .shaded n in (r .coloured, r .listed)
+shade-requires c κs = λ n. let r = told (c .before .before .before .before .before .before) .shaded n in (r .coloured, r .listed)
 
 -- the call where the ways meet: the store that it came with, and what the plan says
 abbrev entered : tie.Joined1 → Store
@@ -47,11 +49,8 @@ shaded j =
 
 put-both-requires : tie.Need-put-both-requires
 put-both-requires c κs =
-    let c1 = c .before .before in
-    let c2 = c1 .before .before .before in
-    let c3 = c2 .before .before in
-    let k = store-known-by _ _ _ _ _ (c3 .store-plan .ensures) (c2 .plan2 .given .1) in
-    let n = shaded c1 in
+    let n = shaded (c .before .before) in
+    let k = told (c .before .before .before .before .before) in
     (inside-kept _ _ _ _ _ _ (n .low) (n .high) (k .own), λ z. inside-kept _ _ _ _ _ _ (n .low) (n .high) (k .copy z))
 
 same-length : tie.Need-same-length
@@ -77,11 +76,9 @@ same-length-6 c = shaded (c .before .before .before .before .before .before .bef
 
 returns-2 : tie.Need-returns-2
 returns-2 c =
-    let c1 = c .before .before .before .before in
-    let c2 = c1 .before .before .before in
-    let c3 = c2 .before .before .before in
-    let c4 = c3 .before .before in
-    rw (store-done _ _ _ _ _ (c4 .store-plan .ensures) (c3 .plan2 .given .1) (shaded c2 .shaded) (c1 .put-both .ensures _ _))
+    let j = c .before .before .before .before .before .before .before in
+    let p = j .before .before .before in
+    rw (store-done _ _ _ _ _ (p .before .before .store-plan .ensures) (p .plan2 .given .1) (shaded j .shaded) (c .before .before .before .before .put-both .ensures _ _))
 
 pub store-spec : {M : Type 1} → statement M
 store-spec =

@@ -35,10 +35,8 @@ enum-told c = search needs
 returns-2 : tie.Need-returns-2
 unfolding storePlan
 returns-2 c =
-    let c1 = c .before .before in
-    let c2 = c1 .before .before in
-    let c3 = c2 .before .before in
-    rw (unsound _ _ _ _ (c3 .held .ensures) (c2 .operands .given .1) (c1 .follow .ensures) (c .enum-told .given .1))
+    let x = c .before .before .before .before in
+    rw (unsound _ _ _ _ (x .before .before .held .ensures) (x .operands .given .1) (c .before .before .follow .ensures) (c .enum-told .given .1))
 
 -- what the opening gives of the record found
 opening : (c : tie.After-r)
@@ -47,9 +45,8 @@ opening : (c : tie.After-r)
     Opened (view (a .self) (a .h0 .now) (a .h1 .now) (a .list .now)) (a .s) (a .register) (a .from)
     (c .before .before .before .before .operands .given .0 .0) (f .0) (f .1 .0) (f .1 .1 .0)
 opening c =
-    let c1 = c .before .before in
-    let c2 = c1 .before .before in
-    opened _ _ _ _ (c2 .before .before .held .ensures) (c2 .operands .given .1) (c1 .follow .ensures) (c .r .given .1)
+    let x = c .before .before .before .before in
+    opened _ _ _ _ (x .before .before .held .ensures) (x .operands .given .1) (c .before .before .follow .ensures) (c .r .given .1)
 
 returns-3 : tie.Need-returns-3
 unfolding storePlan
@@ -73,20 +70,15 @@ enum-told-2 c = search needs
 
 returns-4 : tie.Need-returns-4
 returns-4 c =
-    let c1 = c .before .before in
-    let c2 = c1 .before in
-    let c3 = c2 .before in
-    let d = opening (c3 .before .before) in
-    plan-unwritable d _ (c3 .if1 .left) (c2 .bounds .ensures _ _ _ (d .known .lent2)) (c1 .store-writes .ensures) (c .enum-told2 .given .1)
+    let b = c .before .before .before in
+    let d = opening (b .before .before .before) in
+    plan-unwritable d _ (b .before .if1 .left) (b .bounds .ensures _ _ _ (d .known .lent2)) (c .before .before .store-writes .ensures) (c .enum-told2 .given .1)
 
 returns-5 : tie.Need-returns-5
 returns-5 c =
-    let c1 = c .before in
-    let c2 = c1 .before .before in
-    let c3 = c2 .before in
-    let c4 = c3 .before in
-    let d = opening (c4 .before .before) in
-    plan-made d _ (c4 .if1 .left) (c3 .bounds .ensures _ _ _ (d .known .lent2)) (c2 .store-writes .ensures) (c1 .w .given .1)
+    let b = c .before .before .before .before in
+    let d = opening (b .before .before .before) in
+    plan-made d _ (b .before .if1 .left) (b .bounds .ensures _ _ _ (d .known .lent2)) (c .before .before .before .store-writes .ensures) (c .before .w .given .1)
 
 pub store-plan-spec : {M : Type 1} → statement M
 store-plan-spec =

@@ -39,11 +39,8 @@ slice-aggregate-result-2 c = search needs
 returns-2 : tie.Need-returns-2
 unfolding stretch
 returns-2 c =
-    let c1 = c .before in
-    let c2 = c1 .before .before in
-    let c3 = c2 .before .before in
-    let c4 = c3 .before .before in
-    simp (unsound _ _ _ _ (c4 .held .ensures) (c3 .operands .given .1) (c2 .follow .ensures) (c1 .enum-told2 .given .1))
+    let x = c .before .before .before .before .before in
+    simp (unsound _ _ _ _ (x .before .before .held .ensures) (x .operands .given .1) (c .before .before .before .follow .ensures) (c .before .enum-told2 .given .1))
 
 -- what the opening gives of the record found
 opening : (c : tie.After-at)
@@ -52,9 +49,8 @@ opening : (c : tie.After-at)
     Opened (view (a .self) (a .h0 .now) (a .h1 .now) (a .list .now)) (a .s) (a .register) (a .register)
     (c .before .before .before .before .operands .given .0 .0) (f .0) (f .1 .0) (f .1 .1 .0)
 opening c =
-    let c1 = c .before .before in
-    let c2 = c1 .before .before in
-    opened _ _ _ _ (c2 .before .before .held .ensures) (c2 .operands .given .1) (c1 .follow .ensures) (c .at .given .1)
+    let x = c .before .before .before .before in
+    opened _ _ _ _ (x .before .before .held .ensures) (x .operands .given .1) (c .before .before .follow .ensures) (c .at .given .1)
 
 half-of-requires : tie.Need-half-of-requires
 half-of-requires c κs = search needs

@@ -30,18 +30,14 @@ enum-told-2 c = search needs
 returns-2 : tie.Need-returns-2
 unfolding stretch
 returns-2 c =
-    let c1 = c .before .before in
-    let c2 = c1 .before .before in
-    let c3 = c2 .before .before in
-    rw (unsound _ _ _ _ (c3 .held .ensures) (c2 .operands .given .1) (c1 .follow .ensures) (c .enum-told2 .given .1))
+    let x = c .before .before .before .before in
+    rw (unsound _ _ _ _ (x .before .before .held .ensures) (x .operands .given .1) (c .before .before .follow .ensures) (c .enum-told2 .given .1))
 
 returns-3 : tie.Need-returns-3
 unfolding stretch
 returns-3 c =
-    let c1 = c .before .before in
-    let c2 = c1 .before .before in
-    let c3 = c2 .before .before in
-    rw (opened _ _ _ _ (c3 .held .ensures) (c2 .operands .given .1) (c1 .follow .ensures) (c .enum-told .given .1) .tests)
+    let x = c .before .before .before .before in
+    rw (opened _ _ _ _ (x .before .before .held .ensures) (x .operands .given .1) (c .before .before .follow .ensures) (c .enum-told .given .1) .tests)
 
 pub stretch-answer-spec : {M : Type 1} → statement M
 stretch-answer-spec =

@@ -1,8 +1,13 @@
 -- Write: the tests, then the words written.
+use Prim.Native.Nat.{ℕ}
 use Rattle.store.proofs.calls.Write.{unwritten, writable, written}
 use borrow.Author.Needs.{needs}
 use Rattle.store.proofs.Control.write.Statement.{statement}
 use Rattle.store.proofs.Control.write.Tie as tie
+
+-- the word to write
+abbrev value : tie.After-write-target → ℕ
+value c = c .before .before .before .before .before .before .args .value
 
 write-target-requires : tie.Need-write-target-requires
 write-target-requires c κs = search needs
@@ -15,10 +20,8 @@ enum-known-v c = search needs
 
 put-plain-requires : tie.Need-put-plain-requires
 put-plain-requires c κs =
-    let c1 = c .before .before .before in
-    let c2 = c1 .before .before in
-    let c3 = c2 .before .before .before .before .before .before in
-    writable _ _ _ _ (c3 .args .value) (c2 .write-target .ensures) (c1 .v .given .1)
+    let t = c .before .before .before .before .before in
+    writable _ _ _ _ (value t) (t .write-target .ensures) (c .before .before .before .v .given .1)
 
 same-length : tie.Need-same-length
 same-length c = search needs
@@ -28,10 +31,8 @@ same-length-2 c = search needs
 
 returns : tie.Need-returns
 returns c =
-    let c1 = c .before in
-    let c2 = c1 .before .before in
-    let c3 = c2 .before .before .before .before .before .before in
-    rw (unwritten _ _ _ _ (c3 .args .value) (c2 .write-target .ensures) (c1 .n .given .1))
+    let t = c .before .before .before in
+    rw (unwritten _ _ _ _ (value t) (t .write-target .ensures) (c .before .n .given .1))
 
 same-length-3 : tie.Need-same-length-3
 same-length-3 c = search needs
@@ -41,11 +42,9 @@ same-length-4 c = search needs
 
 returns-2 : tie.Need-returns-2
 returns-2 c =
-    let c1 = c .before .before .before .before in
-    let c2 = c1 .before .before .before .before in
-    let c3 = c2 .before .before in
-    let c4 = c3 .before .before .before .before .before .before in
-    written _ _ _ _ (c4 .args .value) (c3 .write-target .ensures) (c2 .v .given .1) (c1 .put-plain .ensures _ _)
+    let v = c .before .before .before .before .before .before .before .before in
+    let t = v .before .before in
+    written _ _ _ _ (value t) (t .write-target .ensures) (v .v .given .1) (c .before .before .before .before .put-plain .ensures _ _)
 
 pub write-spec : {M : Type 1} → statement M
 write-spec =
