@@ -30,19 +30,14 @@ enum-told-2 c = search needs
 returns-2 : tie.Need-returns-2
 unfolding putWrites
 returns-2 c =
-    let c1 = c .before .before in
-    let c2 = c1 .before .before in
-    let c3 = c2 .before .before in
-    rw (word-passed (c3 .barrier-shade .ensures) (c2 .w .given .1), word-refused (c1 .own-word .ensures) (c .enum-told2 .given .1))
+    let w = c .before .before .before .before in
+    rw (word-passed (w .before .before .barrier-shade .ensures) (w .w .given .1), word-refused (c .before .before .own-word .ensures) (c .enum-told2 .given .1))
 
 returns-3 : tie.Need-returns-3
 unfolding putWrites
 returns-3 c =
-    let c1 = c .before in
-    let c2 = c1 .before .before in
-    let c3 = c2 .before .before in
-    let c4 = c3 .before .before in
-    rw (word-passed (c4 .barrier-shade .ensures) (c3 .w .given .1), word-passed (c2 .own-word .ensures) (c1 .own .given .1))
+    let w = c .before .before .before .before .before in
+    rw (word-passed (w .before .before .barrier-shade .ensures) (w .w .given .1), word-passed (c .before .before .before .own-word .ensures) (c .before .own .given .1))
 
 pub put-writes-spec : {M : Type 1} → statement M
 put-writes-spec =

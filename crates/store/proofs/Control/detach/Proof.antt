@@ -35,8 +35,7 @@ element-set-from-left c =
 
 returns-2 : tie.Need-returns-2
 unfolding detach withSession sessionAt
-returns-2 c =
-    rw (let-in _ _ (c .before .before .before .session-tests .ensures) (c .before .before .if1 .left), c .nobody .ensures)
+returns-2 c = rw (let-in _ _ (c .before .before .before .session-tests .ensures) (c .before .before .if1 .left), c .nobody .ensures)
 
 pub detach-spec : {M : Type 1} → statement M
 detach-spec =

@@ -1,13 +1,37 @@
 -- The tests of a put in order, then what it writes.
+use mathlib.Core.Path.{_≡_}
 use native.Mathlib.Omega.{arith}
+use Rattle.rules.specs.Refusals.{passed}
+use Rattle.rules.specs.Control.{Store}
 use Rattle.rules.specs.Phases.{register, sessionAt}
-use Rattle.rules.specs.Calls.{putPlan}
+use Rattle.rules.specs.Barriers.{heapOf}
+use Rattle.rules.specs.Calls.{sessionOf, putPlan}
+use Rattle.rules.proofs.Ranges.{InRange, in-session}
+use Rattle.heap.specs.View.{heap}
+use Rattle.store.specs.View.{view}
 use Rattle.store.proofs.tests.Numbers.{turned-away, let-in, known}
 use Rattle.store.proofs.shading.Shade.{within}
 use Rattle.store.proofs.calls.Store.{put-register, put-global, put-unwritable, put-made}
 use borrow.Author.Needs.{needs}
 use Rattle.store.proofs.Control.put_plan.Statement.{statement}
 use Rattle.store.proofs.Control.put_plan.Tie as tie
+
+-- past the tests of numbers: the session is there, the ranges hold, and the bounds are the store's
+module _ (c : tie.After-bounds) where
+  abbrev lent : tie.Start
+  lent = c .before .before .before .before .before .before .before .before .before .before .before
+
+  abbrev entered : Store
+  entered = view (lent .args .self) (lent .args .h0 .now) (lent .args .h1 .now) (lent .args .list .now)
+
+  session : sessionOf entered (lent .args .s) ≡ passed (sessionAt entered (lent .args .s))
+  session = let-in _ _ (c .before .before .before .before .before .before .before .session-tests .ensures) (c .before .before .before .before .before .before .if1 .left)
+
+  ranges : InRange entered
+  ranges = in-session _ _ session .known
+
+  bounded : heap (c .bounds .result) (lent .args .h0 .now) (lent .args .h1 .now) ≡ heapOf entered
+  bounded = c .bounds .ensures _ _ _ (ranges .lent2)
 
 session-tests-requires : tie.Need-session-tests-requires
 session-tests-requires c κs = search needs
@@ -42,10 +66,7 @@ bounds-requires : tie.Need-bounds-requires
 bounds-requires c κs = search needs
 
 put-writes-requires : tie.Need-put-writes-requires
-put-writes-requires c κs =
-    let l = c .before .before .before .before .before .before in
-    let k = known _ _ (l .before .session-tests .ensures) (l .if1 .left) .known in
-    within _ _ (c .bounds .ensures _ _ _ (k .lent2)) k
+put-writes-requires c κs = within _ _ (bounded c) (ranges c)
 
 enum-known-w : tie.Need-enum-known-w
 enum-known-w c = search needs
@@ -57,19 +78,13 @@ returns-4 : tie.Need-returns-4
 unfolding register sessionAt
 returns-4 c =
     let b = c .before .before .before in
-    let m = b .before .before .before .before in
-    let l = m .before .before in
-    let k = known _ _ (l .before .session-tests .ensures) (l .if1 .left) .known in
-    put-unwritable _ _ _ _ (let-in _ _ (l .before .session-tests .ensures) (l .if1 .left)) (m .before .if2 .left) (m .if3 .left) (b .bounds .ensures _ _ _ (k .lent2)) (c .before .before .put-writes .ensures) (c .enum-told .given .1)
+    put-unwritable _ _ _ _ (session b) (b .before .before .before .before .before .if2 .left) (b .before .before .before .before .if3 .left) (bounded b) (c .before .before .put-writes .ensures) (c .enum-told .given .1)
 
 returns-5 : tie.Need-returns-5
 unfolding register sessionAt
 returns-5 c =
     let b = c .before .before .before .before in
-    let m = b .before .before .before .before in
-    let l = m .before .before in
-    let k = known _ _ (l .before .session-tests .ensures) (l .if1 .left) .known in
-    put-made _ _ _ _ (let-in _ _ (l .before .session-tests .ensures) (l .if1 .left)) (m .before .if2 .left) (m .if3 .left) (b .bounds .ensures _ _ _ (k .lent2)) (c .before .before .before .put-writes .ensures) (c .before .w .given .1)
+    put-made _ _ _ _ (session b) (b .before .before .before .before .before .if2 .left) (b .before .before .before .before .if3 .left) (bounded b) (c .before .before .before .put-writes .ensures) (c .before .w .given .1)
 
 pub put-plan-spec : {M : Type 1} → statement M
 put-plan-spec =

@@ -43,8 +43,7 @@ same-length-4 c = search needs
 returns-2 : tie.Need-returns-2
 returns-2 c =
     let v = c .before .before .before .before .before .before .before .before in
-    let t = v .before .before in
-    written _ _ _ _ (value t) (t .write-target .ensures) (v .v .given .1) (c .before .before .before .before .put-plain .ensures _ _)
+    written _ _ _ _ (value (v .before .before)) (v .before .before .write-target .ensures) (v .v .given .1) (c .before .before .before .before .put-plain .ensures _ _)
 
 pub write-spec : {M : Type 1} → statement M
 write-spec =
