@@ -61,13 +61,19 @@ freeSession f n = getD (f .sessions) n freeAbsent
 unfoldable pub freeRegister : FreeSession → ℕ → ℕ
 freeRegister x k = getD (x .registers) k null
 
+-- a session with one part changed
+abbrev pub withFreeRegisters : FreeSession → List ℕ → FreeSession
+withFreeRegisters x qs = record { attached = x .attached; registers = qs }
+
+abbrev pub withFreeAttached : FreeSession → Bool → FreeSession
+withFreeAttached x b = record { attached = b; registers = x .registers }
+
 abbrev pub withFreeSession : Free → ℕ → FreeSession → Free
 withFreeSession f n x = record { sessions = set (f .sessions) n x; globals = f .globals; records = f .records }
 
 unfoldable pub withFreeRegister : Free → ℕ → ℕ → ℕ → Free
 withFreeRegister f n k q =
-    withFreeSession f n
-    (record { attached = freeSession f n .attached; registers = set (freeSession f n .registers) k q })
+    withFreeSession f n (withFreeRegisters (freeSession f n) (set (freeSession f n .registers) k q))
 
 -- ---- tests that calls share
 
@@ -89,7 +95,7 @@ unfoldable pub freeAttach : Free → ℕ → Tested (Outcome Free)
 freeAttach f n = do
   check (leb n lastSession) 5
   check (not (freeSession f n .attached)) 7
-  done (withFreeSession f n (record { attached = true; registers = replicate registerCount null }))
+  done (withFreeSession f n (withFreeAttached freeNobody true))
 
 unfoldable pub freeDetach : Free → ℕ → Tested (Outcome Free)
 freeDetach f n = do

@@ -5,14 +5,12 @@ use mathlib.Core.Logic.{inl}
 use mathlib.Core.Bool.{true, not, true≢false}
 use native.Mathlib.Omega.{arith}
 use lib.Dec.{leb}
-use lib.ListN.{replicate}
 use borrow.Author.Tests.{leb-true}
 use Rattle.rules.specs.Refusals.{_>>=_, done}
-use Rattle.rules.specs.Memory.{null}
 use Rattle.rules.specs.Control.{Store, registerCount, lastSession, lastLevel}
 use Rattle.rules.specs.Phases.{withLevel, attachedAt, detached, levelOf, sessionAt, withSession}
 use Rattle.rules.specs.Calls as calls
-use Rattle.rules.specs.Free.{Free, freeSession, freeNobody, freeSessionOf, freeAttach, freeDetach}
+use Rattle.rules.specs.Free.{Free, freeSession, freeNobody, withFreeAttached, freeSessionOf, freeAttach, freeDetach}
 use Rattle.rules.specs.declared.Session.{Session}
 use Rattle.rules.proofs.Ranges.{in-range-tested}
 use Rattle.rules.proofs.memory.Lists.{zeros}
@@ -27,7 +25,7 @@ module _ {K : ℕ → Type 0} {m : ℕ → ℕ} {s : Store} {f : Free} (h : Sim 
   phase-level = level-most (s .phase) (levelOf (s .phase)) (h .range .phases) (inl refl)
 
   attached-fits : SessionFits K m s (attachedAt (levelOf (s .phase)))
-      (record { attached = true; registers = replicate registerCount null })
+      (withFreeAttached freeNobody true)
   attached-fits = record {
     registers = refl;
     free-registers = refl;

@@ -11,7 +11,7 @@ use Rattle.rules.specs.Control.{Store, sessionCount, registerCount, last
 use Rattle.rules.specs.Cycle.{stage}
 use Rattle.rules.specs.Phases.{otherHalf, sessionAt, withSession, withRegisters, absent}
 use Rattle.rules.specs.Calls.{withRegister}
-use Rattle.rules.specs.Free.{Free, FreeSession, freeSession, withFreeSession, withFreeRegister, freeAbsent}
+use Rattle.rules.specs.Free.{Free, FreeSession, freeSession, withFreeSession, withFreeRegisters, withFreeRegister, freeAbsent}
 use Rattle.rules.specs.declared.Session.{Session}
 use Rattle.rules.proofs.Ranges.{InRange}
 use Rattle.rules.proofs.memory.Lists.{set-each}
@@ -127,7 +127,7 @@ module _ {K : ℕ → Type 0} {m : ℕ → ℕ} {s : Store} {f : Free} (h : Sim 
   register-sim n k l j a {v} {q} t =
       let z = session-fits h n l in
       let x = withRegisters (sessionAt s n) (set (sessionAt s n .registers) k v) in
-      session-sim n l {x = x} {y = record { attached = freeSession f n .attached; registers = set (freeSession f n .registers) k q }} (record {
+      session-sim n l {x = x} {y = withFreeRegisters (freeSession f n) (set (freeSession f n .registers) k q)} (record {
         registers = length-set (sessionAt s n .registers) k v ∙ z .registers;
         free-registers = length-set (freeSession f n .registers) k q ∙ z .free-registers;
         attached = z .attached;

@@ -3,7 +3,7 @@ use Prim.Native.Nat.{_+_, _-_, _≤_}
 use mathlib.Core.Path.{_≡_, refl, ap, _∙_}
 use native.Mathlib.Omega.{arith}
 use borrow.Author.Needs.{needs}
-use lib.ListN.{length, length-set}
+use lib.ListN.{length}
 use lib.Seq.{slice}
 use Rattle.script.proofs.Moving.{length-part, moved, one-more, all-moved, none-moved}
 use Rattle.script.proofs.window.keep.Statement.{statement}
