@@ -1,4 +1,4 @@
-// Following a reference.
+// Following a reference: the tests of a sound one, then the place and the shape of its record.
 ghost use mathlib.Core.Path.{_≡_};
 ghost use Prim.Native.Nat.{ℕ, _≤_};
 ghost use mathlib.Core.List.{List};

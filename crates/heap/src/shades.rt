@@ -1,4 +1,4 @@
-// Shading.
+// Shading: the record to colour grey, with room for it in the grey list, and what a store or a put shades first.
 ghost use mathlib.Core.Path.{_≡_};
 ghost use Rattle.rules.specs.Barriers.{toShade, shading, barrierShade};
 ghost use Rattle.heap.specs.View.{heap, checked, Within};

@@ -1,4 +1,4 @@
-// What stores and puts write, by the session's level.
+// What stores and puts write, by the session's level: Table 1(a) at level 5 and Table 1(b) at level 6. A global is its "Non".
 ghost use mathlib.Core.Path.{_≡_};
 ghost use mathlib.Core.Bool.{cond};
 ghost use Rattle.rules.specs.Memory.{replicaAt, refs, plains};
@@ -52,7 +52,8 @@ pub fn replica_for<'a>(
     Checked::Word(t)
 }
 
-// The word that a store of q at level l writes to the record itself, v, or to a global, where v is null.
+// The word that a store of q at level l writes to the record itself, v, or to a global, where v is null. Table 1(b), level 6:
+// q forwarded. Table 1(a), level 5: the other copy of q where v is in tospace and q in fromspace, else q. Below 5: q.
 pub(crate) fn own_word<'a>(
     b: Bounds,
     h0: &'a [u32],
@@ -76,7 +77,8 @@ pub(crate) fn own_word<'a>(
     Checked::Word(q)
 }
 
-// The word that the same store writes to the replica of v.
+// The word that the same store writes to the replica of v. Table 1(a), level 5: the other copy of q where q is in the half of
+// v, else q. Table 1(b), level 6, and level 4 before it: q forwarded.
 pub(crate) fn replica_word<'a>(
     b: Bounds,
     h0: &'a [u32],
@@ -98,7 +100,8 @@ pub(crate) fn replica_word<'a>(
     Checked::Word(q)
 }
 
-// All that a store of q into reference field i of v writes.
+// All that a store of q into reference field i of v writes: the record to shade at levels 1 to 3, the record's own word, and
+// from level 4 on the replica's.
 pub fn store_writes<'a>(
     b: Bounds,
     h0: &'a [u32],
@@ -139,7 +142,7 @@ pub fn store_writes<'a>(
     })
 }
 
-// All that a put of q into a global writes.
+// All that a put of q into a global writes: the record to shade at levels 1 to 3, and the global's word.
 pub fn put_writes<'a>(b: Bounds, h0: &'a [u32], h1: &'a [u32], l: u32, q: u32) -> Planned
     requires { ⌜ Within b (now h0) (now h1) ⌝ }
     ensures { λ r. ⌜ planned r ≡ putWrites (heap b (now (h0 .entry)) (now (h1 .entry))) l q ⌝ }

@@ -52,7 +52,7 @@ fn call_reading<'a>(
         7 => control.read(h0, h1, list, s, a, b),
         11 => control.same(h0, h1, list, s, a, b),
         16 => {
-            let answer = control.stretch_answer(h0, h1, list, s, a);
+            let answer = control.companion(h0, h1, list, s, a);
             Reply { control, answer }
         }
         _ => call_session(control, h0, h1, list, case),

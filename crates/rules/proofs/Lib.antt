@@ -1,4 +1,4 @@
--- Proofs about the rules.
+-- The claims of specs/Claims.antt: claim 5 by computation, claim 1 from each rule by itself, the others from the run theorem.
 
 -- claim 5, and closed runs that the checker computes
 pub mod Examples

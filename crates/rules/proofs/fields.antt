@@ -15,11 +15,11 @@ pub mod Barrier
 pub mod Barred
 pub mod Stores
 pub mod Table
--- store
+-- the call store, at every level in every phase that the level has
 pub mod Storing
--- write
+-- the call write: a plain field, at levels 4 to 6 of both copies
 pub mod Writing
--- put
+-- the call put: a global takes a register's word
 pub mod Putting
 -- 7 Copy: the walk, the whole unit
 pub mod CopyWalk

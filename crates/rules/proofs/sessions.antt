@@ -12,5 +12,5 @@ pub mod Attaching
 -- the fields of a record in a register; load, read, and the stretch
 pub mod Values
 pub mod Reading
--- same
+-- the call same: two words name one record exactly where their places are equal
 pub mod Same

@@ -141,7 +141,7 @@ lastRegister = registerCount - 1
 abbrev pub lastGlobal : ℕ
 lastGlobal = globalCount - 1
 
--- the last of the levels
+-- the most that test 4 lets a level be: "level at most 6"
 abbrev pub lastLevel : ℕ
 lastLevel = 6
 

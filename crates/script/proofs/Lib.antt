@@ -1,12 +1,12 @@
--- Laws that several proofs share.
+-- Laws on the entries of a script, the digits of its lines, the turns that do the entries, and the input and output buffers.
 
 -- the kinds of entries
 pub mod Sizes
 -- where an entry ends
 pub mod Bodies
--- decimal digits
+-- decimal digits: how many a number has, and how they are written
 pub mod Digits
--- runs of stores
+-- runs of stores: two that adjoin are one, in either order
 pub mod Runs
 -- which bytes decide an entry, and where the next one begins
 pub mod Places

@@ -1,4 +1,4 @@
--- A line of the output.
+-- The lines of the output: the longest, where the next one goes, and the line of a bad version.
 use Prim.Native.Nat.{ℕ, _+_, _≤_}
 use mathlib.Core.Path.{_≡_}
 use mathlib.Core.Bool.{Bool, true, cond}

@@ -35,7 +35,7 @@ pub fn stop_of(filled: usize, size: usize) -> usize
     filled - LONGEST_ENTRY + 1
 }
 
-// The least of two numbers.
+// The least of two numbers, so that keep ends within the buffer.
 fn least(a: usize, b: usize) -> usize
     ensures { λ r. ⌜ r ≡ min a b ⌝ }
 {

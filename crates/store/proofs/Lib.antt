@@ -11,7 +11,7 @@ pub mod session
 pub mod shading
 -- load, store, put, write, stretch and same
 pub mod calls
--- allocation
+-- allocate: its tests, and the new record in one half or in both
 pub mod allocation
 -- the collector's numbers, the other phases, and the step
 pub mod collector

@@ -88,7 +88,7 @@ pub data Called (self : Control) (h0 h1 list : List ℕ) : Call → Reply → Le
   by-stretch : (s register : ℕ) (r : List ℕ)
       → r ≡ wordsOr (stretch (view self h0 h1 list) s register)
       → Called self h0 h1 list (Stretch s register) (words r) (lent self h0 h1 list)
-  by-stretch-answer : (s register : ℕ) (r : Answer)
+  by-companion : (s register : ℕ) (r : Answer)
       → r ≡ doneOr (stretch (view self h0 h1 list) s register)
       → Called self h0 h1 list (Companion s register) (answer r) (lent self h0 h1 list)
   by-step : (r : code.Reply) (h0′ h1′ list′ : List ℕ)

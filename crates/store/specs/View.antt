@@ -24,6 +24,6 @@ view c h0 h1 l =
 abbrev pub outcome : Reply → List ℕ → List ℕ → List ℕ → Outcome Store
 outcome r h0 h1 l = record { store = view (r .control) h0 h1 l; reply = answer (r .answer) }
 
--- the three lengths
+-- the lengths of half 0, half 1 and the list
 abbrev pub lengths : ℕ → ℕ → ℕ → Lengths
 lengths n0 n1 n = record { half0 = n0; half1 = n1; list = n }

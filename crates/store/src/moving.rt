@@ -29,7 +29,7 @@ impl Control {
         Control::lowest(sessions, 0, Wanted::NotAt(level)) == Control::SESSIONS
     }
 
-    // The phase after a phase.
+    // The phase after a phase, from the table of followers.
     pub(crate) fn next_phase(phase: usize) -> usize
         requires { ⌜ phase ≤ lastPhase ⌝ }
         ensures { λ r. ⌜ r ≡ nextPhase phase ⌝ }

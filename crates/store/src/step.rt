@@ -1,4 +1,4 @@
-// The collector step.
+// The collector step: the unit of work by the number of the phase, then what it hands out written down.
 ghost use mathlib.Core.Path.{_≡_};
 ghost use Rattle.rules.specs.Runs.{apply, Step};
 ghost use Rattle.store.specs.View.{view, outcome};

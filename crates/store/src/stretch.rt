@@ -1,4 +1,5 @@
-// The plain fields of a record as a stretch of its half, and the companion call with the same tests.
+// The plain fields of a record as a stretch of its half, and its companion: the call with the same tests that answers their
+// number.
 ghost use mathlib.Core.Path.{_≡_};
 ghost use Rattle.rules.specs.Refusals.{wordsOr, doneOr};
 ghost use Rattle.rules.specs.Calls.{stretch};
@@ -41,8 +42,8 @@ impl Control {
         &half[start..end]
     }
 
-    // The companion of the stretch: the number of its refusal, or 0.
-    pub fn stretch_answer<'a>(
+    // The companion: the number of the refusal that the stretch met, or 0.
+    pub fn companion<'a>(
         self,
         h0: &'a [u32],
         h1: &'a [u32],

@@ -12,7 +12,7 @@ use Rattle.rules.specs.Refusals.{answer, words}
 use Rattle.rules.specs.Runs.{Attach, Detach, SafePoint, Allocate, Load, StoreRef, Read, Write, Move, Clear, SameAs, Get, Put, Stretch, Companion, Step}
 use Rattle.rules.specs.declared.Answer.{Answer}
 use Rattle.rules.specs.declared.Answer.the-variants.{Done}
-use Rattle.store.specs.CodeRuns.{lent, CodeMade, by-make, Called, by-attach, by-detach, by-safe-point, by-allocate, by-load, by-store, by-read, by-write, by-move-register, by-clear, by-same, by-get, by-put, by-stretch, by-stretch-answer, by-step}
+use Rattle.store.specs.CodeRuns.{lent, CodeMade, by-make, Called, by-attach, by-detach, by-safe-point, by-allocate, by-load, by-store, by-read, by-write, by-move-register, by-clear, by-same, by-get, by-put, by-stretch, by-companion, by-step}
 use Rattle.store.specs.declared.Control.{Control}
 use Rattle.store.specs.declared.Reply.{Reply}
 use Rattle.store.proofs.Control.make as make
@@ -45,8 +45,8 @@ use Rattle.store.proofs.Control.put as put
 use Rattle.store.proofs.Control.put.Reads as put-reads
 use Rattle.store.proofs.Control.stretch as stretch
 use Rattle.store.proofs.Control.stretch.Reads as stretch-reads
-use Rattle.store.proofs.Control.stretch_answer as stretch-answer
-use Rattle.store.proofs.Control.stretch_answer.Reads as stretch-answer-reads
+use Rattle.store.proofs.Control.companion as companion
+use Rattle.store.proofs.Control.companion.Reads as companion-reads
 use Rattle.store.proofs.Control.step as step
 use Rattle.store.proofs.Control.step.Reads as step-reads
 
@@ -151,11 +151,11 @@ pub stretch-called : (κs : Lfts 2) (self : Control) (h0 h1 list : Slice) (s reg
     (Called self (now h0) (now h1) (now list) (Stretch s register) (words (now r)) (lent self (now h0) (now h1) (now list)))
 stretch-called κs self h0 h1 list s register r = (tt, by-stretch s register (now r))
 
-pub stretch-answer-called : (κs : Lfts 2) (self : Control) (h0 h1 list : Slice) (s register : ℕ) (r : Answer)
-    → Gives stretch-answer.ended stretch-answer-reads.Asked stretch-answer-reads.Learnt κs
+pub companion-called : (κs : Lfts 2) (self : Control) (h0 h1 list : Slice) (s register : ℕ) (r : Answer)
+    → Gives companion.ended companion-reads.Asked companion-reads.Learnt κs
     (self, (h0, (h1, (list, (s, (register, tt)))))) r (tt, (tt, (tt, (tt, (tt, (tt, tt))))))
     (Called self (now h0) (now h1) (now list) (Companion s register) (answer r) (lent self (now h0) (now h1) (now list)))
-stretch-answer-called κs self h0 h1 list s register r = (tt, by-stretch-answer s register r)
+companion-called κs self h0 h1 list s register r = (tt, by-companion s register r)
 
 pub step-called : (κs : Lfts 3) (self : Control) (h0 h1 list : Slice) (r : Reply) (h0′ h1′ list′ : List ℕ)
     → Gives step.ended step-reads.Asked step-reads.Learnt κs

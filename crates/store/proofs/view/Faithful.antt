@@ -10,7 +10,7 @@ use Rattle.store.specs.View.{view, outcome}
 use Rattle.store.specs.declared.Control.{Control}
 use Rattle.store.specs.declared.Reply as code
 
--- the control record of a store
+-- the control record that a store is the view of
 abbrev pub controlOf : Store → Control
 controlOf s =
     record {

@@ -1,4 +1,4 @@
--- `heap::following::follow` meets its contract.
+-- Below 2, or its header past the frontier: not sound. Else the words read lie in the half, and the tests are those of sound.
 use Prim.Native.Nat.{_+_, _≤_}
 use mathlib.Core.Path.{ap}
 use native.Mathlib.Omega.{arith}

@@ -1,4 +1,4 @@
--- `heap::following::frontier_of` meets its contract.
+-- By parity: the frontier of half 0 for an even reference, of half 1 for an odd one.
 use borrow.Author.Tests.{eq-eqb, ne-eqb}
 use Rattle.rules.specs.Memory.{frontier, halfOf}
 use Rattle.heap.proofs.following.frontier_of.Statement.{statement}

@@ -1,4 +1,4 @@
--- `heap::forwarding::forward` meets its contract.
+-- Null and references into tospace stay, tested as the rules do; all others go by other_copy's contract.
 use Rattle.rules.specs.Memory.{forward}
 use borrow.Author.Needs.{needs}
 use Rattle.heap.proofs.forwarding.forward.Statement.{statement}

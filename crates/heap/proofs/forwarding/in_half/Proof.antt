@@ -1,4 +1,4 @@
--- `heap::forwarding::in_half` meets its contract.
+-- The tests of 2 ≤ v and of the parity by computation.
 use mathlib.Core.Path.{refl}
 use Rattle.rules.specs.Memory.{inHalf, halfOf}
 use Rattle.heap.proofs.forwarding.in_half.Statement.{statement}

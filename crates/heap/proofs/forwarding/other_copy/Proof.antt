@@ -1,4 +1,4 @@
--- `heap::forwarding::other_copy` meets its contract.
+-- Damage, a record without a replica, or one with it; the replica word lies in the header of a sound record.
 use Rattle.rules.specs.Memory.{replicaAt}
 use Rattle.heap.proofs.Soundness.{found, header-inside}
 use Rattle.heap.proofs.Copies.{copy-damage, copy-own, copy-other}

@@ -1,4 +1,4 @@
--- `heap::records::append_record` meets its contract.
+-- By half: the part from `at` on, come back with the record at its start, is the half with the record at that word.
 use Prim.Native.Nat.{_+_, _≤_}
 use native.Mathlib.Omega.{arith}
 use lib.ListN.{length}

@@ -1,4 +1,4 @@
--- `heap::records::clear_words` meets its contract.
+-- Invariant: the first i words are zero, and the rest is as at entry. The measure is the number of words left.
 use native.Mathlib.Omega.{arith}
 use Prim.Native.Nat.{_≤_, _-_}
 use borrow.Author.Needs.{needs}

@@ -1,4 +1,4 @@
--- `heap::records::write_record` meets its contract.
+-- The three header words set over n + 3 zeros are the new record; behind it the part is as it came.
 use native.Mathlib.Omega.{arith}
 use lib.ListN.{length-set}
 use Rattle.heap.proofs.Written.{record-written}

@@ -1,4 +1,4 @@
--- `heap::same::pointer_eq` meets its contract.
+-- The arms of Algorithm 9(a): the words are equal, p is in fromspace, q is in fromspace, or neither is.
 use borrow.Author.Tests.{eq-eqb, ne-eqb}
 use Rattle.rules.specs.Barriers.{pointerEQ}
 use Rattle.heap.specs.View.{replicaIs}

@@ -1,4 +1,4 @@
--- `heap::same::replica_is` meets its contract.
+-- p followed: damage, or its replica word, which lies in the header of a sound record, compared with q.
 use Rattle.rules.specs.Memory.{replicaAt}
 use Rattle.heap.proofs.Soundness.{found, header-inside}
 use Rattle.heap.proofs.Copies.{replica-damage, replica-compared}

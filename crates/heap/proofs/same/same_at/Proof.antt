@@ -1,4 +1,4 @@
--- `heap::same::same_at` meets its contract.
+-- By level: up to 4 the words compared, above it pointer_eq's answer.
 use borrow.Author.Tests.{le-leb, lt-leb}
 use Rattle.rules.specs.Barriers.{sameAt}
 use borrow.Author.Needs.{needs}

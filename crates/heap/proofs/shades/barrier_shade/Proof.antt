@@ -1,4 +1,4 @@
--- `heap::shades::barrier_shade` meets its contract.
+-- By level: what shading answers at 1 to 3, null at the others.
 use Rattle.rules.specs.Barriers.{barrierShade, shadesAt}
 use borrow.Author.Needs.{needs}
 use Rattle.heap.proofs.shades.barrier_shade.Statement.{statement}

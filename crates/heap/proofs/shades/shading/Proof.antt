@@ -1,4 +1,4 @@
--- `heap::shades::shading` meets its contract.
+-- By what to_shade answers: damage, null, or a reference. As tail ≤ capacity, a tail that isn't the capacity leaves room.
 use mathlib.Core.Path.{_≡_}
 use Rattle.rules.specs.Barriers.{toShade, shading}
 use Rattle.rules.specs.Refusals.{passed}

@@ -1,4 +1,4 @@
--- `heap::shades::to_shade` meets its contract.
+-- Null, damage, a white record, or one of another colour; the colour word lies in the header of a sound record.
 use borrow.Author.Tests.{eq-eqb}
 use Rattle.rules.specs.Memory.{colourAt}
 use Rattle.rules.specs.Barriers.{toShade}

@@ -1,4 +1,4 @@
--- `heap::stores::own_word` meets its contract.
+-- By level: at 6 q forwarded; at 5 the other copy of q where v is in tospace and q in fromspace; else q.
 use borrow.Author.Tests.{eq-eqb, ne-eqb}
 use Rattle.rules.specs.Barriers.{ownWord}
 use borrow.Author.Needs.{needs}

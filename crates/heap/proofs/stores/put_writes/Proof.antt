@@ -1,4 +1,4 @@
--- `heap::stores::put_writes` meets its contract.
+-- The two tests in order: damage where the shading or the own word fails, else the plan of both.
 use Rattle.heap.proofs.Answers.{word-passed, word-refused}
 use Rattle.rules.specs.Barriers.{putWrites}
 use borrow.Author.Needs.{needs}

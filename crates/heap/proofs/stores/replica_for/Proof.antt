@@ -1,4 +1,4 @@
--- `heap::stores::replica_for` meets its contract.
+-- No replica to write, a replica that is damage, one with too few fields of the kind, or one with field i.
 use Rattle.heap.proofs.Replicas.{no-replica, replica-lost, replica-short, replica-long}
 use borrow.Author.Needs.{needs}
 use Rattle.heap.proofs.stores.replica_for.Statement.{statement}

@@ -1,4 +1,4 @@
--- `heap::stores::replica_word` meets its contract.
+-- By level: at 5 the other copy of q where q is in the half of v, else q; at the others q forwarded.
 use borrow.Author.Tests.{eq-eqb, ne-eqb}
 use Rattle.rules.specs.Memory.{halfOf}
 use Rattle.rules.specs.Barriers.{replicaWord}

@@ -1,4 +1,4 @@
--- `heap::stores::store_writes` meets its contract.
+-- The tests in order: damage at the first that fails, else the plan; the replica's word is tested only where there is a replica.
 use mathlib.Core.Path.{_≡_}
 use borrow.Author.Tests.{ne-eqb}
 use Rattle.heap.proofs.Answers.{word-passed, word-refused}

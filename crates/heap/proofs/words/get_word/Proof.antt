@@ -1,4 +1,4 @@
--- `heap::words::get_word` meets its contract.
+-- The caller's bound puts the index within the half; half and place are the rules' by the contracts of half_of and word_of.
 use Prim.Native.Nat.{_+_, _<_}
 use mathlib.Core.Path.{ap}
 use native.Mathlib.Omega.{arith}

@@ -1,4 +1,4 @@
--- `heap::words::half_of` meets its contract.
+-- By parity: half 0 for an even reference, half 1 for an odd one.
 use mathlib.Core.Path.{sym}
 use Rattle.heap.proofs.Halves.{in-low, in-high}
 use Rattle.heap.proofs.words.half_of.Statement.{statement}

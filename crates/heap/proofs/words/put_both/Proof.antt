@@ -1,4 +1,4 @@
--- `heap::words::put_both` meets its contract.
+-- Without a replica one write. With one, two: the first keeps the lengths, so that the second still lies inside.
 use Rattle.heap.proofs.Halves.{inside-kept, put-one, put-two}
 use borrow.Author.Needs.{needs}
 use Rattle.heap.proofs.words.put_both.Statement.{statement}

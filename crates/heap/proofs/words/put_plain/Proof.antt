@@ -1,4 +1,4 @@
--- `heap::words::put_plain` meets its contract.
+-- Without a replica one write. With one, two: the replica's field stands behind its own reference fields, as refs_of counts them.
 use Rattle.heap.proofs.Halves.{put-one}
 use borrow.Author.Needs.{needs}
 use Rattle.heap.proofs.words.put_plain.Statement.{statement}

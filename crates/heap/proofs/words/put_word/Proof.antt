@@ -1,4 +1,4 @@
--- `heap::words::put_word` meets its contract.
+-- By parity: the word set in half 0 or in half 1, within that half by the caller's bound.
 use native.Mathlib.Omega.{arith}
 use Rattle.heap.proofs.Halves.{put-low, put-high, below-low, below-high}
 use borrow.Author.Needs.{needs}

@@ -1,4 +1,4 @@
--- `heap::words::refs_of` meets its contract.
+-- The shape word by get_word's contract; its high part is the count.
 use Rattle.rules.specs.Memory.{refs, refsOf}
 use borrow.Author.Needs.{needs}
 use Rattle.heap.proofs.words.refs_of.Statement.{statement}

@@ -1,4 +1,4 @@
--- `heap::words::word_of` meets its contract.
+-- The word's place by computation; from 2 on the subtraction doesn't go below 0.
 use mathlib.Core.Path.{refl}
 use Rattle.rules.specs.Memory.{wordOf}
 use borrow.Author.Needs.{needs}

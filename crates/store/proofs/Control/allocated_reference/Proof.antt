@@ -1,4 +1,4 @@
--- The reference of the copy that the register gets.
+-- The reference of the frontier's word in the half that allocated_half answers.
 use mathlib.Core.List.{[]}
 use Rattle.store.proofs.allocation.Record.{below-at, frontier-small, given}
 use borrow.Author.Needs.{needs}

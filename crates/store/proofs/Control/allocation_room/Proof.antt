@@ -1,4 +1,4 @@
--- Room in the halves that are written.
+-- By level and current half: both halves tested from level 3 on, else half 0 or half 1.
 use native.Mathlib.Omega.{arith}
 use Rattle.store.proofs.allocation.Tests.{room-two, room-low, room-high}
 use Rattle.store.proofs.Control.allocation_room.Statement.{statement}

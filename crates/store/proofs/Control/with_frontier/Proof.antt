@@ -1,4 +1,4 @@
--- The frontier of one half set.
+-- The collector's numbers by the contract of the cursor's with_frontier; all else stays.
 use Rattle.rules.specs.Memory.{withFrontier}
 use borrow.Author.Needs.{needs}
 use Rattle.store.proofs.Control.with_frontier.Statement.{statement}

@@ -1,4 +1,4 @@
--- The frontier of one half set.
+-- By the number of the half: frontier 0 set for 0, frontier 1 for any other.
 use borrow.Author.Tests.{eq-eqb, ne-eqb}
 use Rattle.store.proofs.Cursor.with_frontier.Statement.{statement}
 use Rattle.store.proofs.Cursor.with_frontier.Tie as tie

@@ -1,4 +1,4 @@
--- The reference computed.
+-- The reference by computation; in a half of an allowed length it fits in 32 bits.
 use mathlib.Core.Path.{refl}
 use Rattle.rules.specs.Memory.{reference}
 use borrow.Author.Needs.{needs}

@@ -1,9 +1,9 @@
--- The companion of the stretch: the same tests.
+-- The companion: the tests of the stretch, each with its number.
 use Rattle.rules.specs.Calls.{stretch}
 use Rattle.store.proofs.tests.Opening.{away, lent, unsound, opened}
 use borrow.Author.Needs.{needs}
-use Rattle.store.proofs.Control.stretch_answer.Statement.{statement}
-use Rattle.store.proofs.Control.stretch_answer.Tie as tie
+use Rattle.store.proofs.Control.companion.Statement.{statement}
+use Rattle.store.proofs.Control.companion.Tie as tie
 
 held-requires : tie.Need-held-requires
 held-requires c κs = search needs
@@ -39,8 +39,8 @@ returns-3 c =
     let x = c .before .before .before .before in
     rw (opened _ _ _ _ (x .before .before .held .ensures) (x .operands .given .1) (c .before .before .follow .ensures) (c .enum-told .given .1) .tests)
 
-pub stretch-answer-spec : {M : Type 1} → statement M
-stretch-answer-spec =
+pub companion-spec : {M : Type 1} → statement M
+companion-spec =
     tie.close
     (tie.spec
     held-requires
