@@ -186,6 +186,17 @@ def failures(folder):
         need((done.returncode, done.stderr.decode()) == (2, f"tools/explain: {reason}\n"), f"{script}, {named}: {done.stderr!r}")
 
 
+def bad_notes(folder):
+    script, notes = os.path.join(folder, "some.script"), os.path.join(folder, "some.notes")
+    with open(script, "wb") as file:
+        file.write(GOOD)
+    with open(notes, "w", encoding="utf-8") as file:
+        file.write("1 Morning\nEvening\n")
+    done = ran(script)
+    want = f"tools/explain: line 2 of {notes} does not begin with an entry number\n"
+    need((done.returncode, done.stderr.decode()) == (2, want), f"bad notes give {done.stderr!r}")
+
+
 def progress():
     script = random_script(1, 45000)
     done = ran("--quiet", "-", data=encode(script))
@@ -201,6 +212,7 @@ def main():
     bad_scripts()
     with tempfile.TemporaryDirectory() as folder:
         failures(folder)
+        bad_notes(folder)
     progress()
     print(f"test_explain: {count} entries read back from their words, a day of {len(rows)} entries, {len(BAD_SCRIPTS)} bad scripts")
 

@@ -22,7 +22,7 @@ use Rattle.store.specs.View.{view, outcome}
 use Rattle.script.specs.Commands.{calling}
 use Rattle.script.specs.declared.entries.Command.{Command}
 use Rattle.script.specs.Lines.{line, longest, versionRefused, badVersion}
-use Rattle.script.specs.Turns.{Left, begun, turn, goesOn, turns}
+use Rattle.script.specs.Turns.{Left, begun, turn, numberEnd, goesOn, turns}
 use Rattle.script.proofs.Stopping.{no-more, turns-stay}
 
 -- ---- one turn
@@ -63,7 +63,7 @@ same-room end limit n e =
 
 -- the code's test
 abbrev pub tested : ℕ → ℕ → ℕ → ℕ → ℕ → Bool
-tested i stop end limit n = ltb i stop && leb end limit && ltb n 18446744073709551615
+tested i stop end limit n = ltb i stop && leb end limit && ltb n numberEnd
 
 tested-goes : (s : Store) (i stop : ℕ) (out : List ℕ) (end limit n : ℕ) → limit + longest ≡ length out →
     goesOn stop (begun s i n out end) ≡ tested i stop end limit n
@@ -77,7 +77,7 @@ without false c = refl
 no-room : (stop : ℕ) (s : Store) (i n : ℕ) (out : List ℕ) (end : ℕ) → leb (end + longest) (length out) ≡ false →
     goesOn stop (begun s i n out end) ≡ false
 unfolding goesOn
-no-room stop s i n out end e = rw (e, without (ltb i stop) (ltb n 18446744073709551615))
+no-room stop s i n out end e = rw (e, without (ltb i stop) (ltb n numberEnd))
 
 -- no room for a line
 pub full : (stop k : ℕ) (bs : List ℕ) (s : Store) (i n : ℕ) (out : List ℕ) (end : ℕ) → length out < longest →
@@ -104,13 +104,13 @@ pub record Open (bs : List ℕ) (stop : ℕ) (x₀ x : Left) : Type 0 where
   pub on : goesOn stop x ≡ true
   pub before : x .at < stop
   pub room : x .end + longest ≤ length (x .out)
-  pub countable : x .number < 18446744073709551615
+  pub countable : x .number < numberEnd
 
 pub opened : (bs : List ℕ) (stop : ℕ) (x₀ : Left) (s : Store) (i n : ℕ) (out : List ℕ) (end limit : ℕ) →
     Progress bs stop x₀ (begun s i n out end) → limit + longest ≡ length out → tested i stop end limit n ≡ true →
     Open bs stop x₀ (begun s i n out end)
 opened bs stop x₀ s i n out end limit p e t =
-    let outer = both (ltb i stop && leb end limit) (ltb n 18446744073709551615) t in
+    let outer = both (ltb i stop && leb end limit) (ltb n numberEnd) t in
     let inner = both (ltb i stop) (leb end limit) (outer .0) in
     let room : end ≤ limit = leb-true end limit (inner .1) in
     record {
@@ -118,7 +118,7 @@ opened bs stop x₀ s i n out end limit p e t =
       on = tested-goes s i stop out end limit n e ∙ t;
       before = ltb-true i stop (inner .0);
       room = omega arith;
-      countable = ltb-true n 18446744073709551615 (outer .1);
+      countable = ltb-true n numberEnd (outer .1);
     }
 
 pub stopped : (bs : List ℕ) (stop : ℕ) (x₀ : Left) (s : Store) (i n : ℕ) (out : List ℕ) (end limit : ℕ) →

@@ -59,9 +59,13 @@ turn bs x =
     (withLine (badLine (x .number)) (x .store) (x .at) (x .number) (x .out) (x .end) false)
     (λ c j. withLine (lineOf (x .number) (apply (x .store) c .reply)) (apply (x .store) c .store) j (x .number + 1) (x .out) (x .end) true)
 
+-- entries are counted in 64 bits: none gets this number, 2 to the 64th less 1
+abbrev pub numberEnd : ℕ
+numberEnd = 18446744073709551615
+
 -- whether the next entry is done: it begins before the place stop, its line has room, and its number can be counted
 unfoldable pub goesOn : ℕ → Left → Bool
-goesOn stop x = x .more && ltb (x .at) stop && leb (x .end + longest) (length (x .out)) && ltb (x .number) 18446744073709551615
+goesOn stop x = x .more && ltb (x .at) stop && leb (x .end + longest) (length (x .out)) && ltb (x .number) numberEnd
 
 -- the entries that begin before the place stop, as long as it goes on, k at most. A turn with a call takes a byte at
 -- least, so stop of them are enough

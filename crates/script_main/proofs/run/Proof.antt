@@ -11,6 +11,7 @@ use lib.ListN.{length}
 use lib.Seq.{length-take-le}
 use Rattle.rules.proofs.Ranges.{both}
 use Rattle.rules.proofs.memory.Cases.{bool-or}
+use Rattle.script.specs.Turns.{numberEnd}
 use Rattle.script_main.proofs.run.Statement.{statement}
 use Rattle.script_main.proofs.run.Tie as tie
 
@@ -21,15 +22,15 @@ Inv-loop h0₀ h1₀ list₀ input₀ first out₀ control₀ at₀ filled₀ en
 
 abbrev μ-loop : tie.MeasureT-loop
 μ-loop h0₀ h1₀ list₀ input₀ first out₀ control₀ at₀ filled₀ end₀ number₀ more₀ h0 h1 list input out control at filled end number more =
-    18446744073709551615 - number + cond more 1 0
+    numberEnd - number + cond more 1 0
 
 -- a turn that is the last, or counts an entry
-fewer : (more on : Bool) (n m : ℕ) → (more && ltb n 18446744073709551615) ≡ true → n ≤ m →
-    18446744073709551615 - m + cond (on && ltb n m) 1 0 < 18446744073709551615 - n + cond more 1 0
+fewer : (more on : Bool) (n m : ℕ) → (more && ltb n numberEnd) ≡ true → n ≤ m →
+    numberEnd - m + cond (on && ltb n m) 1 0 < numberEnd - n + cond more 1 0
 fewer true on n m test counted =
     bool-or
     (on && ltb n m)
-    (λ e. rw e (omega (arith, ltb-true n m (both on (ltb n m) e .1), ltb-true n 18446744073709551615 test)))
+    (λ e. rw e (omega (arith, ltb-true n m (both on (ltb n m) e .1), ltb-true n numberEnd test)))
     (λ e. rw e (omega arith))
 fewer false on n m test counted = let none : _≡_ {A = ℕ} 0 1 = cc in omega arith
 
