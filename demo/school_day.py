@@ -15,7 +15,7 @@ from scripts import encode  # noqa: E402
 
 OFFICE, IMPORT = 0, 1            # the secretary's session and the import's
 PUPILS, CLASS, LEAVER = 0, 1, 2  # globals: the newest pupil, the class, the pupil who leaves
-REST, PREMARK1, PREMARK2, ALLOCATING, PRECOPY, PREFLIP1, PREFLIP2, RECLAIM = 0, 1, 2, 5, 6, 8, 9, 12  # where a collection waits
+REST, PREMARK1, PREMARK2, ALLOCATING, PRECOPY, PREFLIP1, PREFLIP2, RECLAIM = 0, 1, 2, 5, 6, 8, 9, 12  # phases
 
 # A pupil is a record with one link (to the pupil before) and one word; a class has two links and one word.
 LARGE = (ALLOCATE, [OFFICE, 2, 255, 255])
@@ -44,7 +44,7 @@ class Day:
         return answer
 
     def collect(self, phase):
-        """Collector steps up to this phase, and one in which it waits for the sessions, where it does."""
+        """Collector steps up to this phase, and one more in it, which in a phase that waits for the sessions changes nothing."""
         while self.store.phase != phase:
             self.do((STEP, []))
         if phase != REST:
@@ -74,18 +74,18 @@ def morning(day):
 
 
 def leaver(day):
-    day.note("A pupil gets seven large files, a chain that hangs on global 2. For an eighth there is no room: 14, and nothing is changed.")
+    day.note("A pupil gets seven large files, each with a link to the one before; global 2 names the newest. For an eighth there is no "
+             "room: 14, and nothing is changed.")
     for number in range(1990, 1997):
         day.do((GET, [OFFICE, 5, LEAVER]), (ALLOCATE, [OFFICE, 4, 255, 255]), (WRITE, [OFFICE, 4, 0, number]),
                (STORE, [OFFICE, 4, 0, 5]), (PUT, [OFFICE, LEAVER, 4]))
     assert day.do(LARGE) == (NO_ROOM, 0)
-    day.note("The pupil leaves: nothing names the files any more. But their words are not free before a collection has ended: 14 again.")
+    day.note("The pupil leaves: nothing names the files any more. But their memory is not free before a collection has ended: 14 again.")
     assert day.do((CLEAR, [OFFICE, 4]), (CLEAR, [OFFICE, 5]), (PUT, [OFFICE, LEAVER, 5]), LARGE) == (NO_ROOM, 0)
 
 
-def edits(day, wait, number):
-    """The collector works until it waits for the sessions; each edits on, and comes to its safe point in its own time."""
-    day.collect(wait)
+def edits(day, number):
+    """The office and the import edit on, and each comes to its safe point in its own time."""
     day.do((SAFE, [OFFICE]), *pupil(2000 + number))
     assert day.do(*rename(70 + number)) == (0, 70 + number)
     day.do((SAFE, [IMPORT]))
@@ -94,17 +94,20 @@ def edits(day, wait, number):
 def marking(day):
     day.note("A collection begins and works between the calls. Here and there it waits until every session has come to a safe point; "
              "meanwhile both go on: the import adds a pupil, the office renames the class and reads the new name back.")
-    edits(day, PREMARK1, 1)
-    edits(day, PREMARK2, 2)
+    day.collect(PREMARK1)
+    edits(day, 1)
+    day.collect(PREMARK2)
+    edits(day, 2)
     day.note("It marks what globals, registers and links reach. Then each marked record gets a second copy in the other half, empty at "
              "first. The leaver's files are not marked and get none.")
-    edits(day, ALLOCATING, 3)
+    day.collect(ALLOCATING)
+    edits(day, 3)
     day.collect(PRECOPY)
 
 
 def copying(day):
-    day.note("The fields are copied. From level 4 on, whatever is written goes to both copies.")
-    edits(day, PRECOPY, 4)
+    day.note("The fields are copied. From level 4 on, what a session writes to a record goes to both its copies.")
+    edits(day, 4)
     day.collect(PREFLIP1)
 
 
@@ -117,7 +120,8 @@ def compared(day, session, level):
 
 
 def two_copies(day):
-    day.note("The copies are equal now. Both sessions take the class into register 6.")
+    day.note("Both copies of a record say the same now, the new one with links to the new copies. Both sessions take the class into "
+             "register 6.")
     day.do((SAFE, [OFFICE]), (SAFE, [IMPORT]), (GET, [OFFICE, 6, CLASS]), (GET, [IMPORT, 6, CLASS]))
     day.collect(PREFLIP2)
 
@@ -126,13 +130,13 @@ def two_copies(day):
     six, seven = compared(day, OFFICE, 6)
     day.note("One record through its two copies. The office comes to level 6 and puts the class back into its global, which now names the "
              f"other copy. So register 6 holds reference {six} and register 7 reference {seven}, of one class. The store says yes, the same "
-             f"record. A comparison by words, {six} with {seven}, would have said no.", first)
+             f"record. A store that compares references by words would have said no: {six} is not {seven}.", first)
 
     first = day.next()
     day.do((GET, [IMPORT, 7, CLASS]))
     six, seven = compared(day, IMPORT, 5)
-    day.note(f"The import is still at level 5, with reference {six} in register 6 and {seven} in register 7, and is told yes as well. By words "
-             "it would have been no here too.", first)
+    day.note(f"The import is still at level 5, with reference {six} in register 6 and {seven} in register 7, and is told yes as well. By "
+             "words it would have been no here too.", first)
 
     day.note("What the import writes through one copy, the office reads through the other. Two records stay two: class and pupil, no.")
     assert day.do((WRITE, [IMPORT, 7, 0, 99]), (READ, [OFFICE, 6, 0])) == (0, 99)
@@ -142,13 +146,14 @@ def two_copies(day):
 
 def flip_and_reclaim(day):
     day.note("Globals and registers are turned to the new copies, and the old half is given up, the leaver's files with it.")
-    edits(day, RECLAIM, 5)
+    day.collect(RECLAIM)
+    edits(day, 5)
     day.collect(REST)
 
 
 def evening(day):
-    day.note("Evening. The office reads the class, its pupil, and the chain of pupils from the newest on: all that was written, and after "
-             "the last pupil a null link, so a read is refused with 11.")
+    day.note("Evening. The office reads the last name of the class, its pupil, and all pupils from the newest on. The link of the "
+             "oldest is null, so the read after it is refused with 11.")
     day.do((GET, [OFFICE, 0, CLASS]), (READ, [OFFICE, 0, 0]), (LOAD, [OFFICE, 1, 0, 0]), (READ, [OFFICE, 1, 0]), (GET, [OFFICE, 1, PUPILS]))
     while day.do((READ, [OFFICE, 1, 0])) != (NULL_REGISTER, 0):
         day.do((LOAD, [OFFICE, 1, 1, 0]))

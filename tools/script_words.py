@@ -66,7 +66,7 @@ def fault(length, body):
         return f"there is no kind {body[0]}"
     if body and length != 1 + sum(KINDS[body[0]].widths):
         kind = KINDS[body[0]]
-        return f"a {kind.name} has length byte {1 + sum(kind.widths)}, this one {length}"
+        return f"the length byte of {kind.name} is {1 + sum(kind.widths)}, not {length}"
     if len(body) < length:
         return f"the script ends inside it, after {len(body)} of {counted(length, 'byte')}"
     return None
@@ -89,12 +89,20 @@ def entries(script):
         number, place = number + 1, place + 1 + len(body)
 
 
+def fits(kind, refusal, value):
+    """Whether a line of the program can be the answer to a call of this kind."""
+    if refusal:
+        return refusal in REASONS and refusal != BAD_SCRIPT and value == 0
+    most = {"step": len(PHASES) - 1, "read": 2 ** 32 - 1, "same": 1}
+    return value <= most.get(kind, 0)
+
+
 def phase_words(phase):
     return f"phase {phase}, {PHASES[phase]}"
 
 
 def refusal_words(number):
-    return f"refused {number}, {REASONS.get(number, 'a number that no call of a script answers')}"
+    return f"refused {number}, {REASONS[number]}"
 
 
 def answer_words(kind, value, phase):
