@@ -1,6 +1,6 @@
 // Code over the two lent halves, without the control record: following, reading and writing words, writing records,
-// forwarding, shading, and planning what a store or a put writes.
-// Each contract is one equation with a definition of the crate rules.
+// forwarding, shading, comparing, and planning what a store or a put writes.
+// The contract of each function that another crate calls is one equation with a definition of the crate rules.
 
 pub mod following;
 pub mod forwarding;

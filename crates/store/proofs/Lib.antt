@@ -1,4 +1,4 @@
--- Laws that the proofs of the functions share, in rooms by topic, lowest first. The proof of a function stands in the folder of its
+-- Laws that the proofs of the functions share, in folders by topic, lowest first. The proof of a function stands in the folder of its
 -- type or module, under its name.
 
 -- the view of the code's values loses nothing

@@ -1,5 +1,6 @@
 // The record store: the control record and its calls. Each call takes the control record by value with the lent
-// halves and grey list, and hands the next control record back with its answer.
+// halves and grey list, and hands the next control record back with its answer; the stretch and its companion, which only
+// read, hand none back.
 ghost use mathlib.Core.Path.{_≡_};
 ghost use Prim.Native.Nat.{ℕ, _≤_};
 ghost use mathlib.Core.List.{List};

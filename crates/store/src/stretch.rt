@@ -1,5 +1,5 @@
-// The plain fields of a record as a stretch of its half, and its companion: the call with the same tests that answers their
-// number.
+// The plain fields of a record as a stretch of its half; and its companion, which makes the same tests and answers the number
+// of the first that fails, or 0.
 ghost use mathlib.Core.Path.{_≡_};
 ghost use Rattle.rules.specs.Refusals.{wordsOr, doneOr};
 ghost use Rattle.rules.specs.Calls.{stretch};

@@ -1,4 +1,4 @@
--- By half: the part from `at` on, come back with the record at its start, is the half with the record at that word.
+-- By half: the part from `at` on comes back with the record at its start, so the half has the record at that word.
 use Prim.Native.Nat.{_+_, _≤_}
 use native.Mathlib.Omega.{arith}
 use lib.ListN.{length}
