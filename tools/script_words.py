@@ -19,23 +19,27 @@ def counted(number, thing):
     return f"{number} {thing}" if number == 1 else f"{number} {thing}s"
 
 
-# name, bytes of each argument, and what is said of the arguments after the session
-Kind = namedtuple("Kind", "name widths words")
+SESSION = {4, 5, 6}  # what every call of a session but attach may be refused with
+RECORD = SESSION | {8, 11, 12, 13}  # and one on the record in a register
+
+# name, bytes of each argument, what is said of the arguments after the session, and the refusals that it may meet
+Kind = namedtuple("Kind", "name widths words refusals")
 KINDS = {
-    1: Kind("attach", [BYTE], lambda: "attach"),
-    2: Kind("detach", [BYTE], lambda: "detach"),
-    3: Kind("safe point", [BYTE], lambda: "safe point"),
-    4: Kind("allocate", [BYTE] * 4, lambda to, r, p: f"allocate {counted(r, 'link')}, {counted(p, 'word')} into register {to}"),
-    5: Kind("load", [BYTE] * 4, lambda to, record, field: f"load link {field} of register {record} into register {to}"),
-    6: Kind("store", [BYTE] * 4, lambda record, field, source: f"store register {source} in link {field} of register {record}"),
-    7: Kind("read", [BYTE] * 3, lambda record, field: f"read word {field} of register {record}"),
-    8: Kind("write", [BYTE] * 3 + [WORD], lambda record, field, value: f"write {value} to word {field} of register {record}"),
-    9: Kind("move", [BYTE] * 3, lambda to, source: f"move register {source} to register {to}"),
-    10: Kind("clear", [BYTE] * 2, lambda register: f"clear register {register}"),
-    11: Kind("same", [BYTE] * 3, lambda a, b: f"same record in registers {a} and {b}?"),
-    12: Kind("get", [BYTE] * 3, lambda to, place: f"get global {place} into register {to}"),
-    13: Kind("put", [BYTE] * 3, lambda place, source: f"put register {source} in global {place}"),
-    14: Kind("step", [], None),
+    1: Kind("attach", [BYTE], lambda: "attach", {4, 5, 7}),
+    2: Kind("detach", [BYTE], lambda: "detach", SESSION),
+    3: Kind("safe point", [BYTE], lambda: "safe point", SESSION),
+    4: Kind("allocate", [BYTE] * 4, lambda to, r, p: f"allocate {counted(r, 'link')}, {counted(p, 'word')} into register {to}",
+            SESSION | {8, 10, 14}),
+    5: Kind("load", [BYTE] * 4, lambda to, record, field: f"load link {field} of register {record} into register {to}", RECORD),
+    6: Kind("store", [BYTE] * 4, lambda record, field, source: f"store register {source} in link {field} of register {record}", RECORD),
+    7: Kind("read", [BYTE] * 3, lambda record, field: f"read word {field} of register {record}", RECORD),
+    8: Kind("write", [BYTE] * 3 + [WORD], lambda record, field, value: f"write {value} to word {field} of register {record}", RECORD),
+    9: Kind("move", [BYTE] * 3, lambda to, source: f"move register {source} to register {to}", SESSION | {8}),
+    10: Kind("clear", [BYTE] * 2, lambda register: f"clear register {register}", SESSION | {8}),
+    11: Kind("same", [BYTE] * 3, lambda a, b: f"same record in registers {a} and {b}?", SESSION | {8, 12}),
+    12: Kind("get", [BYTE] * 3, lambda to, place: f"get global {place} into register {to}", SESSION | {8, 9}),
+    13: Kind("put", [BYTE] * 3, lambda place, source: f"put register {source} in global {place}", SESSION | {8, 9, 12}),
+    14: Kind("step", [], lambda: "collector step", {4, 12}),
 }
 
 Entry = namedtuple("Entry", "number place kind words")  # the entry number, its first byte, and what it asks for
@@ -55,7 +59,7 @@ def words_of(kind, body):
     for width in kind.widths:
         args.append(int.from_bytes(body[at:at + width], "big"))
         at += width
-    return f"session {args[0]}: {kind.words(*args[1:])}" if args else "collector step"
+    return f"session {args[0]}: {kind.words(*args[1:])}" if args else kind.words()
 
 
 def fault(length, body):
@@ -85,16 +89,18 @@ def entries(script):
         reason = fault(length[0], body)
         if reason:
             raise BadEntry(number, place, reason)
-        yield Entry(number, place, KINDS[body[0]].name, words_of(KINDS[body[0]], body))
+        kind = KINDS[body[0]]
+        yield Entry(number, place, kind, words_of(kind, body))
         number, place = number + 1, place + 1 + len(body)
 
 
-def fits(kind, refusal, value):
-    """Whether a line of the program can be the answer to a call of this kind."""
+def fits(kind, refusal, value, phase):
+    """Whether a line of the program can be the answer to a call of this kind, with the collector at this phase."""
     if refusal:
-        return refusal in REASONS and refusal != BAD_SCRIPT and value == 0
-    most = {"step": len(PHASES) - 1, "read": 2 ** 32 - 1, "same": 1}
-    return value <= most.get(kind, 0)
+        return refusal in kind.refusals and value == 0
+    if kind.name == "step":
+        return value == (phase + 1) % len(PHASES) or value == phase != 0
+    return value <= {"read": 2 ** 32 - 1, "same": 1}.get(kind.name, 0)
 
 
 def phase_words(phase):
@@ -107,12 +113,12 @@ def refusal_words(number):
 
 def answer_words(kind, value, phase):
     """What a call that was not refused answered, the collector standing at this phase."""
-    if kind == "step":
+    if kind.name == "step":
         return phase_words(phase)
-    if kind == "read":
+    if kind.name == "read":
         return f"reads {value}"
-    if kind == "same":
+    if kind.name == "same":
         return "yes" if value else "no"
-    if kind in ("attach", "safe point"):
+    if kind.name in ("attach", "safe point"):
         return f"done, at level {LEVELS[phase]}"
     return "done"

@@ -1,5 +1,5 @@
-// What stores and puts write, by the session's level: Table 1(a) at level 5, Table 1(b) at level 6, where a global is "Non"; and
-// which replica a write goes to as well, a plain one too.
+// What stores and puts write, by the session's level: Table 1(a) at level 5, Table 1(b) at level 6; in both a global is "Non".
+// And which replica a write goes to as well, of a reference field or of a plain one.
 ghost use mathlib.Core.Path.{_≡_};
 ghost use mathlib.Core.Bool.{cond};
 ghost use Rattle.rules.specs.Memory.{replicaAt, refs, plains};

@@ -59,7 +59,7 @@ fn call_reading<'a>(
     }
 }
 
-// The call of a case.
+// The call of a case, by its kind: those that write to lent words here, the others above.
 pub(crate) fn call(
     control: Control,
     h0: &mut [u32],

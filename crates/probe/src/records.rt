@@ -22,7 +22,7 @@ fn number(case: &[u32; CASE], i: usize) -> usize
     joined(case[at], case[at + 1])
 }
 
-// The collector's own numbers.
+// The collector's own numbers, out of the words of a case.
 fn cursor_of(case: &[u32; CASE]) -> Cursor {
     Cursor {
         current: case[8],
@@ -36,7 +36,7 @@ fn cursor_of(case: &[u32; CASE]) -> Cursor {
     }
 }
 
-// The globals.
+// The 32 globals, out of the words of a case.
 fn globals_of(case: &[u32; CASE]) -> [u32; 32] {
     let mut globals = [0u32; 32];
     let mut i: usize = 0;
@@ -69,7 +69,7 @@ fn session_at(case: &[u32; CASE], at: usize) -> Session
     }
 }
 
-// The sessions.
+// The sixteen sessions, out of the words of a case.
 fn sessions_of(case: &[u32; CASE]) -> [Session; 16] {
     let nobody = Session {
         registers: [0; 8],
@@ -141,7 +141,7 @@ fn put_number(out: &mut [u32; REPLY], i: usize, x: usize)
     out[at + 1] = low(x);
 }
 
-// The collector's own numbers.
+// The collector's own numbers into the words of a reply.
 fn put_cursor(out: &mut [u32; REPLY], cursor: Cursor) {
     out[3] = cursor.current;
     put_number(out, 3, cursor.frontier0);
@@ -153,7 +153,7 @@ fn put_cursor(out: &mut [u32; REPLY], cursor: Cursor) {
     put_number(out, 9, cursor.tail);
 }
 
-// The globals.
+// The 32 globals into the words of a reply.
 fn put_globals(out: &mut [u32; REPLY], globals: [u32; 32]) {
     let mut i: usize = 0;
     while i < 32 {
@@ -162,7 +162,7 @@ fn put_globals(out: &mut [u32; REPLY], globals: [u32; 32]) {
     }
 }
 
-// A session, from a place on.
+// One session into the words of a reply, from a place on.
 fn put_session(out: &mut [u32; REPLY], at: usize, session: Session)
     requires { ⌜ at + 11 ≤ 232 ⌝ }
 {
@@ -177,7 +177,7 @@ fn put_session(out: &mut [u32; REPLY], at: usize, session: Session)
     out[at + 10] = session.scanned as u32;
 }
 
-// The sessions.
+// The sixteen sessions into the words of a reply.
 fn put_sessions(out: &mut [u32; REPLY], sessions: [Session; 16]) {
     let mut i: usize = 0;
     while i < 16 {

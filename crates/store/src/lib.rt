@@ -179,7 +179,7 @@ impl Control {
         byte as u32
     }
 
-    // The level of a phase.
+    // The level of a phase, from the table of levels.
     pub(crate) fn level_of(phase: usize) -> u32
         requires { ⌜ phase ≤ lastPhase ⌝ }
         ensures { λ r. ⌜ r ≡ levelOf phase ⌝ }

@@ -50,7 +50,7 @@ allocated = apply (viewed second) (Allocate 0 0 1 1)
 abbrev third : Lent
 third = lent (controlOf (allocated .store)) (half0 allocated) (half1 allocated) list
 
--- of each call, what the code hands out is what the rules give, by computation
+-- a reply made of what the rules leave meets the contract of each call, by computation
 attaches : outcome (handed attached) half half list ≡ attached
 unfolding rules make
 attaches = refl

@@ -1,4 +1,4 @@
--- The bounds of its numbers.
+-- By the contract of the cursor's bounds, of the store that the control record is the view of.
 use Rattle.store.specs.View.{view}
 use borrow.Author.Needs.{needs}
 use Rattle.store.proofs.Control.bounds.Statement.{statement}
