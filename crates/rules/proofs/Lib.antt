@@ -1,10 +1,11 @@
--- The claims of specs/Claims.antt: claim 5 by computation, claim 1 from each rule by itself, the others from the run theorem.
+-- The claims of specs/Claims.antt: claim 5 by computation, claim 1 and the numbers of section 6 from each rule by itself, the others from
+-- the run theorem.
 
 -- claim 5, and closed runs that the checker computes
 pub mod Examples
 -- the script example of document 01, from bytes to bytes
 pub mod Script
--- claim 1, and claim 3 from claim 2
+-- claim 1, claim 3 from claim 2, and of section 6 the numbers of refusals
 pub mod claims
 -- what the tests 4, 5 and 6 say: the ranges of the control record, the session of a call
 pub mod Ranges

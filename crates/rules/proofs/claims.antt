@@ -4,3 +4,6 @@
 pub mod Refusals
 -- claim 3, from claim 2
 pub mod TwoRuns
+-- of section 6: the numbers of refusals, from those of the tests of each rule
+pub mod Rows
+pub mod Numbers

@@ -12,5 +12,7 @@ pub mod Filled
 -- what a collection frees, and that it stays so
 pub mod Freed
 pub mod StaysFreed
--- the claims 2 to 4
+-- what is reached fits in a half
+pub mod LiveFits
+-- the claims 2 to 4, and those of section 6 on runs
 pub mod Claims

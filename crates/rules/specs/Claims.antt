@@ -1,17 +1,17 @@
 -- The claims about the rules. Together with the contracts of the code they say points 1, 2 and 3.
-use Prim.Native.Nat.{ℕ, _+_, _<_}
+use Prim.Native.Nat.{ℕ, _+_, _≤_, _<_}
 use mathlib.Core.Path.{_≡_}
 use mathlib.Core.Logic.{_≢_, _⊎_}
 use mathlib.Core.Bool.{true}
-use mathlib.Core.List.{List, _∷_, map, List·Memᴰ}
+use mathlib.Core.List.{List, [], _∷_, map, List·Memᴰ}
 use lib.ListN.{getD, length}
-use Rattle.rules.specs.Refusals.{answer}
-use Rattle.rules.specs.Memory.{Memory, frontier, reference, size, sound}
+use Rattle.rules.specs.Refusals.{answer, doneOr}
+use Rattle.rules.specs.Memory.{Memory, frontier, null, reference, size, sound}
 use Rattle.rules.specs.Cycle.{atRest}
 use Rattle.rules.specs.Control.{Store, make, inRange}
-use Rattle.rules.specs.Phases.{otherHalf}
-use Rattle.rules.specs.Runs.{Call, Step, apply, after, sessionCalls, sessionRun, feeds}
-use Rattle.rules.specs.Free.{Free, newFree, freeRun}
+use Rattle.rules.specs.Phases.{otherHalf, sessionAt}
+use Rattle.rules.specs.Runs.{Call, SafePoint, Step, apply, after, isSession, isAllocation, sessionCalls, sessionRun, fedBy, feeds}
+use Rattle.rules.specs.Free.{Free, newFree, freeSession, freeRegister, freeSessionOf, freeApply, freeRun}
 use Rattle.rules.specs.Tracking.{Beside, newBeside, beside, Reached, recordsOf, wordsAt}
 use Rattle.rules.specs.Examples.{starred}
 use Rattle.rules.specs.declared.Answer.the-variants.{Refused, Done}
@@ -106,3 +106,44 @@ StaysFreed =
 -- "The starred examples are proved of the rules as one table with one theorem"
 unfoldable pub Starred : Type 0
 Starred = map (λ x. x .given) starred ≡ map (λ x. x .expected) starred
+
+-- ---- 6. For crates above
+-- What code that makes store calls of its own may go by: the collector-free store after the same calls, in place of the store.
+abbrev pub freeAfter : Store → List Call → Free
+freeAfter s cs = beside (newBeside s) cs .free
+
+-- claim 2 for one call: a session call is answered as the collector-free store answers it then
+unfoldable pub NextAnswer : Type 0
+NextAnswer =
+    (s : Store) → Made s → (cs : List Call) (c : Call) → isSession c ≡ true
+    → apply (after s cs) c .reply ≡ freeApply (freeAfter s cs) c (fedBy (apply (after s cs) c .reply)) .reply
+
+-- a safe point, which is no session call, is refused only for a number above 15 and a session that isn't attached there
+unfoldable pub SafePointAnswer : Type 0
+SafePointAnswer =
+    (s : Store) → Made s → (cs : List Call) (n : ℕ)
+    → apply (after s cs) (SafePoint n) .reply ≡ answer (doneOr (freeSessionOf (freeAfter s cs) n))
+
+-- different records that registers and globals reach take up no more words than a half has: so a walk from record to record that never
+-- meets one twice ends within a half's length
+unfoldable pub LiveFits : Type 0
+LiveFits =
+    (s : Store) → Made s → (cs : List Call) (qs : List ℕ)
+    → ((q : ℕ) → List·Memᴰ q qs → Reached (freeAfter s cs) q)
+    → ((i j : ℕ) → i < length qs → j < length qs → getD qs i 0 ≡ getD qs j 0 → i ≡ j)
+    → wordsAt (freeAfter s cs) qs ≤ after s cs .lengths .half0
+
+-- the numbers that a call may be refused with; 1 to 3 are of making
+abbrev pub storeNumbers : List ℕ
+storeNumbers = 4 ∷ 5 ∷ 6 ∷ 7 ∷ 8 ∷ 9 ∷ 10 ∷ 11 ∷ 12 ∷ 13 ∷ 14 ∷ []
+
+-- no call of any store is refused with another number, and only an allocation with 14: a number that a crate above gives meaning to
+-- comes from no store call
+unfoldable pub Numbers : Type 0
+Numbers = (s : Store) (c : Call) (n : ℕ) → apply s c .reply ≡ answer (Refused n) → List·Memᴰ n storeNumbers × (n ≡ 14 → isAllocation c ≡ true)
+
+-- a register of the store is null where that of the collector-free store is: so what is said of empty registers there holds of the words here
+unfoldable pub NullRegisters : Type 0
+NullRegisters =
+    (s : Store) → Made s → (cs : List Call) (n k : ℕ)
+    → freeRegister (freeSession (freeAfter s cs) n) k ≡ null → getD (sessionAt (after s cs) n .registers) k null ≡ null

@@ -20,5 +20,5 @@ pub mod Tracking
 pub mod Script
 -- Examples
 pub mod Examples
--- What is claimed of all of it
+-- What is claimed of all of it, and what crates above may go by
 pub mod Claims

@@ -4,15 +4,16 @@ use mathlib.Core.Path.{_≡_, refl, sym, _∙_}
 use mathlib.Core.Logic.{_≢_}
 use mathlib.Core.Bool.{true, false}
 use native.Mathlib.Omega.{arith}
+use lib.ListN.{length}
 use borrow.Author.Tests.{eq-eqb, ne-eqb, le-leb}
-use Rattle.rules.specs.Memory.{Memory, null, halfOf, inHalf, white, black, colour, replica, copyOf}
+use Rattle.rules.specs.Memory.{Memory, null, halfOf, inHalf, white, black, colour, replica, copyOf, size, sizeOf}
 use Rattle.rules.specs.Control.{Store}
 use Rattle.rules.specs.Cycle.{stage, atReclaim}
 use Rattle.rules.specs.Phases.{otherHalf, fromspace, tospace}
-use Rattle.rules.specs.Free.{Free}
+use Rattle.rules.specs.Free.{Free, recordAt}
 use Rattle.rules.proofs.memory.Cases.{eq-or}
 use Rattle.rules.proofs.memory.Encoding.{half-below-2, other-below-2, other-differs, other-other, only-other}
-use Rattle.rules.proofs.memory.Records.{Start, start-nonnull, start-from-2}
+use Rattle.rules.proofs.memory.Records.{Start, start-nonnull, start-from-2, size-fields}
 use Rattle.rules.proofs.invariant.Stages.{stHeapMark, stAllocate, stStackFlip, stReclaim, stage-is, phase-is}
 use Rattle.rules.proofs.invariant.Words.{In, Ok, ok-null, ok-start, Names, Clean, fwd}
 use Rattle.rules.proofs.invariant.Sim.{Sim}
@@ -79,6 +80,16 @@ module _ {K : ℕ → Type 0} {m : ℕ → ℕ} {s : Store} {f : Free} (h : Sim 
 
   pub other-not : other ≢ s .current
   other-not = other-differs (s .current) cur-two
+
+  -- only null has place 0
+  pub place-null : {v : ℕ} → Ok (s .memory) v → m v ≡ null → v ≡ null
+  place-null (ok-null e) z = e
+  place-null {v} (ok-start t) z = let l = h .identity .low v t in absurd (omega arith)
+
+  -- a record has as many words as the one that it stands for
+  pub place-size : {v : ℕ} → Start (s .memory) v → sizeOf (length (recordAt f (m v) .refs)) (length (recordAt f (m v) .plains)) ≡ size (s .memory) v
+  unfolding recordAt
+  place-size {v} t = rw (h .identity .nrefs v t, h .identity .nplains v t) (sym (size-fields (s .memory) v))
 
   -- what is marked after HeapMark is black
   pub marked-black : stHeapMark < stage (s .phase) → stage (s .phase) ≤ stStackFlip → {v : ℕ} → In (s .memory) (s .current) v → colour (s .memory) v ≢ white → colour (s .memory) v ≡ black

@@ -1,10 +1,12 @@
 -- Case analysis as functions, so that a proof goes by cases inside a term, a recursive call in the arms too.
 use Prim.Native.Nat.{ℕ, _≤_, _<_}
-use mathlib.Core.Path.{_≡_, refl}
+use mathlib.Core.Path.{_≡_, refl, sym, _∙_}
 use mathlib.Core.Logic.{_≢_, _⊎_, inl, inr}
 use mathlib.Core.Bool.{Bool, true, false, cond}
 use native.Mathlib.Decide.{decLt, ℕ-discrete}
 use native.Mathlib.Omega.{arith}
+use lib.Dec.{eqb}
+use borrow.Author.Tests.{eq-eqb, ne-eqb}
 
 on-dec : {A C : Type 0} → Dec A → (A → C) → (¬ A → C) → C
 on-dec (yes a) f g = f a
@@ -34,3 +36,12 @@ either (inr y) f g = g y
 pub chosen-below : (b : Bool) (x y n : ℕ) → x ≤ n → y ≤ n → cond b x y ≤ n
 chosen-below true x y n p q = p
 chosen-below false x y n p q = q
+
+-- tests of two numbers that are equal where those of two others are
+pub same-test : (a b c d : ℕ) → (a ≡ b → c ≡ d) → (c ≡ d → a ≡ b) → eqb a b ≡ eqb c d
+same-test a b c d f g = eq-or a b
+    (λ e. eq-eqb a b e ∙ sym (eq-eqb c d (f e)))
+    (λ n. ne-eqb a b n ∙ sym (ne-eqb c d (λ e. n (g e))))
+
+pub eqb-swap : (a b : ℕ) → eqb a b ≡ eqb b a
+eqb-swap a b = same-test a b b a (λ e. sym e) (λ e. sym e)

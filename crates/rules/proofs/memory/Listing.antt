@@ -131,7 +131,7 @@ map-at m (v ∷ vs) zero l = refl
 map-at m (v ∷ vs) (suc i) l = map-at m vs i (omega arith)
 
 -- the words of a record of the collector-free store
-abbrev wordsOf : Free → ℕ → ℕ
+abbrev pub wordsOf : Free → ℕ → ℕ
 wordsOf f q = sizeOf (length (recordAt f q .refs)) (length (recordAt f q .plains))
 
 map-words : (f : Free) (m : ℕ → ℕ) (vs : List ℕ) → wordsAt f (map m vs) ≡ sumOver (λ v. wordsOf f (m v)) vs

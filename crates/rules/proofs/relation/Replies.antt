@@ -37,7 +37,7 @@ unfolding NeverRefuses
 passed-unrefused o h = h
 
 -- refusals differ where their numbers do
-abbrev numberIn : Reply → ℕ
+abbrev pub numberIn : Reply → ℕ
 numberIn (answer a) = numberOf a
 numberIn (words ws) = 0
 

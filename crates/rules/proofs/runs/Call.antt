@@ -1,6 +1,6 @@
 -- One call on both stores: the invariant is kept, session answers are equal, and no call is refused with 4 or 12.
 use Prim.Native.Nat.{ℕ, suc}
-use mathlib.Core.Path.{_≡_, refl, sym, ap, fun-ext, subst}
+use mathlib.Core.Path.{_≡_, refl, sym, ap, _∙_, fun-ext, subst}
 use mathlib.Core.Logic.{_≢_}
 use mathlib.Core.Bool.{true, cond, true≢false}
 use mathlib.Core.List.{List}
@@ -15,7 +15,6 @@ use Rattle.rules.specs.Tracking.{Beside, track, besideCall}
 use Rattle.rules.specs.declared.Answer.the-variants.{Refused, Done, Phase}
 use Rattle.rules.proofs.invariant.Sim.{Sim}
 use Rattle.rules.proofs.relation.Tracks.{tracked, Tracks, tracks-none}
-use Rattle.rules.proofs.relation.Tracks.{Tracks}
 use Rattle.rules.proofs.relation.Alike.{Alike, Both, refused-both, passed-both}
 use Rattle.rules.proofs.relation.Replies.{NeverRefuses, passed-unrefused, refusal-number, unrefused, attach-ends, detach-ends, safe-point-ends, allocate-ends, load-ends, store-ends, read-ends, write-ends, move-ends, clear-ends, same-ends, get-ends, put-ends}
 use Rattle.rules.proofs.sessions.Registers.{move-alike, clear-alike, get-alike}
@@ -81,6 +80,10 @@ free-same : (f : Free) (t : Tested FreeSession) → settle f (t >>= λ x. done f
 free-same f (refused n) = refl
 free-same f (passed x) = refl
 
+free-reply : (f : Free) (t : Tested FreeSession) → settle f (t >>= λ x. done f) .reply ≡ answer (doneOr t)
+free-reply f (refused n) = refl
+free-reply f (passed x) = refl
+
 -- ---- every call
 
 -- what is shown of a call beside the collector-free store
@@ -102,6 +105,11 @@ of-kept b c e k = record { sim = rw e (k .sim); reply = λ z. k .reply; not-4 = 
 module _ {K : ℕ → Type 0} (b : Beside) (h : Sim K (b .place) (b .store) (b .free)) where
   abbrev s : Store
   s = b .store
+
+  pub safe-point-reply : (n : ℕ) → apply s (SafePoint n) .reply ≡ answer (doneOr (freeSessionOf (b .free) n))
+  safe-point-reply n =
+      let k = settled h (safe-point-ends s n) (safe-point-alike h n (b .place (walked s))) in
+      k .reply ∙ free-reply (b .free) (freeSessionOf (b .free) n)
 
   safe-point-call : (n : ℕ) → CallKept K b (SafePoint n)
   unfolding track tracked

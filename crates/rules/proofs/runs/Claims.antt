@@ -1,18 +1,23 @@
--- The claims about runs: answers, no damage, ranges, halves without gaps, two runs, what is freed.
+-- The claims about runs: answers, no damage, ranges, halves without gaps, two runs, what is freed, what crates above go by.
 use Prim.Native.Nat.{ℕ}
+use mathlib.Core.Path.{sym, _∙_}
 use mathlib.Core.List.{List}
 use Rattle.rules.specs.Control.{Store}
 use Rattle.rules.specs.Runs.{Call}
+use Rattle.rules.specs.Phases.{sessionAt}
+use Rattle.rules.specs.Free.{freeSession, freeRegister}
 use Rattle.rules.specs.Tracking.{newBeside, beside}
-use Rattle.rules.specs.Claims.{Made, Answers, NoDamage, StaysInRange, Filled, TwoRuns, Freed, StaysFreed}
+use Rattle.rules.specs.Claims.{Made, Answers, NoDamage, StaysInRange, Filled, TwoRuns, Freed, StaysFreed, NextAnswer, SafePointAnswer, LiveFits, NullRegisters}
 use Rattle.rules.proofs.Ranges.{in-range-tested}
+use Rattle.rules.proofs.invariant.Laws.{place-null}
 use Rattle.rules.proofs.claims.TwoRuns as pair
 use Rattle.rules.proofs.runs.Start.{start-sim}
-use Rattle.rules.proofs.runs.Call.{one-call}
+use Rattle.rules.proofs.runs.Call.{one-call, safe-point-reply}
 use Rattle.rules.proofs.runs.Runs.{Holds, run-holds, beside-store, run-answers}
 use Rattle.rules.proofs.runs.Filled.{filled-half}
 use Rattle.rules.proofs.runs.Freed.{freed-between}
 use Rattle.rules.proofs.runs.StaysFreed.{freed-after}
+use Rattle.rules.proofs.runs.LiveFits.{reached-fits}
 
 -- every place may stay
 abbrev Any : ℕ → Type 0
@@ -56,3 +61,26 @@ pub stays-freed : StaysFreed
 unfolding StaysFreed
 stays-freed s made cs ds begins ends =
     freed-after (beside (newBeside s) cs) (holds s made cs) (rw (beside-store (newBeside s) cs) begins) ds (rw (beside-store (newBeside s) cs) ends)
+
+-- ---- for crates above
+
+pub next-answer : NextAnswer
+unfolding NextAnswer
+next-answer s made cs c session =
+    let k = one-call (beside (newBeside s) cs) (holds s made cs) c in
+    rw (← beside-store (newBeside s) cs) (k .reply session)
+
+pub safe-point-answer : SafePointAnswer
+unfolding SafePointAnswer
+safe-point-answer s made cs n =
+    rw (← beside-store (newBeside s) cs) (safe-point-reply (beside (newBeside s) cs) (holds s made cs) n)
+
+pub live-fits : LiveFits
+unfolding LiveFits
+live-fits s made cs qs reached once = rw (← beside-store (newBeside s) cs) (reached-fits (holds s made cs) qs reached once)
+
+pub null-registers : NullRegisters
+unfolding NullRegisters freeSession freeRegister sessionAt
+null-registers s made cs n k e =
+    let h = holds s made cs in
+    rw (← beside-store (newBeside s) cs) (place-null h (h .roots .reg-ok n k) (sym (h .roots .reg-is n k) ∙ e))

@@ -6,7 +6,7 @@ use mathlib.Core.Logic.{_≢_, inl, inr}
 use mathlib.Core.List.{List, _∷_, List·Memᴰ}
 use native.Mathlib.Omega.{arith}
 use lib.ListN.{getD, length, List·getD-eq-default}
-use Rattle.rules.specs.Memory.{null, halfOf, size, sizeOf, refs, plains}
+use Rattle.rules.specs.Memory.{null}
 use Rattle.rules.specs.Control.{withList}
 use Rattle.rules.specs.Cycle.{stage, atRest}
 use Rattle.rules.specs.Phases.{moveOn, nextPhase}
@@ -16,13 +16,13 @@ use Rattle.rules.specs.Free.{Record, noRecord, recordAt, freeSession, fr
 use Rattle.rules.specs.Tracking.{Beside, track, besideCall, beside, by-register, by-global, by-field}
 use Rattle.rules.specs.Claims.{Living, FreedBetween, leftIn, placesIn}
 use Rattle.rules.proofs.Ranges.{in-range-tested}
-use Rattle.rules.proofs.memory.Records.{Start, size-fields}
+use Rattle.rules.proofs.memory.Records.{Start}
 use Rattle.rules.proofs.memory.Empty.{empty-none}
 use Rattle.rules.proofs.memory.Listing.{mapped-start, mapped-once, mapped-words}
 use Rattle.rules.proofs.invariant.Stages.{stPreMark1, stage-is}
 use Rattle.rules.proofs.invariant.Words.{recOf}
 use Rattle.rules.proofs.invariant.Marking.{Kept}
-use Rattle.rules.proofs.invariant.Laws.{cur-two, in-or}
+use Rattle.rules.proofs.invariant.Laws.{cur-two, in-or, place-size}
 use Rattle.rules.proofs.relation.Tracks.{tracked, tracks-none}
 use Rattle.rules.proofs.runs.Call.{one-call}
 use Rattle.rules.proofs.runs.Runs.{Holds, run-holds, beside-store}
@@ -116,16 +116,11 @@ module _ {K : ℕ → Type 0} {e : Beside} (h : Holds K e) (z : e .store .phase 
       (h .kept .left-at-rest (stage-is z) v)
       (λ o. absurd (empty-none (rw (o .side) (h .pairs .empty (omega (arith, stage-is z)))) t))
 
-  sizes : (v : ℕ) → Start (e .store .memory) v → halfOf v ≡ e .store .current
-      → sizeOf (length (recordAt (e .free) (e .place v) .refs)) (length (recordAt (e .free) (e .place v) .plains)) ≡ size (e .store .memory) v
-  unfolding recordAt
-  sizes v t side = rw (h .identity .nrefs v t, h .identity .nplains v t) (sym (size-fields (e .store .memory) v))
-
   ended : (b : Beside) → ((q : ℕ) → K q → Living (b .free) q) → FreedBetween b e (leftIn e)
   ended b k = record {
     kept = λ q i. k q (all-listed h ended-kept (cur-two h) q i);
     once = mapped-once (h .filled) (cur-two h) (e .place) (λ u v t a w c. h .identity .apart u v t w (a ∙ sym c));
-    used = sym (mapped-words (h .filled) (cur-two h) (e .place) (e .free) sizes);
+    used = sym (mapped-words (h .filled) (cur-two h) (e .place) (e .free) (λ v t side. place-size h t));
     emptied = h .pairs .empty (omega (arith, stage-is z));
   }
 

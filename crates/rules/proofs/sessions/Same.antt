@@ -17,7 +17,7 @@ use Rattle.rules.specs.Calls as calls
 use Rattle.rules.specs.Calls.{isRegister}
 use Rattle.rules.specs.Free.{Free, freeSame}
 use Rattle.rules.specs.declared.Session.{Session}
-use Rattle.rules.proofs.memory.Cases.{eq-or, lt-or}
+use Rattle.rules.proofs.memory.Cases.{eq-or, lt-or, same-test, eqb-swap}
 use Rattle.rules.proofs.memory.Encoding.{half-below-2, only-other}
 use Rattle.rules.proofs.memory.Records.{start-nonnull}
 use Rattle.rules.proofs.invariant.Stages.{stCopy, stStackFlip, stReclaim, in-stage}
@@ -32,16 +32,6 @@ use Rattle.rules.proofs.relation.Alike.{Alike, both-check, both-passes,
 use Rattle.rules.proofs.relation.Tests.{both-session}
 use Rattle.rules.proofs.sessions.Session.{WordFits}
 use Rattle.rules.proofs.sessions.Registers.{held-fits}
-
--- ---- tests
-
-same-test : (a b c d : ℕ) → (a ≡ b → c ≡ d) → (c ≡ d → a ≡ b) → eqb a b ≡ eqb c d
-same-test a b c d f g = eq-or a b
-    (λ e. eq-eqb a b e ∙ sym (eq-eqb c d (f e)))
-    (λ n. ne-eqb a b n ∙ sym (ne-eqb c d (λ e. n (g e))))
-
-eqb-swap : (a b : ℕ) → eqb a b ≡ eqb b a
-eqb-swap a b = same-test a b b a (λ e. sym e) (λ e. sym e)
 
 -- whether a word is in half h
 side-or : {M : Memory} {v : ℕ} (h : ℕ) → Ok M v → {C : Type 0}

@@ -51,12 +51,12 @@ use Rattle.store.proofs.Control.step as step
 use Rattle.store.proofs.Control.step.Reads as step-reads
 
 -- lent words
-abbrev Slice : Type 0
+abbrev pub Slice : Type 0
 Slice = RefT (List ℕ)
 
 -- At these arguments, result and last values of what is lent by `&mut`, a method asks nothing, and what its caller learns gives P.
 -- A last value is tt where the method can change nothing.
-abbrev Gives : (T : Ended) → ((κs : Lfts (T .signature .lifetimes)) → Args (T .signature) κs → Type 0)
+abbrev pub Gives : (T : Ended) → ((κs : Lfts (T .signature .lifetimes)) → Args (T .signature) κs → Type 0)
     → ((κs : Lfts (T .signature .lifetimes)) → Args (T .signature) κs → Res (T .signature) κs → AtExit T κs → Type 0)
     → (κs : Lfts (T .signature .lifetimes)) (a : Args (T .signature) κs) → Res (T .signature) κs → Lasts T κs a → Type 0 → Type 0
 Gives T Asked Learnt κs a r ws P = Asked κs a × (Learnt κs a r (atExit T κs a ws) → P)
