@@ -1,0 +1,55 @@
+-- A run of every directory call, collector steps between them, computed by the checker: what the calls answer, and that the table
+-- answers the same.
+use Prim.Native.Nat.{ℕ}
+use mathlib.Core.Path.{_≡_, refl}
+use mathlib.Core.List.{List, [], _∷_, _++_, map}
+use lib.ListN.{replicate}
+use Rattle.rules.specs.Control.{Store, newStore}
+use Rattle.rules.specs.Barriers.{putWrites}
+use Rattle.rules.specs.Calls as calls
+use Rattle.rules.specs.Runs.{Step}
+use Rattle.rules.proofs.Examples.{rules}
+use Rattle.directory_rules.specs.Table.{Request, Open, Add, Remove, Make, Join, Leave, Members, Given, newTable, tableNext, known}
+use Rattle.directory_rules.specs.Directory.{directoryCall, fedNumber, program, append, adding, making, grouping, pairing, joining, leaving, removing, listing, entries, members}
+use Rattle.directory_rules.specs.Runs.{Item, call, request, directoryRun, tableRun, feedsOf}
+
+-- halves of 64 words
+box : Store
+box = newStore (record { half0 = 64; half1 = 64; list = 21 }) (replicate 64 0) (replicate 64 0) (replicate 21 0)
+
+requests : List Request
+requests =
+    Add 7 ∷ Open ∷ Open ∷ Add 7 ∷ Add 3 ∷ Add 100000000 ∷ Add 3 ∷ Make 7 ∷ Make 2 ∷ Make 7 ∷ Join 3 7 ∷ Join 7 7 ∷ Join 7 2 ∷ Join 5 7
+    ∷ Leave 3 2 ∷ Leave 3 7 ∷ Join 3 7 ∷ Members 7 (1 ∷ 1 ∷ 1 ∷ []) ∷ Members 7 (1 ∷ []) ∷ Remove 7 ∷ Members 7 (1 ∷ []) ∷ Remove 7
+    ∷ Add 8 ∷ Add 9 ∷ Add 10 ∷ Add 11 ∷ Add 12 ∷ []
+
+-- a step after each
+items : List Request → List Item
+items [] = []
+items (q ∷ qs) = request q ∷ call Step ∷ items qs
+
+-- what they answer: a number and nothing else, or members
+only : ℕ → Given
+only n = record { number = n; count = 0; words = [] }
+
+listed : ℕ → List ℕ → Given
+listed k ws = record { number = 0; count = k; words = ws }
+
+answers : List Given
+answers =
+    map only (6 ∷ 0 ∷ 7 ∷ 0 ∷ 0 ∷ 23 ∷ 24 ∷ 0 ∷ 0 ∷ 24 ∷ 0 ∷ 0 ∷ 0 ∷ 23 ∷ 25 ∷ 0 ∷ 0 ∷ [])
+    ++ (listed 2 (7 ∷ 3 ∷ 1 ∷ []) ∷ listed 2 (7 ∷ []) ∷ only 0 ∷ listed 1 (3 ∷ []) ∷ [])
+    ++ map only (23 ∷ 0 ∷ 0 ∷ 0 ∷ 0 ∷ 14 ∷ [])
+
+-- opens every definition that the run computes with
+unfoldable directory : Unit {0}
+unfolding rules putWrites calls.get calls.putPlan calls.putCommit calls.put calls.move directoryCall fedNumber program append adding making grouping pairing joining leaving removing listing entries members tableNext known box requests items only listed answers
+directory = tt
+
+directory-example : directoryRun box (items requests) ≡ answers
+unfolding directory
+directory-example = refl
+
+table-example : tableRun newTable (feedsOf box (items requests)) ≡ answers
+unfolding directory
+table-example = refl

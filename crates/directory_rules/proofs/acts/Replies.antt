@@ -1,0 +1,97 @@
+-- Which refusals may come before and after something is written: a store call that is no allocation is refused by none of the tests' numbers.
+use Prim.Native.Nat.{ℕ}
+use mathlib.Core.Path.{_≡_, refl, sym, _∙_}
+use mathlib.Core.Logic.{_≢_}
+use mathlib.Core.Bool.{Bool, true, false, cond, not, _&&_, _||_, true≢false, and-false}
+use mathlib.Core.List.{List, [], _∷_, List·Memᴰ, List·Memᴰ·head, List·Memᴰ·tail}
+use lib.Dec.{eqb}
+use borrow.Author.Tests.{eqb-true}
+use Rattle.rules.specs.Refusals.{Reply, answer, words}
+use Rattle.rules.specs.Control.{Store}
+use Rattle.rules.specs.Runs.{Call, isAllocation, apply}
+use Rattle.rules.specs.Claims.{storeNumbers, Numbers}
+use Rattle.rules.specs.declared.Answer.the-variants.{Refused, Done, Word, Same, Phase}
+use Rattle.rules.proofs.Ranges.{both}
+use Rattle.rules.proofs.memory.Cases.{bool-or}
+use Rattle.rules.proofs.relation.Replies.{isRefusal}
+use Rattle.rules.proofs.claims.Numbers.{numbers}
+use Rattle.directory_rules.specs.Acts.{Act, stop, give, _>>=_, orStop, Found, ended, failed, word, foundIn, atNull}
+use Rattle.directory_rules.specs.Claims.{byTests}
+
+-- late says whether something may have been written: then none of the tests' numbers fits
+abbrev pub Fits : Bool → ℕ → Type 0
+Fits late n = (byTests n && late) ≡ false
+
+pub data ReplyFits (late : Bool) : Reply → Type 0 where
+  refusal : (n : ℕ) → Fits late n → ReplyFits late (answer (Refused n))
+  other : (r : Reply) → isRefusal r ≡ false → ReplyFits late r
+
+pub data FoundFits (late : Bool) : Found → Type 0 where
+  at-end : FoundFits late ended
+  at-failure : (n : ℕ) → Fits late n → FoundFits late (failed n)
+  at-word : (w : ℕ) → FoundFits late (word w)
+
+null-fits : {late : Bool} (b : Bool) (n : ℕ) → Fits late n → FoundFits late (cond b ended (failed n))
+null-fits true n e = at-end
+null-fits false n e = at-failure n e
+
+word-fits : {late : Bool} (r : Reply) → isRefusal r ≡ false → FoundFits late (foundIn r)
+word-fits (answer (Refused n)) e = absurd (true≢false e)
+word-fits (answer Done) e = at-word 0
+word-fits (answer (Word w)) e = at-word w
+word-fits (answer (Same b)) e = at-word 0
+word-fits (answer (Phase p)) e = at-word 0
+word-fits (words ws) e = at-word 0
+
+pub found-fits : {late : Bool} {r : Reply} → ReplyFits late r → FoundFits late (foundIn r)
+found-fits (refusal n e) = null-fits (eqb n atNull) n e
+found-fits (other r e) = word-fits r e
+
+pub or-stop-other : (r : Reply) → isRefusal r ≡ false → orStop r ≡ give tt
+or-stop-other (answer (Refused n)) e = absurd (true≢false e)
+or-stop-other (answer Done) e = refl
+or-stop-other (answer (Word w)) e = refl
+or-stop-other (answer (Same b)) e = refl
+or-stop-other (answer (Phase p)) e = refl
+or-stop-other (words ws) e = refl
+
+-- early, every reply fits
+pub early-fits : (r : Reply) → ReplyFits false r
+early-fits (answer (Refused n)) = refusal n (and-false (byTests n))
+early-fits (answer Done) = other (answer Done) refl
+early-fits (answer (Word w)) = other (answer (Word w)) refl
+early-fits (answer (Same b)) = other (answer (Same b)) refl
+early-fits (answer (Phase p)) = other (answer (Phase p)) refl
+early-fits (words ws) = other (words ws) refl
+
+-- what follows a call that must be made, by its reply
+pub or-stop-either : {A : Type 0} (P : Act A → Type 0) (k : Unit {0} → Act A) {r : Reply} → ReplyFits false r → ((n : ℕ) → r ≡ answer (Refused n) → P (stop n)) → P (k tt)
+    → P (orStop r >>= k)
+or-stop-either P k (refusal n e) f g = f n refl
+or-stop-either P k (other r e) f g = rw (or-stop-other r e) g
+
+-- a call that is no allocation is refused by none of the tests' numbers
+abbrev every : (ℕ → Bool) → List ℕ → Bool
+every f [] = true
+every f (n ∷ ns) = f n && every f ns
+
+every-at : (f : ℕ → Bool) {n : ℕ} {ns : List ℕ} → List·Memᴰ n ns → every f ns ≡ true → f n ≡ true
+every-at f {n} {ns} (List·Memᴰ·head {x} {xs} e) h = rw e (both (f x) (every f xs) h .0)
+every-at f (List·Memᴰ·tail {x} {xs} i) h = every-at f i (both (f x) (every f xs) h .1)
+
+number-fits : (n : ℕ) → List·Memᴰ n storeNumbers → n ≢ 14 → Fits true n
+number-fits n i d =
+    let e = every-at (λ k. not (byTests k) || eqb k 14) i refl in
+    bool-or (byTests n) (λ t. absurd (d (eqb-true n 14 (rw t at e)))) (λ t. rw t)
+
+reply-fits : (c : Call) → isAllocation c ≡ false → (r : Reply) → ((n : ℕ) → r ≡ answer (Refused n) → List·Memᴰ n storeNumbers × (n ≡ 14 → isAllocation c ≡ true)) → ReplyFits true r
+reply-fits c a (answer (Refused n)) h = refusal n (number-fits n (h n refl .0) (λ e. true≢false (sym (h n refl .1 e) ∙ a)))
+reply-fits c a (answer Done) h = other (answer Done) refl
+reply-fits c a (answer (Word w)) h = other (answer (Word w)) refl
+reply-fits c a (answer (Same b)) h = other (answer (Same b)) refl
+reply-fits c a (answer (Phase p)) h = other (answer (Phase p)) refl
+reply-fits c a (words ws) h = other (words ws) refl
+
+pub late-fits : (s : Store) (c : Call) → isAllocation c ≡ false → ReplyFits true (apply s c .reply)
+unfolding Numbers
+late-fits s c a = reply-fits c a (apply s c .reply) (numbers s c)

@@ -1,0 +1,106 @@
+-- The table carried along a run: every directory call answers as the table does, and leaves the session's registers null.
+use Prim.Native.Nat.{ℕ, _≤_}
+use mathlib.Core.Path.{_≡_, refl, ap, _∙_}
+use mathlib.Core.Bool.{true}
+use mathlib.Core.List.{List, [], _∷_}
+use native.Mathlib.Omega.{arith}
+use lib.ListN.{getD}
+use Rattle.rules.specs.Memory.{null}
+use Rattle.rules.specs.Control.{Store}
+use Rattle.rules.specs.Phases.{sessionAt}
+use Rattle.rules.specs.Runs.{Call, apply, fedBy}
+use Rattle.rules.specs.Free.{Free, newFree}
+use Rattle.rules.specs.Claims.{Made, NullRegisters}
+use Rattle.rules.proofs.Ranges.{both}
+use Rattle.rules.proofs.runs.Claims.{null-registers}
+use Rattle.directory_rules.specs.Table.{Request, Open, Add, Remove, Make, Join, Leave, Members, Table, newTable, tableNext, tableGiven, tableAfter}
+use Rattle.directory_rules.specs.Acts.{ownSession, roomNumber}
+use Rattle.directory_rules.specs.Directory.{programOn, givenOf, directoryCall, fedNumber}
+use Rattle.directory_rules.specs.Runs.{Item, call, request, others, allowed, afterItems, directoryRun, feedsOf, tableRun}
+use Rattle.directory_rules.specs.Claims.{allocating, TableAnswers, Cleared}
+use Rattle.directory_rules.proofs.acts.Few.{few-program}
+use Rattle.directory_rules.proofs.chains.Core.{Layout, Represents}
+use Rattle.directory_rules.proofs.calls.Request.{request-kept}
+use Rattle.directory_rules.proofs.free.Feeds.{fedOf, room-feeds}
+use Rattle.directory_rules.proofs.runs.Beside.{Here, here-new, here-call}
+use Rattle.directory_rules.proofs.runs.Performs.{performs, few-fed}
+use Rattle.directory_rules.proofs.runs.Others.{others-kept}
+use Rattle.directory_rules.proofs.runs.Length.{core-short}
+use Rattle.directory_rules.proofs.runs.Start.{emptyLayout, start-represents}
+
+-- a store t of a run from s, where the table is u
+pub record State (s t : Store) (u : Table) : Type 0 where
+  pub free : Free
+  pub here : Here s t free
+  pub layout : Layout
+  pub represents : Represents free layout u
+
+state-new : (s : Store) → State s s newTable
+state-new s = record { free = newFree; here = here-new s; layout = emptyLayout; represents = start-represents }
+
+-- ---- one item more
+
+-- a call of another session, or a step
+state-call : {s t : Store} {u : Table} → State s t u → (c : Call) → others c ≡ true → State s (apply t c .store) u
+state-call {t = t} a c e = record {
+  free = _;
+  here = here-call (a .here) c;
+  layout = a .layout;
+  represents = others-kept c (fedBy (apply t c .reply)) e (a .represents);
+}
+
+one-at-most : (q : Request) → allocating q ≤ 1
+one-at-most Open = omega arith
+one-at-most (Add n) = omega arith
+one-at-most (Remove n) = omega arith
+one-at-most (Make g) = omega arith
+one-at-most (Join n g) = omega arith
+one-at-most (Leave n g) = omega arith
+one-at-most (Members g out) = omega arith
+
+-- a directory call
+pub record RequestAnswered (s t : Store) (u : Table) (q : Request) : Type 0 where
+  pub given : directoryCall t q .given ≡ tableGiven q (tableNext u q (fedNumber t q))
+  pub state : State s (directoryCall t q .store) (tableAfter u (tableNext u q (fedNumber t q)))
+
+pub state-request : {s t : Store} {u : Table} → Made s → State s t u → (q : Request) → RequestAnswered s t u q
+unfolding directoryCall fedNumber
+state-request {s} {t} {u} made a q =
+    let n : ℕ = roomNumber t (programOn t q) in
+    let p = performs (a .here) made (fedOf n) (programOn t q) (few-fed (few-program t (t .lengths .half0) q) (one-at-most q)) in
+    let k = request-kept (room-feeds t (programOn t q)) (a .represents) (core-short made (a .here) (a .represents .core)) q in
+    record {
+      given = ap (givenOf q) (p .result) ∙ k .given;
+      state = record { free = _; here = p .here; layout = k .layout; represents = k .represents };
+    }
+
+-- ---- all items
+
+module _ {s : Store} (made : Made s) where
+  run-answers : {t : Store} {u : Table} → State s t u → (xs : List Item) → allowed xs ≡ true → directoryRun t xs ≡ tableRun u (feedsOf t xs)
+  run-answers a [] e = refl
+  run-answers {t} a (call c ∷ xs) e = let z = both (others c) (allowed xs) e in run-answers (state-call a c (z .0)) xs (z .1)
+  run-answers {t} {u} a (request q ∷ xs) e =
+      let k = state-request made a q in
+      rw (k .given, run-answers (k .state) xs e)
+
+  run-state : {t : Store} {u : Table} → State s t u → (xs : List Item) → allowed xs ≡ true → (v : Table) × State s (afterItems t xs) v
+  run-state {u = u} a [] e = (u, a)
+  run-state a (call c ∷ xs) e = let z = both (others c) (allowed xs) e in run-state (state-call a c (z .0)) xs (z .1)
+  run-state a (request q ∷ xs) e = run-state (state-request made a q .state) xs e
+
+  pub items-state : (xs : List Item) → allowed xs ≡ true → (v : Table) × State s (afterItems s xs) v
+  items-state xs e = run-state (state-new s) xs e
+
+  -- the session's registers, as words
+  pub state-cleared : {t : Store} {u : Table} → State s t u → (k : ℕ) → getD (sessionAt t ownSession .registers) k null ≡ null
+  unfolding NullRegisters
+  state-cleared a k = rw (a .here .store) at (null-registers s made (a .here .calls) ownSession k (rw (a .here .free) (a .represents .cleared k)))
+
+pub table-answers : TableAnswers
+unfolding TableAnswers
+table-answers s made xs e = run-answers made (state-new s) xs e
+
+pub cleared : Cleared
+unfolding Cleared
+cleared s made xs e k = state-cleared made (items-state made xs e .1) k

@@ -1,0 +1,12 @@
+-- The school directory as definitions, and what is claimed of it.
+
+-- the plain table of people, groups and pairs: what a school sees
+pub mod Table
+-- store calls of session 15, each chosen by the answers to those before it
+pub mod Acts
+-- the directory's calls, as such acts
+pub mod Directory
+-- runs with directory calls, beside the table
+pub mod Runs
+-- what is claimed of all of it
+pub mod Claims
