@@ -1,5 +1,5 @@
-// The call of a case: its kind is the case's first word, its arguments are the next four. Kind 0 is making, 1 to 14 are
-// those of the script, 15 is the stretch, 16 its companion.
+// The store's call of a case: its kind is the case's first word, its arguments are the next four. Kind 0 is making, 1 to 14
+// are those of the script, 15 is the stretch, 16 its companion; 116 to 122 are the directory's (requests.rt).
 use crate::CASE;
 use crate::STRETCH;
 use store::Control;

@@ -1,11 +1,13 @@
-// A program for tests: it puts any control record and any words before a call of the store, and writes all that comes
-// out. Its input is a row of cases, each in 32-bit words, big-endian: CASE words (kind and arguments of the call, lent
-// lengths, control record), then the words of half 0, half 1 and the list as far as they are lent. For each case it
-// writes REPLY words (refusal number, value, control record), the lent words, and a count with the words of a stretch.
-// tests/probe.py has both layouts. A case that is cut short or lends too much ends the program.
+// A program for tests: it puts any control record and any words before a call of the store or of the directory, and
+// writes all that comes out. Its input is a row of cases, each in 32-bit words, big-endian: CASE words (kind and arguments
+// of the call, lent lengths, control record), then the words of half 0, half 1 and the list as far as they are lent. For
+// each case it writes REPLY words (refusal number, value, control record), the lent words, and a count with the words of
+// a stretch, or with those that a list of the directory was lent. tests/probe.py has both layouts. A case that is cut
+// short or lends too much ends the program.
 mod words; // words.rt: words read from the input and written to the output
 mod records; // records.rt: the control record out of the words of a case, and into those of a reply
-mod calls; // calls.rt: the call of a case
+mod calls; // calls.rt: the call of a case, of the store
+mod requests; // requests.rt: the call of a case, of the directory
 
 // The words of a case before those that it lends, and the words of a reply before those.
 pub(crate) const CASE: usize = 237;
@@ -28,16 +30,18 @@ fn write_stretch<'a>(
         return words::write_words(&none);
     }
     let part = control.stretch(h0, h1, list, case[1], case[2]);
-    let count = [words::low(part.len()); 1];
-    words::write_words(&count) & words::write_words(part)
+    words::write_counted(part)
 }
 
-// Writes the words of a reply.
-fn write_reply(out: &[u32; REPLY]) -> bool {
-    words::write_words(out)
+// Writes the words of a reply and the lent words.
+pub(crate) fn write_reply(out: &[u32; REPLY], h0: &[u32], h1: &[u32], list: &[u32]) -> bool {
+    let told = words::write_words(out);
+    let halves = words::write_words(h0) & words::write_words(h1);
+    let rest = words::write_words(list);
+    told & halves & rest
 }
 
-// Makes the call of a case on the words lent, and writes what comes out. Answers whether all was written.
+// Makes the store's call of a case on the words lent, and writes what comes out. Answers whether all was written.
 fn make_call(case: &[u32; CASE], h0: &mut [u32], h1: &mut [u32], list: &mut [u32]) -> bool {
     let control = records::control_of(case);
     let reply = calls::call(control, h0, h1, list, case);
@@ -46,10 +50,8 @@ fn make_call(case: &[u32; CASE], h0: &mut [u32], h1: &mut [u32], list: &mut [u32
     let mut out = [0u32; REPLY];
     records::put_answer(&mut out, answer);
     records::put_control(&mut out, next);
-    let told = write_reply(&out);
-    let halves = words::write_words(h0) & words::write_words(h1);
-    let rest = words::write_words(list);
-    told & halves & rest & write_stretch(control, h0, h1, list, case)
+    let told = write_reply(&out, h0, h1, list);
+    told & write_stretch(control, h0, h1, list, case)
 }
 
 // Reads the words that a case lends and makes its call. Answers whether there may be another case.
@@ -59,6 +61,9 @@ fn lend(case: &[u32; CASE], h0: &mut [u32], h1: &mut [u32], list: &mut [u32]) ->
     let third = words::read_words(list);
     if !(first & second & third) {
         return false;
+    }
+    if requests::is_kind(case[0]) {
+        return requests::make_call(case, h0, h1, list);
     }
     make_call(case, h0, h1, list)
 }

@@ -124,12 +124,17 @@ fn value_of(answer: rules::Answer) -> usize {
     }
 }
 
-// The answer: refusal number, and value in two words.
-pub(crate) fn put_answer(out: &mut [u32; REPLY], answer: rules::Answer) {
-    let value = value_of(answer);
-    out[0] = number_of(answer);
+// Refusal number, and value in two words.
+pub(crate) fn put_result(out: &mut [u32; REPLY], number: u32, value: usize) {
+    out[0] = number;
     out[1] = high(value);
     out[2] = low(value);
+}
+
+// The answer of a store call.
+pub(crate) fn put_answer(out: &mut [u32; REPLY], answer: rules::Answer) {
+    let value = value_of(answer);
+    put_result(out, number_of(answer), value);
 }
 
 // Number i of the control record.

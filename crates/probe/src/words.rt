@@ -103,3 +103,9 @@ pub(crate) fn write_words(words: &[u32]) -> bool {
     encode(words, &mut bytes);
     write_bytes(&bytes, m)
 }
+
+// Writes how many words there are, and the words. Answers whether all were written.
+pub(crate) fn write_counted(words: &[u32]) -> bool {
+    let count = [low(words.len()); 1];
+    write_words(&count) & write_words(words)
+}
