@@ -1,6 +1,6 @@
 //! The script program written the usual way: one mutable store, no proofs. It is what the proved program is measured against, so it
 //! makes the same tests in the same order and writes the same lines. It reads the whole script at once and writes 65,536 bytes at a
-//! time, where the proved program reads and writes 4,096. The first argument, if there is one, is the length of a half.
+//! time, where the proved program reads and writes 4,096. plain_directory.rs has the directory over this store. The first argument, if there is one, is the length of a half.
 use std::io::{self, BufWriter, Read, Write};
 
 const LEVELS: [u32; 13] = [0, 1, 2, 2, 2, 3, 4, 4, 5, 6, 6, 6, 0];
@@ -8,7 +8,7 @@ const WHITE: u32 = 0;
 const GREY: u32 = 1;
 const BLACK: u32 = 2;
 
-type Tested<T> = Result<T, u32>;
+pub type Tested<T> = Result<T, u32>;
 
 #[derive(Clone, Copy, Default)]
 struct Session {
@@ -18,7 +18,7 @@ struct Session {
     scanned: bool,
 }
 
-struct Store {
+pub struct Store {
     half: [Vec<u32>; 2],
     list: Vec<u32>,
     frontier: [usize; 2],
@@ -37,7 +37,7 @@ fn test(ok: bool, number: u32) -> Tested<()> {
 }
 
 impl Store {
-    fn new(length: usize) -> Self {
+    pub fn new(length: usize) -> Self {
         Store {
             half: [vec![0; length], vec![0; length]],
             list: vec![0; length / 3],
@@ -172,7 +172,7 @@ impl Store {
         Ok((v, r, p))
     }
 
-    fn call(&mut self, kind: u8, a: &[u32]) -> Tested<u32> {
+    pub fn call(&mut self, kind: u8, a: &[u32]) -> Tested<u32> {
         match kind {
             1 => {
                 self.in_range()?;
@@ -490,7 +490,7 @@ impl Store {
     }
 }
 
-const ARGUMENTS: [usize; 15] = [0, 1, 1, 1, 4, 4, 4, 3, 7, 3, 2, 3, 3, 3, 0];
+pub const ARGUMENTS: [usize; 15] = [0, 1, 1, 1, 4, 4, 4, 3, 7, 3, 2, 3, 3, 3, 0];
 
 /// The bytes of the longest line: a number of 64 bits, two of 32 bits, two spaces and the line's end.
 const LINE: usize = 43;
@@ -514,6 +514,13 @@ fn digits(line: &mut [u8; LINE], end: usize, mut n: u64) -> usize {
     at -= 1;
     line[at] = b'0' + n as u8;
     at
+}
+
+/// Writes a number and one byte after it, for the directory program.
+pub fn decimal(out: &mut impl Write, n: u64, after: u8) -> io::Result<()> {
+    let mut line = [after; LINE];
+    let start = digits(&mut line, LINE - 1, n);
+    out.write_all(&line[start..])
 }
 
 /// Writes the line of entry n: its number, the refusal number or 0, the value.

@@ -34,10 +34,11 @@ NEEDS = {"rt": "it is the Rattle kit's", OURS: "the script program; rt check pro
          TIME: "GNU time; on Debian: apt-get install time"}
 
 
-def check_needs():
-    missing = [f"  {os.path.normpath(what)}: {how}" for what, how in NEEDS.items() if not shutil.which(what)]
-    if missing:
-        sys.exit("\n".join(["bench/run.py: missing, or not executable:"] + missing))
+def missing(who, needs):
+    """Ends with a word on each thing that is needed and not there."""
+    lacking = [f"  {os.path.normpath(what)}: {how}" for what, how in needs.items() if not shutil.which(what)]
+    if lacking:
+        sys.exit("\n".join([f"{who}: missing, or not executable:"] + lacking))
 
 
 def build():
@@ -112,7 +113,7 @@ def growth(title, ours, plain, counts):
 
 
 def main():
-    check_needs()
+    missing("bench/run.py", NEEDS)
     build()
     print(f"{'script':28} {'entries':>7} {'ms ours':>8} {'ms plain':>8} {'instr':>8} {'plain':>8} {'ratio':>6} {'KB ours':>7} {'KB':>7} {'speed':>7}")
     for name, make in WORKLOADS.items():

@@ -6,18 +6,26 @@ of half 0, half 1 and the list. A reply: refusal number, value in two words, the
 list, then a count and that many words of a stretch. A control record: current half; in two words each lengths, frontiers, phase,
 walk place, walk field, and the list's place and end; 32 globals; for each session its registers, level, and whether it is attached
 and scanned.
+
+A call of the directory has 100 and the kind that it has in a directory script, and the arguments that it has there. In the place of a
+stretch its reply has the words that a list was lent: 1000, 1001 and so on, where the list has not written.
 """
 import os
 import struct
 import subprocess
 
+import table
+from directory import Directory
 from sapphire import COMPANION, STRETCH, Sapphire
 from scripts import ARGUMENTS
 
 BUILT = os.path.join(os.path.dirname(os.path.abspath(__file__)), "..", "target", "bin", "probe")
 PROGRAM = os.environ.get("PROBE_PROGRAM", BUILT)
 MAKE = 0
-COUNTS = {MAKE: 0, **ARGUMENTS, STRETCH: 2, COMPANION: 2}  # of arguments, for each kind
+OPEN, ADD, REMOVE, MAKE_GROUP, JOIN, LEAVE, LIST = range(100 + table.OPEN, 100 + table.LIST + 1)
+MOST_LENT = 64  # words that a list may be lent
+COUNTS = {MAKE: 0, **ARGUMENTS, STRETCH: 2, COMPANION: 2,  # of arguments, for each kind
+          OPEN: 0, ADD: 1, REMOVE: 1, MAKE_GROUP: 1, JOIN: 2, LEAVE: 2, LIST: 2}
 CALL = struct.Struct(">8I")
 RECORD = struct.Struct(">I10Q32I176I")
 ANSWER = struct.Struct(">IQ")
@@ -57,18 +65,33 @@ def decode(case, slip=None):
     return store, kind, rest[:COUNTS.get(kind, 0)]
 
 
+def lent(kind, args):
+    """The words that a case lends for a list, before the call."""
+    return list(range(1000, 1000 + args[1])) if kind == LIST else []
+
+
+def ask_directory(store, kind, args, slip=None):
+    """Refusal number and value of a directory call, and the words for a list as it leaves them."""
+    directory = Directory(store, slip)
+    answer = directory.call(kind - 100, args)
+    out = lent(kind, args)
+    return answer[:2], directory.written + out[len(directory.written):]
+
+
 def expected(case, slip=None):
-    """What document 01 gives for a case, as the bytes of the reply."""
+    """What document 01 gives for a case, and for a case of the directory document 02, as the bytes of the reply."""
     store, kind, args = decode(case, slip)
-    answer, stretch = (0, 0), []
+    answer, part = (0, 0), []
     if kind == MAKE:
         number, store = store.make()
         answer = (number, 0)
     elif kind == STRETCH:
-        stretch = store.stretch(*args)
+        part = store.stretch(*args)
+    elif kind >= OPEN:
+        answer, part = ask_directory(store, kind, args, slip)
     else:
         answer = store.call(kind, args)
-    return ANSWER.pack(*answer) + given(store) + words([len(stretch), *stretch])
+    return ANSWER.pack(*answer) + given(store) + words([len(part), *part])
 
 
 def run(data):
@@ -88,3 +111,18 @@ def place(a, b):
     """The first word in which two replies differ."""
     at = next((i for i in range(0, min(len(a), len(b)), 4) if a[i:i + 4] != b[i:i + 4]), min(len(a), len(b)))
     return at // 4
+
+
+def answered(cases):
+    """Runs the program on the cases. Each case with its reply, which must be the documents' to the last word."""
+    written = run(b"".join(case for _, case in cases))
+    at = 0
+    for name, case in cases:
+        want = expected(case)
+        got = written[at:at + len(want)]
+        if got != want:
+            raise SystemExit(f"probe: {name}: the reply differs from the documents' in word {place(got, want)}:\n{told(got)}\n{told(want)}")
+        at += len(want)
+        yield case, want
+    if at != len(written):
+        raise SystemExit(f"probe: the program wrote {len(written)} bytes, not {at}")

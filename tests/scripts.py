@@ -10,13 +10,15 @@ ARGUMENTS = {ATTACH: 1, DETACH: 1, SAFE: 1, ALLOCATE: 4, LOAD: 4, STORE: 4, READ
              PUT: 3, STEP: 0}
 
 
+def body(kind, args):
+    """The bytes of an entry after its length byte."""
+    return bytes([kind]) + bytes(args[:3]) + args[3].to_bytes(4, "big") if kind == WRITE else bytes([kind]) + bytes(args)
+
+
 def encode(entries):
     """The bytes of a script: version 1, then for each entry its length byte, kind byte and argument bytes."""
-    out = bytearray([1])
-    for kind, args in entries:
-        body = bytes([kind]) + bytes(args[:3]) + args[3].to_bytes(4, "big") if kind == WRITE else bytes([kind]) + bytes(args)
-        out += bytes([len(body)]) + body
-    return bytes(out)
+    bodies = (body(kind, args) for kind, args in entries)
+    return b"\x01" + b"".join(bytes([len(entry)]) + entry for entry in bodies)
 
 
 # ---- random scripts

@@ -11,7 +11,7 @@ FOLDERS = ["crates", "docs", "tests", "demo", "bench", "tools"]
 ENDINGS = "antt|rt|py|rs|edit|script|txt|notes|md"
 NAME = re.compile(r"[^\W\d][\w-]*")
 # in the pages' backquotes, but of the kit: its version and what it prints; or for any name
-FOREIGN = {"rattle-kit-5b", "solution", "axioms", "NAME"}
+FOREIGN = {"rattle-kit-5b", "solution", "axioms", "NAME", "REQUEST"}
 
 
 def text_of(path):
@@ -39,6 +39,7 @@ class Known:
             if not path.endswith(".md"):
                 self.words.update(NAME.findall(text_of(path)))
         self.edits = [path for path in self.paths if path.endswith(".edit") and "/must-fail/" in path]
+        self.edited = {path.split("/")[1] for path in self.edits}  # the crates that have some
         self.decisions = [int(number) for number in re.findall(r"^(\d+)\. ", text_of("docs/DECISIONS.md"), re.M)]
 
 
@@ -70,8 +71,8 @@ def bad_names(text, known):
         for name in re.findall(rf"(?<![\w/.-])[^\W\d][\w-]*(?:\.(?:{ENDINGS}))?(?![\w/.-])", quoted):
             if name not in known.files and name not in known.words and not name.startswith("NAME."):
                 yield f"no {name}"
-        for crate, edit in re.findall(r"^(rules|heap|store|script)/([a-z0-9_]+)$", quoted):
-            if f"crates/{crate}/must-fail/{edit}.edit" not in known.edits:
+        for crate, edit in re.findall(r"^([a-z_]+)/([a-z0-9_]+)$", quoted):
+            if crate in known.edited and f"crates/{crate}/must-fail/{edit}.edit" not in known.edits:
                 yield f"no edit {crate}/{edit}"
 
 

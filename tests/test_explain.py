@@ -1,75 +1,18 @@
 #!/usr/bin/env python3
 """`tools/explain`: its words read back are the script's entries and the answers of the store in Python, and the demo prints the day that
 demo/school-day.txt has, whole and in parts."""
-import os
 import re
 import sys
-from collections import Counter
 
-import sapphire
-from explained import DAY, DEMO, need, printed, ran
-from model import ATTACH, DETACH, SAFE, ALLOCATE, LOAD, STORE, READ, WRITE, MOVE, CLEAR, SAME, GET, PUT, STEP
+from explained import DAY, DEMO, check_day, need, printed, ran
+from model import ATTACH, ALLOCATE, STEP
+from reading import REASONS, read_back, refused_in
 from scripts import encode, random_script
 
 sys.path.insert(0, DEMO)
 import school_day  # noqa: E402
 
-# the words of each kind, with the order in which they name a script's arguments
-WORDS = [
-    (ATTACH, r"session (\d+): attach", [0]), (DETACH, r"session (\d+): detach", [0]), (SAFE, r"session (\d+): safe point", [0]),
-    (ALLOCATE, r"session (\d+): allocate (\d+) links?, (\d+) words? into register (\d+)", [0, 3, 1, 2]),
-    (LOAD, r"session (\d+): load link (\d+) of register (\d+) into register (\d+)", [0, 3, 2, 1]),
-    (STORE, r"session (\d+): store register (\d+) in link (\d+) of register (\d+)", [0, 3, 2, 1]),
-    (READ, r"session (\d+): read word (\d+) of register (\d+)", [0, 2, 1]),
-    (WRITE, r"session (\d+): write (\d+) to word (\d+) of register (\d+)", [0, 3, 2, 1]),
-    (MOVE, r"session (\d+): move register (\d+) to register (\d+)", [0, 2, 1]),
-    (CLEAR, r"session (\d+): clear register (\d+)", [0, 1]),
-    (SAME, r"session (\d+): same record in registers (\d+) and (\d+)\?", [0, 1, 2]),
-    (GET, r"session (\d+): get global (\d+) into register (\d+)", [0, 2, 1]),
-    (PUT, r"session (\d+): put register (\d+) in global (\d+)", [0, 2, 1]), (STEP, r"collector step", [])]
-PHASES = "Rest PreMark1 PreMark2 RootMark HeapMark Allocate PreCopy Copy PreFlip1 PreFlip2 RootFlip StackFlip Reclaim".split()
-REASONS = {5: "no such session", 6: "the session is not attached", 7: "the session is attached already", 8: "no such register",
-           9: "no such global", 11: "the register is null", 13: "no such field", 14: "no room"}
 EXAMPLE = "58  session 1: allocate 255 links, 255 words into register 3  -> refused 14, no room"
-
-
-# ---- words read back
-
-def entry_of(words):
-    for kind, pattern, order in WORDS:
-        found = re.fullmatch(pattern, words)
-        if found:
-            return kind, [int(found.group(place + 1)) for place in order]
-    sys.exit(f"test_explain: {words!r} is no entry")
-
-
-def answer_words(kind, number, value, store):
-    """What a row must say of this answer of the store in Python."""
-    if number:
-        return f"refused {number}, {REASONS[number]}"
-    if kind == STEP:
-        return f"phase {value}, {PHASES[value]}"
-    if kind in (ATTACH, SAFE):
-        return f"done, at level {sapphire.LEVELS[store.phase]}"
-    return {READ: f"reads {value}", SAME: "yes" if value else "no"}.get(kind, "done")
-
-
-def read_back(script, lines):
-    """Compares the rows of a script, and the summary after them, with the script and the store in Python. Returns the rows."""
-    rows, empty, summary = lines[:len(script)], lines[len(script)], lines[len(script) + 1:]
-    store, refusals = sapphire.Sapphire(), Counter()
-    for n, ((kind, args), row) in enumerate(zip(script, rows), 1):
-        number, value = store.call(kind, args)
-        refusals[number] += number > 0
-        want = f"{n}  {{}}  -> {answer_words(kind, number, value, store)}"
-        words = row.split("  ")[1]
-        need(row == want.format(words), f"entry {n}: {row!r} should be {want!r}")
-        need(entry_of(words) == (kind, list(args)), f"entry {n}: {row!r} should be {kind} {args}")
-    counts = [f"refused {number}, {REASONS[number]}: {refusals[number]}" for number in sorted(+refusals)] or ["refused: none"]
-    want = [f"entries run: {len(script)}", *counts, f"collections that ended: {store.collections}",
-            f"the collector is at phase {store.phase}, {PHASES[store.phase]}"]
-    need(empty == "" and summary == want, f"the summary is {summary}, not {want}")
-    return rows
 
 
 def words_of_scripts():
@@ -79,7 +22,7 @@ def words_of_scripts():
         rows = read_back(script, printed("-", data=encode(script)))
         count += len(rows)
         kinds |= {kind for kind, _ in script}
-        refused |= {int(row.split("refused ")[1].split(",")[0]) for row in rows if "refused" in row}
+        refused |= refused_in(rows)
     need(len(kinds) == 14 and refused == set(REASONS), f"only kinds {kinds} and refusals {refused} were shown")
     full = [(ATTACH, [1])] + [(ALLOCATE, [1, 3, 255, 255])] * 7 + [(STEP, [])] * 49 + [(ALLOCATE, [1, 3, 255, 255])]
     need(printed("-", data=encode(full))[57] == EXAMPLE, "entry 58 is not in the words that were asked for")
@@ -89,11 +32,7 @@ def words_of_scripts():
 # ---- the demo, and what is printed of it
 
 def the_day():
-    for name, data in school_day.files().items():
-        with open(os.path.join(DEMO, name), "rb") as file:
-            need(file.read() == data, f"demo/{name} is not what demo/school_day.py writes")
-    with open(os.path.join(DEMO, "school-day.txt"), encoding="utf-8") as file:
-        need(printed("--fold", DAY) == file.read().splitlines(), "the demo prints another day than demo/school-day.txt")
+    check_day("school-day", school_day.files())
     with open(DAY, "rb") as file:
         rows = read_back(school_day.school_day().entries, printed("-", data=file.read()))
     notes = [line for line in printed(DAY) if line and not re.match(r"\d+  ", line)]

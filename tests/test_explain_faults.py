@@ -7,13 +7,14 @@ import signal
 import subprocess
 import tempfile
 
-from explained import DAY, EXPLAIN, TOP, need, printed, ran
+from explained import DAY, EXPLAIN, TOP, Programs, need, printed, ran
 from model import ATTACH, SAFE, STEP
 from scripts import encode, random_script
 
 GOOD = encode([(ATTACH, [0]), (STEP, [])])
 BAD_SCRIPTS = [
-    (b"", 0, 0, "the script is empty; it must begin with version byte 1"), (b"\x02\x01\x0e", 0, 0, "the version byte is 2, not 1"),
+    (b"", 0, 0, "the script is empty; it must begin with version byte 1 or 2"),
+    (b"\x03\x01\x0e", 0, 0, "the version byte is 3, not 1 or 2"),
     (GOOD + b"\x00", 3, 6, "its length byte is 0, so it has no kind"), (GOOD + b"\x01\x0f" + GOOD, 3, 6, "there is no kind 15"),
     (GOOD + b"\x02\x0e\x00", 3, 6, "the length byte of step is 1, not 2"),
     (GOOD + b"\x09\x08" + bytes(8), 3, 6, "the length byte of write is 8, not 9"),
@@ -32,21 +33,6 @@ def bad_scripts():
         done = ran("-", data=data)
         got = (done.returncode, done.stdout.decode().splitlines(), done.stderr.decode())
         need(got == (1, want, message), f"{data!r} gives {got}")
-
-
-class Programs:
-    """Programs that write fixed lines, whatever the script."""
-
-    def __init__(self, folder):
-        self.folder, self.count = folder, 0
-
-    def writing(self, text, end="exit 0"):
-        self.count += 1
-        path = os.path.join(self.folder, f"program{self.count}")
-        with open(path, "w", encoding="utf-8") as file:
-            file.write(f"#!/bin/sh\nprintf '{text}'\n{end}\n")
-        os.chmod(path, 0o755)
-        return path
 
 
 def failures(programs):

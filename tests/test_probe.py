@@ -3,7 +3,7 @@
 word, what document 01 gives, by the store in Python. Directed cases (edges of every range, every way to meet damage, both halves, both
 copies) and random damaged stores. Mistakes built into the store in Python are seen.
 
-    python3 tests/test_probe.py write    writes crates/probe/stdin and stdout anew, both from document 01 alone
+    python3 tests/test_probe.py write    writes crates/probe/stdin and stdout anew, both from documents 01 and 02 alone
 """
 import os
 import sys
@@ -11,6 +11,7 @@ import time
 
 import chance
 import damage
+import directory_cases
 import probe
 import sapphire
 from model import ATTACH, DETACH, SAFE, ALLOCATE, LOAD, STORE, READ, WRITE, MOVE, CLEAR, SAME, GET, PUT, STEP
@@ -28,7 +29,7 @@ REFUSALS = {probe.MAKE: {1, 2, 3}, ATTACH: {4, 5, 7}, DETACH: SESSION, SAFE: SES
 
 def files():
     """What crates/probe/stdin and stdout must hold."""
-    cases = [case for _, case in damage.few_stretches()]
+    cases = [case for _, case in [*damage.few_stretches(), *directory_cases.few()]]
     return b"".join(cases), b"".join(probe.expected(case) for case in cases)
 
 
@@ -39,21 +40,12 @@ def held(name):
 
 def compare(cases):
     """Runs the program on the cases; its whole output must be what document 01 gives. Answers how often each kind had each number."""
-    written = probe.run(b"".join(case for _, case in cases))
-    at, seen = 0, {}
-    for name, case in cases:
-        want = probe.expected(case)
-        got = written[at:at + len(want)]
-        if got != want:
-            sys.exit(f"test_probe: {name}: the reply differs from document 01's in word {probe.place(got, want)}:\n"
-                     f"{probe.told(got)}\n{probe.told(want)}")
-        at += len(want)
+    seen = {}
+    for case, want in probe.answered(cases):
         kind, number = probe.CALL.unpack_from(case)[0], probe.ANSWER.unpack_from(want)[0]
         if kind == sapphire.STRETCH:  # why it was refused only its companion says
             number, = probe.ANSWER.unpack_from(probe.expected(sapphire.COMPANION.to_bytes(4, "big") + case[4:]))[:1]
         seen[kind, number] = seen.get((kind, number), 0) + 1
-    if at != len(written):
-        sys.exit(f"test_probe: the program wrote {len(written)} bytes, not {at}")
     return seen
 
 

@@ -1,7 +1,7 @@
 #!/usr/bin/env python3
-"""The script program where its output can't be written: a pipe that doesn't block and whose reader is slow, a pipe that nobody reads
-any more, a file that may not grow, a full device. Whatever comes out is the beginning of the right text, and the program ends: after
-a write that failed it writes nothing more. On a pipe that blocks a slow reader gets all of the text."""
+"""The script program and the directory program where their output can't be written: a pipe that doesn't block and whose reader is slow,
+a pipe that nobody reads any more, a file that may not grow, a full device. Whatever comes out is the beginning of the right text, and
+the program ends: after a write that failed it writes nothing more. On a pipe that blocks a slow reader gets all of the text."""
 import os
 import resource
 import select
@@ -10,10 +10,13 @@ import subprocess
 import sys
 import tempfile
 import time
+from collections import namedtuple
 
+import directory_scripts
 import program
 from model import ALLOCATE, ATTACH, READ, STEP, WRITE
 from scripts import encode
+from table import OPEN, ADD, MAKE, JOIN, LIST, LAST
 
 # far more lines than a pipe holds
 ENTRIES = 300000
@@ -21,10 +24,28 @@ PAGE = 4096
 # in the middle of a write of the program, and of a line
 LIMIT = 100 * PAGE + 1234
 
+Source = namedtuple("Source", "program file entries")  # a script in a file, the program that runs it, and how many entries it has
+
 
 def script():
     turn = [(WRITE, [0, 0, 0, 0xFFFFFFFF]), (READ, [0, 0, 0]), (STEP, [])]
-    return encode([(ATTACH, [0]), (ALLOCATE, [0, 0, 0, 1])] + turn * (ENTRIES // 3))
+    return [(ATTACH, [0]), (ALLOCATE, [0, 0, 0, 1])] + turn * (ENTRIES // 3)
+
+
+def directory_script():
+    """Long lines: a group of many members, listed again and again, between short ones."""
+    people = range(LAST - 200, LAST)
+    entries = [(OPEN, []), (MAKE, [1]), *[(ADD, [person]) for person in people], *[(JOIN, [person, 1]) for person in people]]
+    return entries + [(LIST, [1, 255]), (STEP, []), (LIST, [1, 40])] * 1500
+
+
+def sources(folder):
+    for name, path, entries, written in (("script program", program.PROGRAM, script(), encode),
+                                         ("directory program", program.DIRECTORY, directory_script(), directory_scripts.encode)):
+        file = open(os.path.join(folder, name), "w+b")
+        file.write(written(entries))
+        file.flush()
+        yield name, Source(path, file, len(entries))
 
 
 def begin(source, sink, size=resource.RLIM_INFINITY):
@@ -34,8 +55,8 @@ def begin(source, sink, size=resource.RLIM_INFINITY):
         signal.signal(signal.SIGPIPE, signal.SIG_IGN)
         signal.signal(signal.SIGXFSZ, signal.SIG_IGN)
         resource.setrlimit(resource.RLIMIT_FSIZE, (size, size))
-    source.seek(0)
-    return subprocess.Popen([program.PROGRAM], stdin=source, stdout=sink, stderr=subprocess.PIPE, preexec_fn=writes_fail)
+    source.file.seek(0)
+    return subprocess.Popen([source.program], stdin=source.file, stdout=sink, stderr=subprocess.PIPE, preexec_fn=writes_fail)
 
 
 def end(name, child):
@@ -102,25 +123,29 @@ def check(name, got, want, least, most):
     return f"{name} {len(got)}"
 
 
-def main():
-    seen = []
-    with tempfile.TemporaryFile() as source, tempfile.TemporaryFile() as empty, open("/dev/full", "wb") as full:
-        source.write(script())
-        want = in_file("file", source)
-        if want.count(b"\n") != ENTRIES + 2:
-            sys.exit(f"test_slow_reader: {want.count(bytes([10]))} lines for {ENTRIES + 2} entries")
-        all_of_it = len(want)
-        name = "slow reader"
-        seen.append(check(name, read_some(name, source, all_of_it + 1), want, all_of_it, all_of_it))
-        name = "slow reader of a pipe that does not block"
-        seen.append(check(name, read_when_full(name, source), want, PAGE, all_of_it - 1))
-        name = "reader that stops"
-        seen.append(check(name, read_some(name, source, 40 * PAGE), want, 40 * PAGE, all_of_it - 1))
-        name = "file that may not grow"
-        seen.append(check(name, in_file(name, source, LIMIT), want, LIMIT, LIMIT))
+def lengths(source):
+    """Checks every way in which the output may end; how many bytes came out of each."""
+    want = in_file("file", source)
+    if want.count(b"\n") != source.entries:
+        sys.exit(f"test_slow_reader: {want.count(bytes([10]))} lines for {source.entries} entries")
+    all_of_it = len(want)
+    name = "slow reader"
+    yield check(name, read_some(name, source, all_of_it + 1), want, all_of_it, all_of_it)
+    name = "slow reader of a pipe that does not block"
+    yield check(name, read_when_full(name, source), want, PAGE, all_of_it - 1)
+    name = "reader that stops"
+    yield check(name, read_some(name, source, 40 * PAGE), want, 40 * PAGE, all_of_it - 1)
+    name = "file that may not grow"
+    yield check(name, in_file(name, source, LIMIT), want, LIMIT, LIMIT)
+    with open("/dev/full", "wb") as full, open("/dev/null", "rb") as empty:
         end("full device", begin(source, full))
-        end("full device, empty input", begin(empty, full))
-    print(f"test_slow_reader: the beginning of the right text, in bytes: {', '.join(seen)}")
+        end("full device, empty input", begin(source._replace(file=empty), full))
+
+
+def main():
+    with tempfile.TemporaryDirectory() as folder:
+        for name, source in sources(folder):
+            print(f"test_slow_reader: {name}: the beginning of the right text, in bytes: {', '.join(lengths(source))}")
 
 
 if __name__ == "__main__":

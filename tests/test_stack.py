@@ -1,15 +1,17 @@
 #!/usr/bin/env python3
-"""The script program in a small stack, which no proof bounds: with 96 KB of it the program writes, byte for byte, what document 01
-gives for long random scripts with every kind of call and for one that fills the store and collects it while it is full. With no more
-stack than its two halves take it must fail, which shows that the limit is kept."""
+"""The script program and the directory program in a small stack, which no proof bounds. With 96 KB of it the script program writes, byte
+for byte, what document 01 gives for long random scripts with every kind of call and for one that fills the store and collects it while
+it is full; with 112 KB the directory program writes what the directory in Python gives. With no more stack than their two halves take
+they must fail, which shows that the limit is kept."""
 import sys
 
+import directory_scripts
 import program
 from model import ALLOCATE, ATTACH, CLEAR, GET, PUT, STORE
 from scripts import ARGUMENTS, encode, finish, kept, long_scripts, look
 from test_bad_scripts import expected
 
-STACK = 96 * 1024
+STACK, DIRECTORY_STACK = 96 * 1024, 112 * 1024
 HALVES = 2 * 4096 * 4
 # how many records of `kept`, of six words each, a half has room for
 RECORDS = 4096 // 6
@@ -28,24 +30,47 @@ def filling_script():
     return entries + finish(SESSIONS, 60)
 
 
-def main():
+def check(name, data, want, stack, path):
+    """That the program writes this on these bytes, with so much stack."""
+    done = program.run(data, stack, path)
+    if done.returncode != 0 or done.stderr:
+        sys.exit(f"test_stack: {name}: with {stack // 1024} KB of stack the program ended with status {done.returncode}")
+    if done.stdout != want:
+        sys.exit(f"test_stack: {name}: wrote {done.stdout[-80:]!r}, not {want[-80:]!r}")
+
+
+def script_program():
     longest = entries = no_room = 0
     kinds = set()
     for name, script in [*long_scripts(), ("full store", filling_script())]:
         data = encode(script)
-        done, want = program.run(data, STACK), expected(data)
-        if done.returncode != 0 or done.stderr:
-            sys.exit(f"test_stack: {name}: with {STACK // 1024} KB of stack the program ended with status {done.returncode}")
-        if done.stdout != want:
-            sys.exit(f"test_stack: {name}: wrote {done.stdout[-80:]!r}, document 01 gives {want[-80:]!r}")
+        want = expected(data)
+        check(name, data, want, STACK, program.PROGRAM)
         longest, entries, kinds = max(longest, len(want)), entries + len(script), kinds | {kind for kind, _ in script}
         no_room = want.count(b" 14 0\n")  # in the end those of the last script, the full store
     print(f"test_stack: {entries} entries with {STACK // 1024} KB of stack, the longest output {longest} bytes, {no_room} allocations "
           "without room in the full store")
     if kinds != set(ARGUMENTS) or no_room < len(SESSIONS):
         sys.exit("test_stack: the scripts do not show enough")
-    if program.run(b"\x01", HALVES).returncode == 0:
-        sys.exit(f"test_stack: the program runs with {HALVES // 1024} KB of stack, so the limit is not kept")
+
+
+def directory_program():
+    entries, kinds = 0, set()
+    for name, played in [("crowd", directory_scripts.crowd(0))] + [(f"random {n}", directory_scripts.random_script(n)) for n in range(6)]:
+        want = "".join(directory_scripts.text(n, line) for n, line in enumerate(played.lines, 1)).encode()
+        check(name, directory_scripts.encode(played.entries), want, DIRECTORY_STACK, program.DIRECTORY)
+        entries, kinds = entries + len(played.entries), kinds | {kind for kind, _ in played.entries}
+    print(f"test_stack: {entries} entries of the directory program with {DIRECTORY_STACK // 1024} KB of stack")
+    if kinds != set(directory_scripts.SIZES):
+        sys.exit(f"test_stack: the directory's scripts do not show enough: {kinds}")
+
+
+def main():
+    script_program()
+    directory_program()
+    for data, path in ((b"\x01", program.PROGRAM), (b"\x02", program.DIRECTORY)):
+        if program.run(data, HALVES, path).returncode == 0:
+            sys.exit(f"test_stack: {path} runs with {HALVES // 1024} KB of stack, so the limit is not kept")
 
 
 if __name__ == "__main__":

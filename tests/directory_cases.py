@@ -1,0 +1,353 @@
+"""Cases of the directory's calls for the probe program: every call in every phase of the collector, numbers of the control record at the
+edges of their ranges, halves that are nearly full, records that are damaged, lack a field or name each other in a ring; and random
+ones. A case is a name with the bytes of tests/probe.py. Everything is made from seeds."""
+import random
+
+import chance
+from damage import TOP, changed, edges, lengths, ref, set_item, set_word, setting
+from directory import MARK, MINE, ROOT, Directory
+from model import ATTACH, SAFE, STEP
+from probe import OPEN, ADD, REMOVE, MAKE_GROUP, JOIN, LEAVE, LIST, MOST_LENT, decode, encode
+from sapphire import Sapphire
+from table import LAST
+
+PHASES = range(13)
+# people 1, 2 and 3 are in group 1, person 1 is in group 2
+SCHOOL = [(OPEN, []), (ADD, [1]), (MAKE_GROUP, [1]), (ADD, [2]), (ADD, [3]), (MAKE_GROUP, [2]), (JOIN, [1, 1]), (JOIN, [2, 1]),
+          (JOIN, [3, 1]), (JOIN, [1, 2])]
+TINY = [(OPEN, []), (ADD, [1]), (MAKE_GROUP, [1]), (JOIN, [1, 1])]
+# one of each that succeeds, then each way to be refused by the table
+DONE = [(ADD, [4]), (REMOVE, [1]), (REMOVE, [3]), (MAKE_GROUP, [3]), (JOIN, [2, 2]), (LEAVE, [1, 1]), (LEAVE, [2, 1]), (LEAVE, [1, 2]),
+        (LIST, [1, 4])]
+REFUSED = [(OPEN, []), (ADD, [1]), (ADD, [LAST + 1]), (REMOVE, [4]), (REMOVE, [TOP]), (MAKE_GROUP, [2]), (MAKE_GROUP, [LAST + 1]),
+           (JOIN, [1, 3]), (JOIN, [4, 1]), (JOIN, [1, 1]), (JOIN, [LAST + 1, 1]), (JOIN, [1, TOP]), (LEAVE, [2, 2]), (LEAVE, [1, 3]),
+           (LEAVE, [4, 1]), (LEAVE, [LAST + 1, 1]), (LEAVE, [1, LAST + 1]), (LIST, [3, 4]), (LIST, [LAST + 1, 3])]
+EACH = [(OPEN, []), *DONE[:2], *DONE[3:6], DONE[-1]]
+
+
+def named(kind, args):
+    return f"kind {kind} {args}"
+
+
+def told(directory, calls):
+    for kind, args in calls:
+        directory.call(kind - 100, args)
+    return directory.store
+
+
+def step(store):
+    """A safe point of every attached session and a step, so that the collector never waits."""
+    for session in range(16):
+        store.call(SAFE, [session])
+    store.call(STEP, [])
+
+
+def school(phase=0, steps=0, again=False, n=72, calls=SCHOOL):
+    """A directory that its own calls made; then the collector's steps up to this phase, and so many more. `again`: after a whole
+    collection, so that the halves have changed roles."""
+    store = told(Directory(Sapphire(n, n // 3)), calls)
+    while store.phase != phase or store.collections < again:
+        step(store)
+    for _ in range(steps):
+        step(store)
+    return store
+
+
+def schools():
+    for phase in PHASES:
+        for again in (False, True):
+            for steps in (0, 3, 11):
+                yield f"phase {phase}, {steps} steps on{', roles changed' * again}", school(phase, steps, again)
+
+
+def records(store, h):
+    """Where the records of a half begin, and their fields, as far as they can be followed."""
+    at = 0
+    while at + 3 <= min(store.frontier[h], len(store.half[h])):
+        shape = store.half[h][at]
+        yield at, shape // 256, shape % 256
+        at += 3 + shape // 256 + shape % 256
+
+
+# ---- calls on sound stores
+
+def calls():
+    for name, store in schools():
+        for kind, args in DONE + REFUSED:
+            yield f"{named(kind, args)} in {name}", encode(store, kind, args)
+    store = school()
+    for count in (0, 1, 2, 3, 4, 63, MOST_LENT):
+        for group in (1, 2, 3):
+            yield f"list of group {group} in {count} words", encode(store, LIST, [group, count])
+
+
+def sessions():
+    """Session 15 absent, and others there; session 15 there, at any level, with registers that hold anything."""
+    for phase in PHASES:
+        for kind, args in EACH + REFUSED[1:3]:
+            alone = school(phase)
+            alone.attached[MINE] = False
+            yield f"{named(kind, args)} in phase {phase}, absent", encode(alone, kind, args)
+            busy = school(phase)
+            busy.call(ATTACH, [3])
+            busy.level[MINE], busy.registers[MINE] = 6 - phase % 7, [TOP, 1, ref(0, 1), ref(1, 71), 0, TOP, ref(0, 0), 3]
+            yield f"{named(kind, args)} in phase {phase}, other level", encode(busy, kind, args)
+
+
+def rooms():
+    """Allocations that just fit in a half, or just do not."""
+    for phase in PHASES:
+        for again in (False, True):
+            base = encode(school(phase, 2, again), OPEN, [])
+            for free in [(4, 4), (5, 5), (6, 6), (5, 4), (4, 5), (6, 5), (5, 6), (0, 72)]:
+                for kind, args in [(ADD, [4]), (MAKE_GROUP, [3]), (JOIN, [2, 2]), (ADD, [1]), (JOIN, [1, 1])]:
+                    store, _, _ = decode(base)
+                    store.frontier = [72 - words for words in free]
+                    yield f"{named(kind, args)} in phase {phase}, {free} words free", encode(store, kind, args)
+
+
+def ranges():
+    """Numbers just inside or just outside each range of refusal 4."""
+    bases = {n: encode(school(n=n, calls=TINY), OPEN, []) for n in (16, 48)}
+    for (n, capacity), name, change in edges():
+        for kind, args in EACH:
+            store = changed(decode(bases[n])[0], change)
+            yield f"{named(kind, args)}, {n} words, {name}", encode(store, kind, args)
+    for name, store in lengths():
+        store.attached[MINE], store.globals[ROOT] = True, ref(0, 0)
+        for kind, args in EACH[:3]:
+            yield f"{named(kind, args)}, {name}", encode(store, kind, args)
+
+
+# ---- damage
+
+def top_injuries(store):
+    """Global 31 names something that is no record, or one that is damaged."""
+    top = store.globals[ROOT]
+    h, at = top % 2, (top - 2) // 2
+    for word in (1, TOP, TOP - 1, top + 2, ref(h, store.frontier[h]), ref(h, store.frontier[h] - 2), ref(h, 72), ref(1 - h, 71)):
+        yield f"global 31 is {word}", set_item("globals", ROOT, word)
+    for name, k, word in [("shape 65536", 0, 65536), ("shape 65535", 0, 65535), ("colour 3", 1, 3), ("colour", 1, TOP)]:
+        yield f"first entry, {name}", set_word(h, at + k, word)
+    yield "frontier before the first entry's end", set_item("frontier", h, at + 4)
+
+
+def record_injuries(store):
+    """Each word of each record damaged, and the list without room."""
+    for h in (0, 1):
+        for at, r, p in records(store, h):
+            for shape in (0, 1, 256, 257, 513, 65536, 65535):
+                yield f"shape {shape} at {h}:{at}", set_word(h, at, shape)
+            for word in (0, 1, 2, 3):
+                yield f"colour {word} at {h}:{at}", set_word(h, at + 1, word)
+            for word in (0, 1, ref(h, at), ref(1 - h, 0), ref(h, 72), TOP):
+                yield f"replica {word} at {h}:{at}", set_word(h, at + 2, word)
+            for i in range(r):
+                for word in (0, 1, ref(h, at), ref(h, 0), ref(1 - h, 0), ref(h, at + 1), TOP):
+                    yield f"link {i} is {word} at {h}:{at}", set_word(h, at + 3 + i, word)
+            for word in (0, 1, 3, LAST, MARK, MARK + 1, MARK + 2, TOP):
+                yield f"word {word} at {h}:{at}", set_word(h, at + 3 + r, word)
+    for head, tail in [(0, 24), (24, 24), (0, 23)]:
+        yield f"list from {head} to {tail}", setting(head=head, tail=tail)
+
+
+def injured():
+    """In every phase, and with it at every level, all calls on a damaged first entry, and the calls in turn on every other damage."""
+    for turn, (name, store) in enumerate(schools()):
+        base = encode(store, OPEN, [])
+        if turn % 3 == 1:
+            for injury, change in top_injuries(store):
+                for kind, args in [*EACH, (ADD, [1])]:
+                    yield f"{named(kind, args)} in {name}, {injury}", encode(changed(decode(base)[0], change), kind, args)
+        for at, (injury, change) in enumerate(record_injuries(store)):
+            kind, args = DONE[(5 * at + turn) % len(DONE)]
+            if (at + turn) % 4 == 0:
+                yield f"{named(kind, args)} in {name}, {injury}", encode(changed(decode(base)[0], change), kind, args)
+
+
+# ---- chains
+
+def chain(n, entries):
+    """A store of these records, in half 0 as far as they fit and then in half 1: links, by number from 1, and word of each. A link that
+    is no number of a record is taken as it is. Global 31 names the first."""
+    store, places = Sapphire(n, n // 3), [0]
+    for links, _ in entries:
+        h = 0 if store.frontier[0] + 4 + len(links) <= n else 1
+        places.append(ref(h, store.frontier[h]))
+        store.frontier[h] += 4 + len(links)
+    for place, (links, word) in zip(places[1:], entries):
+        fields = [places[to] if to < len(places) else to for to in links]
+        for i, value in enumerate([256 * len(links) + 1, 0, 0, *fields, word]):
+            store.put(place, i, value)
+    store.attached[MINE], store.globals[ROOT] = True, places[1]
+    return store
+
+
+RINGS = {
+    "a person who comes after himself": [([1], 1)],
+    "two people in a ring": [([2], 1), ([1], 2)],
+    "groups in a ring": [([2, 0], MARK + 1), ([1, 0], MARK + 2)],
+    "a ring that a group leads to": [([2, 0], MARK + 1), ([3], 1), ([2], 2)],
+    "members in a ring": [([2, 3], MARK + 1), ([0], 1), ([4], 3), ([3], 4)],
+    "a ring with the person looked for": [([2, 3], MARK + 1), ([0], 1), ([3], 1)],
+    "the groups as members": [([2, 1], MARK + 1), ([3, 2], MARK + 2), ([0], 1)],
+    "the entries as members": [([2, 2], MARK + 1), ([3], 1), ([0], 2)],
+    "people before groups": [([2], 1), ([3, 0], MARK + 1), ([0], 2)],
+    "numbers above all": [([2, 3], TOP), ([0], 1), ([0], TOP)],
+    "a person without link": [([2], 1), ([3], 2), ([], 3)],
+    "a group with one link": [([2], MARK + 1), ([0], 1)],
+    "a group's member without link": [([2, 3], MARK + 1), ([0], 1), ([], 3)],
+}
+
+
+def rings():
+    calls = [*DONE, (ADD, [1]), (REMOVE, [9]), (MAKE_GROUP, [1]), (JOIN, [1, 1]), (JOIN, [3, 1]), (LEAVE, [3, 1]), (LIST, [2, MOST_LENT]),
+             (LIST, [1, 0])]
+    for name, entries in RINGS.items():
+        for n in (16, 48):
+            store = chain(n, entries)
+            for phase in (0, 2, 8):
+                store.phase = phase
+                for kind, args in calls:
+                    yield f"{named(kind, args)} on {name}, {n} words, phase {phase}", encode(store, kind, args)
+
+
+def people_in_a_row(count, last):
+    """The last of them names this one, or none."""
+    return [([i + 1 if i < count else last], 9 + i) for i in range(1, count + 1)]
+
+
+def members_in_a_row(count, last):
+    """The same of the members of group 1; person 5 is there too."""
+    return [([2, 3], MARK + 1), ([0], 5), *(([i + 1 if i < count + 2 else last], 7 + i) for i in range(3, count + 3))]
+
+
+def long_chains():
+    """As many records as both halves hold. They are fewer than a half has words: a chain that ends is never too long."""
+    for n in (48, 1000):
+        count = 2 * (n // 5)
+        for last in (0, 1, count):
+            store = chain(n, people_in_a_row(count, last))
+            for kind, args in [(ADD, [9]), (ADD, [9 + count]), (REMOVE, [9 + count]), (REMOVE, [9]), (MAKE_GROUP, [1]), (LIST, [1, 5])]:
+                yield f"{named(kind, args)} on {count} people, the last names {last}", encode(store, kind, args)
+        for last in (0, 3, count - 1):
+            store = chain(n, members_in_a_row(count - 3, last))
+            for kind, args in [(LIST, [1, MOST_LENT]), (LIST, [1, 1]), (JOIN, [5, 1]), (LEAVE, [5, 1]), (REMOVE, [5]), (JOIN, [10, 1])]:
+                yield f"{named(kind, args)} on {count - 3} members, the last names {last}", encode(store, kind, args)
+
+
+def passed_groups(n, lead, members):
+    """A removal of person 1 that makes its own ring. Behind `lead` groups come six; the members of the first are the sixth group itself
+    and the entry behind it, which is the person's. Cut out there, he leaves the sixth naming the second: these five come again and
+    again. The second loses a member each time and then names what is no record. That is met, and answered with 12, in the group
+    2 + lead + 5 * members of the walk, if it comes so far."""
+    person, first, nothing = lead + 7, lead + 8, 4 * n
+    groups = [([i + 1, 0], MARK + i) for i in range(1, lead + 7)]
+    groups[lead][0][1], groups[lead + 1][0][1] = lead + 6, first
+    return chain(n, [*groups, ([lead + 2], 1), *(([first + i if i < members else nothing], 1) for i in range(1, members + 1))])
+
+
+def passes():
+    """The group with the damage comes as the last that a removal may pass, or one later: then it is 26."""
+    for n in (51, 52, 53):
+        for lead in (0, 1):
+            for phase in (0, 6, 8, 11):
+                store = passed_groups(n, lead, 10)
+                store.phase = phase
+                yield f"group {lead + 52} of a walk in {n} words, phase {phase}", encode(store, REMOVE, [1])
+
+
+def directed():
+    for cases in (passes, rings, long_chains, calls, sessions, rooms, ranges, injured):
+        yield from cases()
+
+
+def few():
+    """Each call done and refused, in a store that a collection is at work on; damage; a walk that is too long."""
+    for phase in (0, 8):
+        for kind, args in [*EACH, REFUSED[1]]:
+            yield named(kind, args), encode(school(phase, 2, n=64), kind, args)
+    absent = school(n=64)
+    absent.attached[MINE] = False
+    yield "absent", encode(absent, OPEN, [])
+    yield "phase 13", encode(changed(school(n=64), setting(phase=13)), LIST, [1, 4])
+    yield "global 31 is 1", encode(changed(school(n=64), set_item("globals", ROOT, 1)), LIST, [1, 4])
+    yield "a group with one link", encode(chain(16, RINGS["a group with one link"]), LIST, [1, 4])
+    yield "a ring", encode(chain(16, RINGS["a ring with the person looked for"]), LIST, [1, 4])
+    yield "a long walk", encode(passed_groups(52, 1, 10), REMOVE, [1])
+
+
+# ---- by chance
+
+def any_call(rng, most=4):
+    kind = rng.choice([ADD, ADD, REMOVE, REMOVE, MAKE_GROUP, MAKE_GROUP, JOIN, JOIN, JOIN, LEAVE, LEAVE, LIST, LIST, OPEN])
+    person, group = rng.randint(1, most), rng.randint(1, 3)
+    if rng.random() < 0.01:
+        person, group = rng.choice([(LAST + 1, 1), (1, TOP), (LAST, LAST)])
+    lent = rng.choice([0, 1, 2, 5, MOST_LENT])
+    return kind, {OPEN: [], ADD: [person], REMOVE: [person], MAKE_GROUP: [group], LIST: [group, lent]}.get(kind, [person, group])
+
+
+def any_school(rng):
+    """A directory by calls at random, with the collector somewhere at its work."""
+    calls = [(OPEN, [])] + [any_call(rng, 5) for _ in range(rng.choice([8, 16, 30]))]
+    store = school(calls=calls, n=rng.choice([48, 72, 96]))
+    for _ in range(rng.randrange(140)):
+        step(store)
+        if rng.random() < 0.05:
+            told(Directory(store), [any_call(rng, 5)])
+    return store
+
+
+def damage_at(rng, store):
+    """A word that isn't what it was; references mostly to records."""
+    heads = [ref(h, at) for h in (0, 1) for at, _, _ in records(store, h)] or [2]
+    h = rng.randrange(2)
+    value = rng.choice([rng.choice(heads), rng.choice(heads), rng.choice(heads) + 2, 0, 1, 2, 3, 257, 513, MARK + 1, 65536, TOP])
+    style = rng.random()
+    if style < 0.15:
+        store.globals[ROOT] = value
+    elif style < 0.2:
+        store.registers[MINE][rng.randrange(8)] = value
+    elif style < 0.25:
+        store.list[rng.randrange(len(store.list))] = value
+    elif style < 0.3:
+        store.frontier[h] = rng.randrange(len(store.half[h]) + 1)
+    elif style < 0.35:
+        store.head = store.tail = len(store.list)
+    else:
+        store.half[h][rng.randrange(store.frontier[h] or 1)] = value
+
+
+def damaged_school(rng, base):
+    store, _, _ = decode(base)
+    for _ in range(rng.choice([0, 1, 1, 2, 2, 3, 6])):
+        damage_at(rng, store)
+    if rng.random() < 0.06:
+        rng.choice(chance.EDGES)[2](store)
+    if rng.random() < 0.06:
+        store.attached[MINE] = False
+    return store
+
+
+def any_records(rng):
+    """The random records of tests/chance.py, most of them with words as a directory has them."""
+    store = chance.world(rng)
+    for h in (0, 1):
+        for at, r, p in records(store, h):
+            if p and at + 3 + r < len(store.half[h]):
+                store.half[h][at + 3 + r] = rng.choice([1, 2, 3, 4, MARK + 1, MARK + 2, MARK + 3, rng.randrange(12)])
+    kept = store.length, store.capacity, store.frontier
+    chance.numbers(rng, store)
+    store.length, store.capacity, store.frontier = kept
+    store.attached[MINE] = rng.random() < 0.95
+    return store
+
+
+def random_cases(count, seed=1):
+    rng = random.Random(seed)
+    for i in range(count):
+        if i % 40 == 0:
+            base = encode(any_school(rng), OPEN, [])
+        store = any_records(rng) if i % 4 == 0 else damaged_school(rng, base)
+        yield f"random case {i} of seed {seed}", encode(store, *any_call(rng))

@@ -1,0 +1,82 @@
+#!/usr/bin/env python3
+"""Every call of the directory on any control record and any memory: the probe program writes, word for word, what the directory in Python
+gives, over the store in Python. Directed cases (every phase and level, edges of every range, damaged records, records without the
+field, chains in a ring) and random damaged directories. Mistakes built into the directory in Python are seen."""
+import sys
+import time
+from collections import Counter
+
+import directory
+import directory_cases
+import probe
+from probe import OPEN, ADD, REMOVE, MAKE_GROUP, JOIN, LEAVE, LIST
+from sapphire import LEVELS
+
+RANDOM = 6000
+# the refusals that each call has, by document 02
+WALK = {4, 6, 12, 13, 23, 26}
+REFUSALS = {OPEN: {4, 7}, ADD: WALK | {14, 24}, REMOVE: WALK, MAKE_GROUP: WALK | {14, 24}, JOIN: WALK | {14, 24}, LEAVE: WALK | {25},
+            LIST: WALK}
+
+
+def compare(cases):
+    """Runs the program on the cases. Answers the replies, how often each kind had each number, and at which levels each had 12."""
+    replies, seen, levels = [], Counter(), set()
+    for case, reply in probe.answered(cases):
+        kind, group, lent = probe.CALL.unpack_from(case)[:3]
+        number, value = probe.ANSWER.unpack_from(reply)
+        if number and (value or not reply.endswith(probe.words(probe.lent(kind, [group, lent])))):
+            sys.exit("test_directory_probe: a refused call has a value, or a refused list has written")
+        replies.append(reply)
+        seen[kind, number] += 1
+        if number == 12:
+            levels.add((kind, LEVELS[probe.decode(case)[0].phase]))  # the level that the safe point gives
+    return replies, seen, levels
+
+
+def check_bad_cases():
+    """A list that is lent too much is not answered, and ends the program; kinds beside the directory's are 15."""
+    _, case = next(directory_cases.few())
+    want = probe.expected(case)
+    for lent in (probe.MOST_LENT + 1, 1 << 31):
+        if probe.run(case + probe.encode(probe.decode(case)[0], LIST, [1, lent]) + case) != want:
+            sys.exit("test_directory_probe: a list that is lent too much is answered")
+    for kind in (100, OPEN - 1, LIST + 1):
+        if probe.run(kind.to_bytes(4, "big") + case[4:]) != probe.ANSWER.pack(15, 0) + case[probe.CALL.size:] + probe.words([0]):
+            sys.exit(f"test_directory_probe: kind {kind} is not answered with 15")
+
+
+def check_slips(cases, replies):
+    """Each mistake built into the directory in Python must show in some case."""
+    for slip in directory.SLIPS + directory.DAMAGE_SLIPS:
+        seen = next((name for (name, case), reply in zip(cases, replies) if probe.expected(case, slip) != reply), None)
+        if seen is None:
+            sys.exit(f"test_directory_probe: the slip '{slip}' is not seen")
+        print(f"test_directory_probe: '{slip}' is seen by: {seen}")
+
+
+def check_refusals(name, seen):
+    numbers = Counter()
+    for (_, number), count in seen.items():
+        numbers[number] += count
+    print(f"test_directory_probe: {seen.total()} {name} cases, refusals {dict(sorted(numbers.items()))}")
+    lacking = [kind for kind, refusals in REFUSALS.items() if {number for k, number in seen if k == kind} != refusals | {0}]
+    if lacking:
+        sys.exit(f"test_directory_probe: the {name} cases of the kinds {lacking} do not have just the refusals of document 02")
+
+
+def main():
+    began = time.time()
+    check_bad_cases()
+    directed = list(directory_cases.directed())
+    replies, seen, levels = compare(directed)
+    check_refusals("directed", seen)
+    if levels != {(kind, level) for kind in REFUSALS if kind != OPEN for level in range(7)}:
+        sys.exit(f"test_directory_probe: 12 does not come in every call but open at every level, but only at {sorted(levels)}")
+    check_refusals("random", compare(list(directory_cases.random_cases(RANDOM)))[1])
+    check_slips(directed, replies)
+    print(f"test_directory_probe: {time.time() - began:.0f} s")
+
+
+if __name__ == "__main__":
+    main()
