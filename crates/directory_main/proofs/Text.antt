@@ -11,7 +11,7 @@ use lib.Seq.{sets, take-suc, length-take-le}
 use Rattle.io.specs.Digits.{digits, Fewest}
 use Rattle.rules.specs.Script.{decimal, space}
 use Rattle.script.proofs.Digits.{decimal-one, decimal-more}
-use Rattle.script.proofs.Runs.{sets-append}
+use Rattle.rules.proofs.memory.Sets.{sets-append}
 use Rattle.directory_main.specs.Lines.{wordsText}
 
 -- ---- bytes

@@ -4,7 +4,7 @@ use mathlib.Core.Bool.{Bool, cond, _&&_}
 use mathlib.Core.List.{List, [], _∷_}
 use lib.Dec.{leb, eqb}
 use lib.ListN.{length, getD}
-use Rattle.rules.specs.Script.{bigEndian}
+use Rattle.rules.specs.Script.{numberAt}
 use Rattle.directory_rules.specs.Table as table
 use Rattle.directory_main.specs.declared.entries.Request.{Request}
 use Rattle.directory_main.specs.declared.entries.Request.the-variants.{Open, Add, Remove, Make, Join, Leave, List as Members}
@@ -40,11 +40,7 @@ pub record Kind : Type 0 where
   pub size : ℕ
   pub request : Request
 
--- "Numbers are four bytes, big-endian"
-unfoldable pub numberAt : List ℕ → ℕ → ℕ
-numberAt b i = bigEndian (getD b i 0) (getD b (i + 1) 0) (getD b (i + 2) 0) (getD b (i + 3) 0)
-
--- the kinds 16 to 22 in order
+-- the kinds 16 to 22 in order; "numbers are four bytes, big-endian"
 unfoldable pub kinds : List ℕ → List Kind
 kinds b =
     record { size = 1; request = Open }

@@ -3,7 +3,8 @@ ghost use mathlib.Core.Path.{_≡_};
 ghost use Prim.Native.Nat.{_≤_};
 ghost use lib.Dec.{eqb};
 ghost use lib.ListN.{getD, length};
-ghost use Rattle.directory_main.specs.Entries.{lentBy, numberAt, kindOf, entryOf};
+ghost use Rattle.rules.specs.Script.{numberAt};
+ghost use Rattle.directory_main.specs.Entries.{lentBy, kindOf, entryOf};
 ghost use Rattle.directory_main.specs.Window.{endOf};
 
 // A call of the directory, a variant for each kind, with its arguments in the script's order; of list, the group and how

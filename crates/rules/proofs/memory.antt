@@ -1,9 +1,10 @@
 -- The memory interface, the lowest layer: what a record is, and what the operations on memory keep. It rests on the definitions
 -- alone. Above it nothing opens a half, a word or a put.
 
--- case analysis as functions; lists of one value, and with one element set
+-- case analysis as functions; lists of one value, with one element set, with a run of elements set
 pub mod Cases
 pub mod Lists
+pub mod Sets
 -- references, shape words and the two halves as numbers
 pub mod Encoding
 -- lists of words as records that follow one another

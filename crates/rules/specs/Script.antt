@@ -19,6 +19,10 @@ pub record Kind : Type 0 where
 unfoldable pub bigEndian : ℕ → ℕ → ℕ → ℕ → ℕ
 bigEndian a b c d = ((a * 256 + b) * 256 + c) * 256 + d
 
+-- the number in four bytes from place i on
+unfoldable pub numberAt : List ℕ → ℕ → ℕ
+numberAt b i = bigEndian (getD b i 0) (getD b (i + 1) 0) (getD b (i + 2) 0) (getD b (i + 3) 0)
+
 -- the kinds 1 to 14 in order, "argument bytes in the order given"; a body's byte 0 is the kind
 unfoldable pub kinds : List ℕ → List Kind
 kinds b =

@@ -9,7 +9,7 @@ use lib.ListN.{length, length-set, length-append}
 use lib.Seq.{sets}
 use Rattle.rules.specs.Script.{digit, digitsWith, decimal}
 use Rattle.rules.proofs.memory.Cases.{lt-or}
-use Rattle.script.proofs.Runs.{sets-before}
+use Rattle.rules.proofs.memory.Sets.{sets-before}
 
 -- as many turns as the number says are enough
 enough : (f g n : ℕ) → n < f → n < g → digitsWith f n ≡ digitsWith g n

@@ -6,8 +6,6 @@ pub mod Sizes
 pub mod Bodies
 -- decimal digits: how many a number has, and how they are written
 pub mod Digits
--- runs of stores: two that adjoin are one, in either order
-pub mod Runs
 -- which bytes decide an entry, and where the next one begins
 pub mod Places
 -- that the turns come to a stop

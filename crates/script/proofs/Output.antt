@@ -6,21 +6,17 @@ use mathlib.Core.List.{List, [], _++_, append-nil, append-assoc}
 use mathlib.Core.Logic.{_⊎_}
 use native.Mathlib.Omega.{arith}
 use borrow.Author.Tests.{eq-eqb}
-use lib.ListN.{length, getD, take, drop, length-append}
-use lib.Seq.{sets, sets-eq, length-sets, length-take-le, take-at}
+use lib.ListN.{length, getD, take}
+use lib.Seq.{length-sets}
 use Rattle.rules.specs.Control.{Store}
 use Rattle.rules.specs.Script.{linesOf, textsOf}
 use Rattle.rules.proofs.memory.Cases.{bool-or, either}
+use Rattle.rules.proofs.memory.Sets.{take-sets}
 use Rattle.script.specs.Turns.{Left, begun, turns}
 use Rattle.script.proofs.Places.{past-end}
 use Rattle.script.proofs.Writing.{linesLeft, lines-by-entry, texts-append, Wrote, turns-lines}
 
 -- ---- the text in the output
-
-take-sets : (l vs : List ℕ) (i : ℕ) → i + length vs ≤ length l → take (i + length vs) (sets l i vs) ≡ take i l ++ vs
-take-sets l vs i fits =
-    let size : length (take i l ++ vs) ≡ i + length vs = rw (length-append, length-take-le i l (omega arith)) in
-    rw (sets-eq vs l i fits, take-at (take i l ++ vs) (drop (i + length vs) l) (i + length vs) size)
 
 -- the text in the output and the text of the lines that are left, together, stay the same
 wrote-text : {bs : List ℕ} {x y : Left} → Wrote bs x y → y .end ≤ length (y .out) →

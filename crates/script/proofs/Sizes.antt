@@ -1,15 +1,11 @@
 -- The kinds of entries: their numbers, and the length byte of each.
-use Prim.Native.Nat.{ℕ, zero, suc, _+_, _-_, _≤_, max}
+use Prim.Native.Nat.{ℕ, zero, suc, _-_, _≤_, max}
 use mathlib.Core.Path.{_≡_}
 use mathlib.Core.List.{List, [], _∷_}
 use native.Mathlib.Omega.{arith}
 use lib.ListN.{getD, List·getD-map}
 use Rattle.rules.specs.Runs.{Step}
 use Rattle.rules.specs.Script.{Kind, kinds, kindOf}
-
--- a number from n on that isn't n
-pub above : {n k : ℕ} → n ≤ k → (k ≡ n → ⊥) → n + 1 ≤ k
-above p q = omega arith
 
 -- the length byte of each kind, from 1 on
 abbrev pub sizes : List ℕ

@@ -12,7 +12,7 @@ use Rattle.rules.specs.Runs.{apply}
 use Rattle.rules.specs.Script.{entryAt, byEntry, Line, badLine, lineOf, linesFrom, textsOf}
 use Rattle.rules.proofs.memory.Cases.{bool-or}
 use Rattle.script.specs.Turns.{Left, turn, goesOn, turns}
-use Rattle.script.proofs.Runs.{sets-append}
+use Rattle.rules.proofs.memory.Sets.{sets-append}
 use Rattle.script.proofs.Places.{past-end, entry-or, moves-on}
 use Rattle.script.proofs.Stopping.{has-more}
 

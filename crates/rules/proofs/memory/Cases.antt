@@ -1,5 +1,5 @@
 -- Case analysis as functions, so that a proof goes by cases inside a term, a recursive call in the arms too.
-use Prim.Native.Nat.{ℕ, _≤_, _<_}
+use Prim.Native.Nat.{ℕ, _+_, _≤_, _<_}
 use mathlib.Core.Path.{_≡_, refl, sym, _∙_}
 use mathlib.Core.Logic.{_≢_, _⊎_, inl, inr}
 use mathlib.Core.Bool.{Bool, true, false, cond}
@@ -21,6 +21,10 @@ eq-or a b f g = on-dec (ℕ-discrete a b) f g
 -- a number from b on is b, or above it
 pub from-or : (a b : ℕ) → b ≤ a → {C : Type 0} → (a ≡ b → C) → (b < a → C) → C
 from-or a b l f g = eq-or a b f (λ n. g (omega arith))
+
+-- a number from n on that isn't n
+pub above : {n k : ℕ} → n ≤ k → k ≢ n → n + 1 ≤ k
+above p q = omega arith
 
 -- a Bool, with the equation
 pub bool-or : (t : Bool) {C : Type 0} → (t ≡ true → C) → (t ≡ false → C) → C

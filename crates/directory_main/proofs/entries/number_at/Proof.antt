@@ -1,6 +1,5 @@
 -- Four bytes stay below 2 to the 32nd.
-use Rattle.rules.specs.Script.{bigEndian}
-use Rattle.directory_main.specs.Entries.{numberAt}
+use Rattle.rules.specs.Script.{bigEndian, numberAt}
 use borrow.Author.Needs.{needs}
 use Rattle.directory_main.proofs.entries.number_at.Statement.{statement}
 use Rattle.directory_main.proofs.entries.number_at.Tie as tie

@@ -3,8 +3,9 @@ use native.Mathlib.Omega.{arith}
 use mathlib.Core.Path.{_≡_}
 use Prim.Native.Nat.{_≤_}
 use lib.ListN.{getD}
-use Rattle.script.proofs.Sizes.{above}
-use Rattle.directory_main.specs.Entries.{numberAt, kinds, kindOf}
+use Rattle.rules.proofs.memory.Cases.{above}
+use Rattle.rules.specs.Script.{numberAt}
+use Rattle.directory_main.specs.Entries.{kinds, kindOf}
 use borrow.Author.Needs.{needs}
 use Rattle.directory_main.proofs.entries.request_of.Statement.{statement}
 use Rattle.directory_main.proofs.entries.request_of.Tie as tie

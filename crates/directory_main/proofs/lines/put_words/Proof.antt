@@ -8,7 +8,7 @@ use lib.ListN.{length, getD, take}
 use lib.Seq.{take-length}
 use Rattle.rules.specs.Script.{decimal, space}
 use Rattle.script.proofs.Digits.{long32}
-use Rattle.script.proofs.Runs.{Written, and-more}
+use Rattle.rules.proofs.memory.Sets.{Written, and-more}
 use Rattle.directory_main.specs.Lines.{wordsText}
 use Rattle.directory_main.proofs.Text.{word-put}
 use Rattle.directory_main.proofs.lines.put_words.Statement.{statement}

@@ -7,7 +7,7 @@ use borrow.Author.Needs.{needs}
 use lib.ListN.{length, length-set}
 use Rattle.rules.specs.Script.{decimal, space, newline}
 use Rattle.script.proofs.Digits.{long64, long32}
-use Rattle.script.proofs.Runs.{written, and-more}
+use Rattle.rules.proofs.memory.Sets.{written, and-more}
 use Rattle.directory_main.specs.Lines.{longest, wordsText, lineText}
 use Rattle.directory_main.proofs.lines.write_line.Statement.{statement}
 use Rattle.directory_main.proofs.lines.write_line.Tie as tie

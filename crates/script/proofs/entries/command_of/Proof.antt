@@ -1,6 +1,6 @@
 -- The kinds 1 to 14, one after another.
 use Prim.Native.Nat.{ℕ, _≤_}
-use Rattle.script.proofs.Sizes.{above}
+use Rattle.rules.proofs.memory.Cases.{above}
 use mathlib.Core.Path.{_≡_}
 use lib.ListN.{getD}
 use native.Mathlib.Omega.{arith}

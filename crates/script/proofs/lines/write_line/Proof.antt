@@ -4,7 +4,7 @@ use mathlib.Core.Path.{_≡_, refl}
 use mathlib.Core.List.{[], _∷_}
 use Rattle.rules.specs.Script.{decimal, textOf, space, newline}
 use Rattle.script.specs.Lines.{longest}
-use Rattle.script.proofs.Runs.{written, and-more}
+use Rattle.rules.proofs.memory.Sets.{written, and-more}
 use native.Mathlib.Omega.{arith}
 use borrow.Author.Needs.{needs}
 use lib.ListN.{length, length-set}
