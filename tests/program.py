@@ -1,4 +1,5 @@
-"""Runs the script program and the directory program, or those that the environment names as SCRIPT_PROGRAM and DIRECTORY_PROGRAM."""
+"""Runs the script program, the directory program and the load program, or those that the environment names as SCRIPT_PROGRAM,
+DIRECTORY_PROGRAM and WORKLOAD_PROGRAM."""
 import os
 import resource
 import subprocess
@@ -6,6 +7,7 @@ import subprocess
 BUILT = os.path.join(os.path.dirname(os.path.abspath(__file__)), "..", "target", "bin")
 PROGRAM = os.environ.get("SCRIPT_PROGRAM", os.path.join(BUILT, "script_main"))
 DIRECTORY = os.environ.get("DIRECTORY_PROGRAM", os.path.join(BUILT, "directory_main"))
+WORKLOAD = os.environ.get("WORKLOAD_PROGRAM", os.path.join(BUILT, "workload_main"))
 
 
 def run(data, stack=None, program=PROGRAM):

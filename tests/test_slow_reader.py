@@ -18,6 +18,7 @@ from model import ALLOCATE, ATTACH, READ, STEP, WRITE
 from scripts import encode
 from table import OPEN, ADD, MAKE, JOIN, LIST, LAST
 
+WHO = os.path.basename(sys.argv[0])  # this test, or one that shares its checks
 # far more lines than a pipe holds
 ENTRIES = 300000
 PAGE = 4096
@@ -65,9 +66,9 @@ def end(name, child):
         complaint = child.communicate(timeout=60)[1]
     except subprocess.TimeoutExpired:
         child.kill()
-        sys.exit(f"test_slow_reader: {name}: the program does not end")
+        sys.exit(f"{WHO}: {name}: the program does not end")
     if child.returncode != 0 or complaint:
-        sys.exit(f"test_slow_reader: {name}: status {child.returncode}, standard error {complaint[:200]!r}")
+        sys.exit(f"{WHO}: {name}: status {child.returncode}, standard error {complaint[:200]!r}")
 
 
 def in_file(name, source, size=resource.RLIM_INFINITY):
@@ -116,10 +117,10 @@ def check(name, got, want, least, most):
     """That these bytes are the beginning of the text, and how many they are."""
     if got != want[:len(got)]:
         wrong = next((i for i in range(len(want)) if got[i] != want[i]), len(want))
-        sys.exit(f"test_slow_reader: {name}: not the beginning of the text: {got[wrong - 20:wrong + 20]!r} at byte {wrong}, "
-                 f"which has {want[wrong - 20:wrong + 20]!r}")
+        sys.exit(f"{WHO}: {name}: not the beginning of the text: {got[max(wrong - 20, 0):wrong + 20]!r} at byte {wrong}, "
+                 f"which has {want[max(wrong - 20, 0):wrong + 20]!r}")
     if not least <= len(got) <= most:
-        sys.exit(f"test_slow_reader: {name}: {len(got)} of {len(want)} bytes came out")
+        sys.exit(f"{WHO}: {name}: {len(got)} of {len(want)} bytes came out")
     return f"{name} {len(got)}"
 
 

@@ -1,18 +1,20 @@
 #!/usr/bin/env python3
-"""The script program and the directory program in a small stack, which no proof bounds. With 96 KB of it the script program writes, byte
+"""The programs in a small stack, which no proof bounds. With 96 KB of it the script program writes, byte
 for byte, what document 01 gives for long random scripts with every kind of call and for one that fills the store and collects it while
-it is full; with 112 KB the directory program writes what the directory in Python gives. With no more stack than their two halves take
-they must fail, which shows that the limit is kept."""
+it is full; with 112 KB the directory program writes what the directory in Python gives, and with 32 KB the load program writes the
+longest loads. With no more stack than their arrays take they must fail, which shows that the limit is kept."""
 import sys
 
 import directory_scripts
+import load
 import program
 from model import ALLOCATE, ATTACH, CLEAR, GET, PUT, STORE
 from scripts import ARGUMENTS, encode, finish, kept, long_scripts, look
 from test_bad_scripts import expected
 
-STACK, DIRECTORY_STACK = 96 * 1024, 112 * 1024
+STACK, DIRECTORY_STACK, LOAD_STACK = 96 * 1024, 112 * 1024, 32 * 1024
 HALVES = 2 * 4096 * 4
+BUFFERS = 2 * 4096  # of the load program: its own, and that of the kit's call which reads or writes
 # how many records of `kept`, of six words each, a half has room for
 RECORDS = 4096 // 6
 SESSIONS = list(range(16))
@@ -65,12 +67,22 @@ def directory_program():
         sys.exit(f"test_stack: the directory's scripts do not show enough: {kinds}")
 
 
+def load_program():
+    entries = 0
+    for seed in (1, 2, load.WORD):
+        check(f"load of seed {seed}", load.asked(seed, load.MOST), load.Workload().script(seed, load.MOST), LOAD_STACK, program.WORKLOAD)
+        entries += load.MOST
+    print(f"test_stack: {entries} entries of the load program with {LOAD_STACK // 1024} KB of stack")
+
+
 def main():
     script_program()
     directory_program()
-    for data, path in ((b"\x01", program.PROGRAM), (b"\x02", program.DIRECTORY)):
-        if program.run(data, HALVES, path).returncode == 0:
-            sys.exit(f"test_stack: {path} runs with {HALVES // 1024} KB of stack, so the limit is not kept")
+    load_program()
+    for data, path, least in ((b"\x01", program.PROGRAM, HALVES), (b"\x02", program.DIRECTORY, HALVES),
+                              (load.asked(1, 5), program.WORKLOAD, BUFFERS)):
+        if program.run(data, least, path).returncode == 0:
+            sys.exit(f"test_stack: {path} runs with {least // 1024} KB of stack, so the limit is not kept")
 
 
 if __name__ == "__main__":
