@@ -1,22 +1,23 @@
--- The starred examples, and two runs computed by the checker: the script example of document 01, and a whole collection.
-use Prim.Native.Nat.{ℕ, zero, suc}
+-- The starred examples, and runs computed by the checker: the script example of document 01, a whole collection, and two in which marking
+-- takes as long as it can.
+use Prim.Native.Nat.{ℕ, zero, suc, _+_}
 use mathlib.Core.Path.{_≡_, refl}
 use mathlib.Core.List.{List, [], _∷_, _++_}
 use lib.ListN.{replicate, drop}
 use Rattle.rules.specs.Memory.{half, frontier, withHalf, withFrontier, reference, halfOf, wordOf, inHalf, shapeWord, refsOf, plainsOf, newRecord, word, put, colour, replica, refs, plains, size, append, nextReference, sound, followed, copyOf, otherCopy, forward}
-use Rattle.rules.specs.Control.{halfAllowed, listAllowed, lengthsAllowed, sameLengths, walkLimit, inRange, making, Store}
-use Rattle.rules.specs.Cycle.{atRest, atReclaim}
+use Rattle.rules.specs.Control.{sessionCount, globalCount, halfAllowed, listAllowed, lengthsAllowed, sameLengths, walkLimit, inRange, making, Store}
+use Rattle.rules.specs.Cycle.{atRest, atAllocate, atReclaim}
 use Rattle.rules.specs.Phases.{levelOf, nextPhase, otherHalf, fromspace, tospace, sessionAt, withSession, register, unmarked, moveOn}
-use Rattle.rules.specs.Barriers.{toShade, listRoom, shading, shade, shadesAt, copiesAt, barrierShade, replicaFor, ownWord, replicaWord, storeWrites, putBoth, sameAt, roomIn, allocationRoom, placed, allocated, allocatedReference}
+use Rattle.rules.specs.Barriers.{toShade, listRoom, shading, shade, listing, shadingAll, shadesAt, shadesOldAt, copiesAt, barrierShades, shadeBoth, replicaFor, ownWord, replicaWord, storeWrites, putBoth, sameAt, roomIn, allocationRoom, placed, allocated, allocatedReference}
 use Rattle.rules.specs.Calls as calls
 use Rattle.rules.specs.Collector as collector
-use Rattle.rules.specs.Runs.{Call, Attach, SafePoint, Allocate, Load, StoreRef, Read, Write, Clear, Step, after}
+use Rattle.rules.specs.Runs.{Call, Attach, SafePoint, Allocate, Load, StoreRef, Read, Write, Clear, Step, after, spent}
 use Rattle.rules.specs.Examples.{makingOf, small, numbers, values, starred}
 use Rattle.rules.specs.Claims.{Starred}
 
 -- opens every definition that a closed run computes with
 unfoldable pub rules : Unit {0}
-unfolding small numbers values halfAllowed listAllowed lengthsAllowed sameLengths walkLimit inRange half frontier withHalf withFrontier reference halfOf wordOf inHalf shapeWord refsOf plainsOf newRecord word put colour replica refs plains size append nextReference sound followed copyOf otherCopy forward levelOf nextPhase otherHalf fromspace tospace sessionAt withSession register unmarked moveOn toShade listRoom shading shade shadesAt copiesAt barrierShade replicaFor ownWord replicaWord storeWrites putBoth roomIn allocationRoom placed allocated allocatedReference calls.sessionOf calls.operandsOf calls.recordOf calls.withRegister calls.attach calls.safePoint calls.allocate calls.loadPlan calls.load calls.storePlan calls.storeCommit calls.store calls.read calls.writePlan calls.writeCommit calls.write calls.clear collector.walked collector.below collector.pastRecord collector.haveLevel collector.rest collector.handshake collector.rootMark collector.scanRecord collector.scanSession collector.heapMark collector.needsShell collector.shellOf collector.withShell collector.allocateShells collector.copyRef collector.copyPlain collector.copyField collector.copy collector.rootFlip collector.stackFlip collector.reclaim collector.step calls.same making makingOf sameAt
+unfolding small numbers values halfAllowed listAllowed lengthsAllowed sameLengths walkLimit inRange half frontier withHalf withFrontier reference halfOf wordOf inHalf shapeWord refsOf plainsOf newRecord word put colour replica refs plains size append nextReference sound followed copyOf otherCopy forward levelOf nextPhase otherHalf fromspace tospace sessionAt withSession register unmarked moveOn toShade listRoom shading shade listing shadingAll shadesAt shadesOldAt copiesAt barrierShades shadeBoth replicaFor ownWord replicaWord storeWrites putBoth roomIn allocationRoom placed allocated allocatedReference calls.sessionOf calls.operandsOf calls.recordOf calls.withRegister calls.attach calls.safePoint calls.allocate calls.loadPlan calls.load calls.storePlan calls.storeCommit calls.store calls.read calls.writePlan calls.writeCommit calls.write calls.clear collector.walked collector.below collector.pastRecord collector.haveLevel collector.rest collector.handshake collector.rootMark collector.scanRecord collector.scanSession collector.heapMark collector.needsShell collector.shellOf collector.withShell collector.allocateShells collector.copyRef collector.copyPlain collector.copyField collector.copy collector.rootFlip collector.stackFlip collector.reclaim collector.step calls.same making makingOf sameAt
 rules = tt
 
 pub starred-hold : Starred
@@ -54,16 +55,43 @@ begun : seen (after small before) ≡ atRest ∷ 13 ∷ 0 ∷ []
 unfolding rules before seen
 begun = refl
 
--- 93 steps later the collector has one step to go: both halves are full
-last : seen (after small (before ++ steps 93)) ≡ atReclaim ∷ 13 ∷ 9 ∷ []
+-- 92 steps later the collector has one step to go: both halves are full
+last : seen (after small (before ++ steps 92)) ≡ atReclaim ∷ 13 ∷ 9 ∷ []
 unfolding rules before steps seen
 last = refl
 
 -- what nothing named is gone, and the rest is still there
-collected : seen (after small (before ++ steps 94)) ≡ atRest ∷ 0 ∷ 9 ∷ []
+collected : seen (after small (before ++ steps 93)) ≡ atRest ∷ 0 ∷ 9 ∷ []
 unfolding rules before steps seen
 collected = refl
 
-reading : drop 196 (values (before ++ steps 94 ++ (Load 0 1 0 0 ∷ Read 0 1 0 ∷ []))) ≡ 0 ∷ 42 ∷ []
+reading : drop 194 (values (before ++ steps 93 ++ (Load 0 1 0 0 ∷ Read 0 1 0 ∷ []))) ≡ 0 ∷ 42 ∷ []
 unfolding rules before steps
 reading = refl
+
+-- ---- the bound on marking: 17 are a scan of each of sixteen sessions and the step that moves on
+
+-- a call of each session below n
+everyone : (ℕ → Call) → ℕ → List Call
+everyone c zero = []
+everyone c (suc n) = c n ∷ everyone c n
+
+-- sixteen sessions attach and make the calls cs; then up to the last step that begins in phase 4, of which there are n
+marked : List Call → ℕ → List Call
+marked cs n =
+    everyone Attach sessionCount ++ cs ++ (Step ∷ everyone SafePoint sessionCount) ++ (Step ∷ everyone SafePoint sessionCount)
+    ++ (Step ∷ replicate (globalCount + 1) Step) ++ replicate n Step
+
+-- the steps that began in phase 4, the used words of the current half, and the phase
+bounded : List Call → List ℕ
+bounded cs = spent 0 small cs ∷ after small cs .memory .frontier0 ∷ after small cs .phase ∷ []
+
+-- without a record the bound is reached
+seventeen : bounded (marked [] 17) ≡ 17 ∷ 0 ∷ atAllocate ∷ []
+unfolding rules everyone marked bounded
+seventeen = refl
+
+-- a record of three words takes one step
+eighteen : bounded (marked (Allocate 0 0 0 0 ∷ []) 18) ≡ 18 ∷ 3 ∷ atAllocate ∷ []
+unfolding rules everyone marked bounded
+eighteen = refl

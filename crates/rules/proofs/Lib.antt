@@ -1,5 +1,5 @@
--- The claims of specs/Claims.antt: claim 5 by computation, claim 1 and the numbers of section 6 from each rule by itself, the others from
--- the run theorem.
+-- The claims of specs/Claims.antt: claim 5 by computation; claim 1, the numbers of section 6 and, of claim 7, that marks stay from each rule
+-- by itself; the others from the run theorem.
 
 -- claim 5, and closed runs that the checker computes
 pub mod Examples
@@ -9,8 +9,8 @@ pub mod Script
 pub mod claims
 -- what the tests 4, 5 and 6 say: the ranges of the control record, the session of a call
 pub mod Ranges
--- scanned marks, and that shading clears them
-pub mod Scanned
+-- a record shaded, or nothing
+pub mod Shaded
 -- The run theorem, in layers, lowest first.
 -- the memory interface: what a record is, and what the operations on memory keep
 pub mod memory

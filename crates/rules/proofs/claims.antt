@@ -1,9 +1,8 @@
--- The claims of specs/Claims.antt that need no run, one file each. It rests on relation; the others are in runs.Claims.
+-- The claims of specs/Claims.antt that need no run, one file each. It rests on relation; the others are in runs, `marks-stay` too, which needs none.
 
 -- claim 1: a refused call keeps the store
 pub mod Refusals
 -- claim 3, from claim 2
 pub mod TwoRuns
--- of section 6: the numbers of refusals, from those of the tests of each rule
-pub mod Rows
+-- of section 6: the numbers of refusals
 pub mod Numbers

@@ -10,6 +10,8 @@ pub mod WriteSim
 pub mod Written
 pub mod Reference
 pub mod Plain
+-- the bound on marking
+pub mod Spent
 -- the barriers by level: what their rules pass with, levels 0 to 3, each store, levels 4 to 6
 pub mod Barrier
 pub mod Barred

@@ -11,3 +11,5 @@ pub mod Transfer
 pub mod Marks
 -- all groups at once where only colours, only replica words or only fields change
 pub mod Whole
+-- the bound on marking over them
+pub mod Spent

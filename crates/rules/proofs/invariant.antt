@@ -2,9 +2,10 @@
 
 -- the stages of the phases
 pub mod Stages
--- words that name records; the groups on values, and those on marking
+-- words that name records; the groups on values; white records that HeapMark has still to come to, and the groups on marking
 pub mod Words
 pub mod Groups
+pub mod Protected
 pub mod Marking
 -- all groups together: the invariant
 pub mod Sim
@@ -32,3 +33,6 @@ pub mod Counted
 pub mod Places
 -- the record at the walk, and the walk moved
 pub mod Walked
+-- the bound on marking, and what steps add to it
+pub mod Spent
+pub mod Spending

@@ -12,7 +12,7 @@ pub mod WalkOn
 -- a listed record coloured black
 pub mod BlackList
 pub mod Blacken
--- the white records among the registers of a session, shaded one after another
+-- the white records among several references, shaded one after another
 pub mod Whites
 pub mod ShadeAll
 -- 3 RootMark

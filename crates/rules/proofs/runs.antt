@@ -5,7 +5,7 @@ pub mod Start
 -- a step, and any call
 pub mod Step
 pub mod Call
--- runs: the invariant, and the session answers
+-- runs: the invariant, the bound on marking, and the session answers
 pub mod Runs
 -- the halves without gaps
 pub mod Filled
@@ -16,3 +16,6 @@ pub mod StaysFreed
 pub mod LiveFits
 -- the claims 2 to 4, and those of section 6 on runs
 pub mod Claims
+-- claim 7: marking ends; in HeapMark marks stay
+pub mod MarkingEnds
+pub mod MarksStay

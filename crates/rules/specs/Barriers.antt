@@ -1,12 +1,13 @@
 -- Phases and levels: shading, and what stores, puts, plain writes, same and allocation do by the session's level.
 use Prim.Native.Nat.{ℕ, _+_}
 use mathlib.Core.Bool.{Bool, true, false, cond, not, _&&_, _||_}
+use mathlib.Core.List.{List, [], _∷_}
 use lib.Dec.{leb, ltb, eqb}
-use lib.ListN.{set, length}
+use lib.ListN.{getD, set, length}
 use Rattle.rules.specs.Refusals.{Tested, passed, check, _>>=_, _>>_}
-use Rattle.rules.specs.Memory.{Memory, half, frontier, null, halfOf, inHalf, shapeWord, sizeOf, white, grey, black, colourAt, newRecord, put, colour, replica, refs, append, nextReference, followed, otherCopy, forward}
-use Rattle.rules.specs.Control.{Store, withMemory, withList, withSessions}
-use Rattle.rules.specs.Phases.{otherHalf, fromspace, tospace, unmarked}
+use Rattle.rules.specs.Memory.{Memory, half, frontier, null, halfOf, inHalf, shapeWord, sizeOf, white, grey, black, colourAt, newRecord, word, put, colour, replica, refs, refField, append, nextReference, followed, otherCopy, forward}
+use Rattle.rules.specs.Control.{Store, withMemory, withList}
+use Rattle.rules.specs.Phases.{otherHalf, fromspace, tospace}
 use Rattle.rules.specs.declared.Writes.{Writes}
 
 -- ---- what a barrier looks at
@@ -27,7 +28,7 @@ to z = otherHalf (z .from)
 
 -- ---- shading
 
--- "Shading a white record colours it grey, appends it to the list and clears all scanned marks. Null and other colours: nothing."
+-- "Shading a white record colours it grey, appends it to the list .. Null and other colours: nothing."
 -- The reference to shade, or null where there is nothing to do.
 unfoldable pub toShade : Memory → ℕ → Tested ℕ
 toShade M v = cond (eqb v null) (passed null) (do
@@ -38,20 +39,49 @@ toShade M v = cond (eqb v null) (passed null) (do
 unfoldable pub listRoom : Heap → ℕ → Tested (Unit {0})
 listRoom z n = check (leb (z .tail + n) (z .capacity)) 12
 
--- the same for one reference, with room in the list
+-- what there is to shade of one reference, with room for it in the list
 unfoldable pub shading : Heap → ℕ → Tested ℕ
 shading z v = do
   w ← toShade (z .memory) v
   listRoom z (cond (eqb w null) 0 1)
   passed w
 
--- the record v shaded, or nothing where v is null
+-- the record v shaded, or nothing where v is null. Request [3]: "Shading no longer clears scanned marks"
 unfoldable pub shade : Store → ℕ → Store
 shade s v = cond (eqb v null) s
-    (withSessions
     (withList (withMemory s (put (s .memory) v colourAt grey))
     (set (s .list .words) (s .list .tail) v) (s .list .head) (s .list .tail + 1))
-    (unmarked (s .sessions)))
+
+-- ---- shading several references
+
+-- a list without the entries equal to v
+abbrev pub without : ℕ → List ℕ → List ℕ
+without v [] = []
+without v (w ∷ ws) = cond (eqb v w) (without v ws) (w ∷ without v ws)
+
+-- the white records among references, each once, in the order met
+abbrev pub toShadeAll : Memory → List ℕ → Tested (List ℕ)
+toShadeAll M [] = passed []
+toShadeAll M (v ∷ vs) = do
+  w ← toShade M v
+  ws ← toShadeAll M vs
+  passed (cond (eqb w null) ws (w ∷ without w ws))
+
+-- records to shade, with room in the list for all of them
+unfoldable pub listing : Heap → List ℕ → Tested (List ℕ)
+listing z vs = do
+  listRoom z (length vs)
+  passed vs
+
+-- the white records among references, with room for all of them
+unfoldable pub shadingAll : Heap → List ℕ → Tested (List ℕ)
+shadingAll z vs = do
+  ws ← toShadeAll (z .memory) vs
+  listing z ws
+
+abbrev pub shadeAll : Store → List ℕ → Store
+shadeAll s [] = s
+shadeAll s (v ∷ vs) = shadeAll (shade s v) vs
 
 -- ---- stores and puts by level
 
@@ -59,12 +89,17 @@ shade s v = cond (eqb v null) s
 unfoldable pub shadesAt : ℕ → Bool
 shadesAt l = leb 1 l && leb l 3
 
+-- Request [3]: "Stores and puts at levels 2 and 3 now also shade the reference they overwrite, before the stored one"
+unfoldable pub shadesOldAt : ℕ → Bool
+shadesOldAt l = leb 2 l && leb l 3
+
 -- levels 4 to 6 write to the replica too
 unfoldable pub copiesAt : ℕ → Bool
 copiesAt l = leb 4 l
 
-unfoldable pub barrierShade : Heap → ℕ → ℕ → Tested ℕ
-barrierShade z l q = cond (shadesAt l) (shading z q) (passed null)
+-- what a store or a put of q over old shades at level l: at most two records, in the order in which they are shaded
+unfoldable pub barrierShades : Heap → ℕ → ℕ → ℕ → Tested (List ℕ)
+barrierShades z l old q = cond (shadesAt l) (shadingAll z (cond (shadesOldAt l) old null ∷ q ∷ [])) (passed [])
 
 -- the replica that a write of field i at level l goes to as well, or null where none is written.
 -- "A write to a replica goes to its field of the same kind and number; a replica without that field is damage too":
@@ -94,18 +129,22 @@ replicaWord z l v q =
 -- all that a store of q into reference field i of v writes
 unfoldable pub storeWrites : Heap → ℕ → ℕ → ℕ → ℕ → Tested Writes
 storeWrites z l v i q = do
-  w ← barrierShade z l q
+  vs ← barrierShades z l (word (z .memory) v (refField i)) q
   t ← replicaFor (z .memory) refs l v i
   own ← ownWord z l v q
   copy ← cond (eqb t null) (passed null) (replicaWord z l v q)
-  passed (record { shade = w; own = own; replica = t; copy = copy })
+  passed (record { first = getD vs 0 null; second = getD vs 1 null; own = own; replica = t; copy = copy })
 
--- all that a put of q into a global writes
-unfoldable pub putWrites : Heap → ℕ → ℕ → Tested Writes
-putWrites z l q = do
-  w ← barrierShade z l q
+-- all that a put of q into a global that holds old writes
+unfoldable pub putWrites : Heap → ℕ → ℕ → ℕ → Tested Writes
+putWrites z l old q = do
+  vs ← barrierShades z l old q
   own ← ownWord z l null q
-  passed (record { shade = w; own = own; replica = null; copy = null })
+  passed (record { first = getD vs 0 null; second = getD vs 1 null; own = own; replica = null; copy = null })
+
+-- the records that a store or a put shades, one after the other
+unfoldable pub shadeBoth : Store → Writes → Store
+shadeBoth s w = shade (shade s (w .first)) (w .second)
 
 -- word j of v, then word k of the replica t where it is written
 unfoldable pub putBoth : Memory → ℕ → ℕ → ℕ → ℕ → ℕ → ℕ → Memory

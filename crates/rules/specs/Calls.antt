@@ -7,9 +7,10 @@ use lib.Dec.{leb, ltb, eqb}
 use lib.ListN.{getD, set, take, drop}
 use Rattle.rules.specs.Refusals.{Tested, passed, check, _>>=_, _>>_, Outcome, done, answered}
 use Rattle.rules.specs.Memory.{half, null, halfOf, wordOf, header, mostCount, word, refs, plains, refField, plainField, followed}
+use Rattle.rules.specs.Cycle.{atHeapMark}
 use Rattle.rules.specs.Control.{Store, withMemory, withGlobals, inRange, lastSession, lastRegister, lastGlobal}
 use Rattle.rules.specs.Phases.{levelOf, sessionAt, withSession, register, withRegisters, withLevel, attachedAt, detached}
-use Rattle.rules.specs.Barriers.{heapOf, shade, replicaFor, storeWrites, putWrites, putBoth, sameAt, allocationRoom, allocated, allocatedReference}
+use Rattle.rules.specs.Barriers.{heapOf, shadeBoth, replicaFor, storeWrites, putWrites, putBoth, sameAt, allocationRoom, allocated, allocatedReference}
 use Rattle.rules.specs.declared.Session.{Session}
 use Rattle.rules.specs.declared.Operands.{Operands}
 use Rattle.rules.specs.declared.Writes.{Writes}
@@ -59,13 +60,13 @@ withRegister s n k v = withSession s n (withRegisters (sessionAt s n) (set (sess
 
 -- ---- the calls
 
--- "level becomes the phase's level, registers null, unscanned"
+-- "level becomes the phase's level, registers null, unscanned"; request [3]: "a session attached in phase 4 counts as scanned"
 unfoldable pub attach : Store → ℕ → Tested (Outcome Store)
 attach s n = do
   check (inRange s) 4
   check (leb n lastSession) 5
   check (not (sessionAt s n .attached)) 7
-  done (withSession s n (attachedAt (levelOf (s .phase))))
+  done (withSession s n (attachedAt (levelOf (s .phase)) (eqb (s .phase) atHeapMark)))
 
 -- "registers null, level 0"
 unfoldable pub detach : Store → ℕ → Tested (Outcome Store)
@@ -113,11 +114,11 @@ storePlan s n k i from = do
   w ← storeWrites (heapOf s) (x .level) (x .own) i (x .other)
   passed (record { into = x .own; writes = w })
 
--- "first shade the stored record", then the field of the record and of its replica
+-- the reference that is overwritten shaded, then the stored one, then the field of the record and of its replica
 unfoldable pub storeCommit : Store → ℕ → StorePlan → Store
 storeCommit s i q =
     let w = q .writes in
-    let shaded = shade s (w .shade) in
+    let shaded = shadeBoth s w in
     withMemory shaded (putBoth (shaded .memory) (q .into) (refField i) (w .own) (w .replica) (refField i) (w .copy))
 
 unfoldable pub store : Store → ℕ → ℕ → ℕ → ℕ → Tested (Outcome Store)
@@ -190,11 +191,11 @@ putPlan s n g from = do
   x ← sessionOf s n
   check (isRegister from) 8
   check (isGlobal g) 9
-  putWrites (heapOf s) (x .level) (register x from)
+  putWrites (heapOf s) (x .level) (getD (s .globals) g null) (register x from)
 
--- "first shade the stored record", then the global
+-- the reference that is overwritten shaded, then the stored one, then the global
 unfoldable pub putCommit : Store → ℕ → Writes → Store
-putCommit s g w = withGlobals (shade s (w .shade)) (set (s .globals) g (w .own))
+putCommit s g w = withGlobals (shadeBoth s w) (set (s .globals) g (w .own))
 
 unfoldable pub put : Store → ℕ → ℕ → ℕ → Tested (Outcome Store)
 put s n g from = do

@@ -1,16 +1,16 @@
--- The claims about the rules. Together with the contracts of the code they say points 1, 2 and 3.
+-- The claims about the rules. Together with the contracts of the code they say points 1, 2 and 3, and request [3].
 use Prim.Native.Nat.{ℕ, _+_, _≤_, _<_}
 use mathlib.Core.Path.{_≡_}
 use mathlib.Core.Logic.{_≢_, _⊎_}
 use mathlib.Core.Bool.{true}
 use mathlib.Core.List.{List, [], _∷_, map, List·Memᴰ}
-use lib.ListN.{getD, length}
+use lib.ListN.{getD, length, take}
 use Rattle.rules.specs.Refusals.{answer, doneOr}
-use Rattle.rules.specs.Memory.{Memory, frontier, null, reference, size, sound}
-use Rattle.rules.specs.Cycle.{atRest}
-use Rattle.rules.specs.Control.{Store, make, inRange}
+use Rattle.rules.specs.Memory.{Memory, frontier, null, reference, refs, size, sound}
+use Rattle.rules.specs.Cycle.{atRest, atHeapMark, atReclaim}
+use Rattle.rules.specs.Control.{Store, make, inRange, sessionCount}
 use Rattle.rules.specs.Phases.{otherHalf, sessionAt}
-use Rattle.rules.specs.Runs.{Call, SafePoint, Step, apply, after, isSession, isAllocation, sessionCalls, sessionRun, fedBy, feeds}
+use Rattle.rules.specs.Runs.{Call, Attach, SafePoint, Step, apply, after, isSession, isAllocation, sessionCalls, sessionRun, fedBy, feeds, steps, spent}
 use Rattle.rules.specs.Free.{Free, newFree, freeSession, freeRegister, freeSessionOf, freeApply, freeRun}
 use Rattle.rules.specs.Tracking.{Beside, newBeside, beside, Reached, recordsOf, wordsAt}
 use Rattle.rules.specs.Examples.{starred}
@@ -147,3 +147,45 @@ unfoldable pub NullRegisters : Type 0
 NullRegisters =
     (s : Store) → Made s → (cs : List Call) (n k : ℕ)
     → freeRegister (freeSession (freeAfter s cs) n) k ≡ null → getD (sessionAt (after s cs) n .registers) k null ≡ null
+
+-- ---- 7. Marking ends
+-- "plus 17": a scan of each of the sixteen sessions, and the step that moves on
+abbrev pub scansAndMove : ℕ
+scansAndMove = sessionCount + 1
+
+-- Request [3]: "a collection then spends in phase 4 at most the current half's used words at its end, plus 17 collector steps". At every
+-- moment of every run: while phase 4 lasts, the steps so far and the words used then; when it has ended; and when the collection has.
+unfoldable pub MarkingEnds : Type 0
+MarkingEnds =
+    (s : Store) → Made s → (cs : List Call) → spent 0 s cs ≤ frontier (after s cs .memory) (after s cs .current) + scansAndMove
+
+-- sharper, up to the step that makes tospace current: a step for each reference field and one for each record of the current half, and 17.
+-- A record has two words and more beyond that.
+abbrev pub stepsOn : Memory → List ℕ → ℕ
+stepsOn M [] = 0
+stepsOn M (v ∷ vs) = refs M v + 1 + stepsOn M vs
+
+unfoldable pub MarkingSteps : Type 0
+MarkingSteps =
+    (s : Store) → Made s → (cs : List Call) → after s cs .phase ≢ atRest → after s cs .phase ≢ atReclaim
+    → spent 0 s cs ≤ stepsOn (after s cs .memory) (recordsOf (after s cs .memory) (after s cs .current)) + scansAndMove
+
+-- "Marking must come to an end": from every moment of every run on, if the calls ds hold more collector steps than a half's length plus
+-- 17, then after some first n of them the phase isn't 4
+unfoldable pub MarkingIsOver : Type 0
+MarkingIsOver =
+    (s : Store) → Made s → (cs ds : List Call) → after s cs .lengths .half0 + scansAndMove < steps ds
+    → (n : ℕ) × (n ≤ length ds) × (after (after s cs) (take n ds) .phase ≢ atHeapMark)
+
+-- "each other session is scanned once": a scan is of a session without a mark, phase 4 is left only where no attached session is without
+-- one (`heapMark`), a scan sets the mark (`scanSession`), and while phase 4 lasts no call takes a mark away. For every store and every call
+unfoldable pub MarksStay : Type 0
+MarksStay =
+    (s : Store) (c : Call) (n : ℕ) → s .phase ≡ atHeapMark → apply s c .store .phase ≡ atHeapMark
+    → sessionAt s n .scanned ≡ true → sessionAt (apply s c .store) n .scanned ≡ true
+
+-- "a session attached in phase 4 counts as scanned": in every run
+unfoldable pub AttachedScanned : Type 0
+AttachedScanned =
+    (s : Store) → Made s → (cs : List Call) (n : ℕ) → after s cs .phase ≡ atHeapMark → apply (after s cs) (Attach n) .reply ≡ answer Done
+    → sessionAt (apply (after s cs) (Attach n) .store) n .scanned ≡ true

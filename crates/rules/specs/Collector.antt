@@ -8,7 +8,7 @@ use Rattle.rules.specs.Refusals.{Tested, passed, check, _>>=_, _>>_, Out
 use Rattle.rules.specs.Memory.{Memory, half, frontier, withFrontier, null, reference, white, black, shapeAt, colourAt, replicaAt, newRecord, word, put, colour, replica, refs, plains, size, refField, plainField, append, nextReference, followed, forward}
 use Rattle.rules.specs.Control.{Store, withMemory, withWalk, withList, withGlobals, withCurrent, inRange, globalCount}
 use Rattle.rules.specs.Phases.{levelOf, otherHalf, tospace, sessionAt, withSession, withRegisters, withMark, allAt, lowestUnmarked, moveOn}
-use Rattle.rules.specs.Barriers.{heapOf, toShade, listRoom, shading, shade}
+use Rattle.rules.specs.Barriers.{heapOf, shading, shade, shadingAll, shadeAll}
 use Rattle.rules.specs.declared.Answer.the-variants.{Phase}
 
 -- ---- the walk over the records of the current half
@@ -58,28 +58,11 @@ scanRecord s v = do
       (passed (withWalk (withList (withMemory s (put (s .memory) v colourAt black))
       (s .list .words) (s .list .head + 1) (s .list .tail)) (s .walk .place) 0))
 
--- a list without the entries equal to v
-abbrev pub without : ℕ → List ℕ → List ℕ
-without v [] = []
-without v (w ∷ ws) = cond (eqb v w) (without v ws) (w ∷ without v ws)
-
--- the white records among references, each once, in the order met
-abbrev pub toShadeAll : Memory → List ℕ → Tested (List ℕ)
-toShadeAll M [] = passed []
-toShadeAll M (v ∷ vs) = do
-  w ← toShade M v
-  ws ← toShadeAll M vs
-  passed (cond (eqb w null) ws (w ∷ without w ws))
-
-abbrev pub shadeAll : Store → List ℕ → Store
-shadeAll s [] = s
-shadeAll s (v ∷ vs) = shadeAll (shade s v) vs
-
--- "shade the registers of the lowest unscanned attached session in register order, marking it scanned before shading"
+-- "shade the registers of the lowest unscanned attached session in register order, marking it scanned before shading";
+-- request [3]: "each other session is scanned once", so the mark stays whatever is shaded
 unfoldable pub scanSession : Store → ℕ → Tested Store
 scanSession s n = do
-  vs ← toShadeAll (s .memory) (sessionAt s n .registers)
-  listRoom (heapOf s) (length vs)
+  vs ← shadingAll (heapOf s) (sessionAt s n .registers)
   passed (shadeAll (withSession s n (withMark (sessionAt s n) true)) vs)
 
 -- "oldest listed record unfinished ..; List done ..; All scanned: move on"

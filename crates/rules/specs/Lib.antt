@@ -1,4 +1,4 @@
--- Document 01 as definitions, a file for each heading, in its order.
+-- Document 01 as definitions, a file for each heading, in its order, with what document 02 changes of it.
 
 -- Memory and references
 pub mod Memory

@@ -51,9 +51,9 @@ withLevel x l = record { registers = x .registers; level = l; attached = x .atta
 abbrev pub withAttached : Session → Bool → Session
 withAttached x b = record { registers = x .registers; level = x .level; attached = b; scanned = x .scanned }
 
--- "level becomes the phase's level, registers null, unscanned"
-abbrev pub attachedAt : ℕ → Session
-attachedAt l = withLevel (withAttached nobody true) l
+-- a session newly attached at level l: registers null, with a scanned mark or without
+abbrev pub attachedAt : ℕ → Bool → Session
+attachedAt l b = withMark (withLevel (withAttached nobody true) l) b
 
 -- "registers null, level 0"; the scanned mark stays
 abbrev pub detached : Session → Session

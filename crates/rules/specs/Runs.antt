@@ -1,9 +1,11 @@
--- Runs: the calls of point 3, what one of them does to a store, and a list of them from a newly made store.
-use Prim.Native.Nat.{ℕ}
+-- Runs: the calls of point 3, what one of them does to a store, and a list of them from a newly made store; and how many collector steps of
+-- a collection begin in phase 4.
+use Prim.Native.Nat.{ℕ, suc}
 use mathlib.Core.Bool.{Bool, true, false, cond}
 use mathlib.Core.List.{List, [], _∷_}
 use lib.Dec.{eqb}
 use Rattle.rules.specs.Refusals.{Outcome, Reply, answer, words, settle, wordsOr, doneOr}
+use Rattle.rules.specs.Cycle.{atRest, atHeapMark}
 use Rattle.rules.specs.Control.{Store}
 use Rattle.rules.specs.Calls as calls
 use Rattle.rules.specs.Collector as collector
@@ -124,3 +126,38 @@ abbrev pub feeds : Store → List Call → List Fed
 feeds s [] = []
 feeds s (c ∷ cs) =
     cond (isAllocation c) (fedBy (apply s c .reply) ∷ feeds (apply s c .store) cs) (feeds (apply s c .store) cs)
+
+-- ---- collector steps
+
+abbrev pub isStep : Call → Bool
+isStep (Attach n) = false
+isStep (Detach n) = false
+isStep (SafePoint n) = false
+isStep (Allocate n k r p) = false
+isStep (Load n to k i) = false
+isStep (StoreRef n k i from) = false
+isStep (Read n k i) = false
+isStep (Write n k i a) = false
+isStep (Move n to from) = false
+isStep (Clear n k) = false
+isStep (SameAs n a b) = false
+isStep (Get n to g) = false
+isStep (Put n g from) = false
+isStep (Stretch n k) = false
+isStep (Companion n k) = false
+isStep Step = true
+
+-- how many of the calls are collector steps
+abbrev pub steps : List Call → ℕ
+steps [] = 0
+steps (c ∷ cs) = cond (isStep c) (suc (steps cs)) (steps cs)
+
+-- n collector steps of the present collection have begun in phase 4, HeapMark: how many after one call more. A collection begins with
+-- the step that leaves phase 0.
+abbrev pub spentBy : ℕ → Store → Call → ℕ
+spentBy n s c = cond (isStep c) (cond (eqb (s .phase) atRest) 0 (cond (eqb (s .phase) atHeapMark) (suc n) n)) n
+
+-- the same after a list of calls
+abbrev pub spent : ℕ → Store → List Call → ℕ
+spent n s [] = n
+spent n s (c ∷ cs) = spent (spentBy n s c) (apply s c .store) cs

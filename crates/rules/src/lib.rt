@@ -35,10 +35,11 @@ pub struct Operands {
     pub other: u32,
 }
 
-// What a store or a put writes: the record to shade first (0: none), the word for the record itself or the global,
-// the replica that is written as well (0: none) and the word for it.
+// What a store or a put writes: the records that it shades, one after the other (0: none), the word for the record itself
+// or the global, the replica that is written as well (0: none) and the word for it.
 pub struct Writes {
-    pub shade: u32,
+    pub first: u32,
+    pub second: u32,
     pub own: u32,
     pub replica: u32,
     pub copy: u32,

@@ -9,7 +9,7 @@ use Rattle.rules.specs.Free.{Free, newFree, freeApply, freeSessionOf}
 use Rattle.rules.specs.Tracking.{Beside, newBeside, besideCall, beside}
 use Rattle.rules.specs.Claims.{Made, freeAfter, NextAnswer, SafePointAnswer}
 use Rattle.rules.proofs.relation.Kinds.{Kind, allocation, unfed, silent, kind}
-use Rattle.rules.proofs.runs.Runs.{beside-store}
+use Rattle.rules.proofs.runs.Runs.{beside-store, after-more}
 use Rattle.rules.proofs.runs.Claims.{next-answer, safe-point-answer}
 use Rattle.directory_rules.specs.Acts.{ownSession, Ask, attach, safePoint, allocate, load, store, read, write, move, clear, get, put, callOf}
 use Rattle.directory_rules.proofs.free.Perform.{freeAsk}
@@ -29,10 +29,6 @@ beside-more : (b : Beside) (cs : List Call) (c : Call) → beside b (cs ++ (c �
 beside-more b [] c = refl
 beside-more b (x ∷ cs) c = beside-more (besideCall b x) cs c
 
-after-more : (s : Store) (cs : List Call) (c : Call) → after s (cs ++ (c ∷ [])) ≡ apply (after s cs) c .store
-after-more s [] c = refl
-after-more s (x ∷ cs) c = after-more (apply s x .store) cs c
-
 -- what it leaves of the collector-free store, fed as it was answered
 abbrev pub freeNext : Store → Free → Call → Free
 freeNext t f c = cond (isSession c) (freeApply f c (fedBy (apply t c .reply)) .store) f
@@ -45,7 +41,7 @@ module _ {s t : Store} {f : Free} (here : Here s t f) where
   pub here-call : (c : Call) → Here s (apply t c .store) (freeNext t f c)
   here-call c = record {
     calls = here .calls ++ (c ∷ []);
-    store = rw (after-more s (here .calls) c, here .store);
+    store = rw (after-more s (here .calls) (c ∷ []), here .store);
     free = rw (free-more s (here .calls) c, here .store, here .free);
   }
 

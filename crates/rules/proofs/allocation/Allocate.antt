@@ -16,10 +16,12 @@ use Rattle.rules.specs.Runs.{Fed, fedBy}
 use Rattle.rules.specs.Free.{Free, fedRoom, freeAllocate, withFreeRegister}
 use Rattle.rules.proofs.Ranges.{both, in-range-tested}
 use Rattle.rules.proofs.invariant.Sim.{Sim}
+use Rattle.rules.proofs.invariant.Spent.{spent-grows, grows-then}
 use Rattle.rules.proofs.relation.Tracks.{tracked}
 use Rattle.rules.proofs.relation.Alike.{Alike, passed-both, both-check, both-check-eq}
 use Rattle.rules.proofs.relation.Tests.{Attached, both-session}
 use Rattle.rules.proofs.sessions.Session.{register-sim}
+use Rattle.rules.proofs.sessions.Registers.{register-grows}
 use Rattle.rules.proofs.allocation.FreeRecords.{withRecords, blankRecord}
 use Rattle.rules.proofs.allocation.Allocated.{allocation}
 
@@ -58,6 +60,7 @@ module _ {K : ℕ → Type 0} {m : ℕ → ℕ} {s : Store} {f : Free} (h : Sim 
         sim = register-sim (w .sim) n k (a .number) (leb-true k lastRegister i) (a .attached) (w .fits _);
         reply = refl;
         tracks = λ u. refl;
+        spent = spent-grows (grows-then (w .grows) (register-grows (withMemory s (allocated s level r p)) n k (allocatedReference s level)));
       })
 
   -- for any fed value that says whether the last test passes

@@ -3,6 +3,7 @@ use Prim.Native.Nat.{ℕ, _+_, _≤_, _<_}
 use mathlib.Core.Path.{_≡_, refl, sym, _∙_}
 use mathlib.Core.Logic.{_≢_}
 use mathlib.Core.Bool.{true, false, cond, not, true≢false}
+use native.Mathlib.Nat.{le-refl}
 use native.Mathlib.Omega.{arith}
 use lib.Dec.{leb, eqb}
 use lib.ListN.{length}
@@ -29,6 +30,11 @@ use Rattle.rules.proofs.invariant.Following.{followed-start, follow-hom
 use Rattle.rules.proofs.invariant.Range.{half-length}
 use Rattle.rules.proofs.invariant.Counted.{copied-none, copied-le}
 use Rattle.rules.proofs.invariant.Walked.{walked-in}
+use Rattle.rules.proofs.invariant.Spent.{Grows, grows-then, appended-grows}
+use Rattle.rules.proofs.invariant.Spending.{Spends, spends-still, spends-walking}
+use Rattle.rules.proofs.frames.Change.{put-frame}
+use Rattle.rules.proofs.frames.Kept.{colour-kept}
+use Rattle.rules.proofs.frames.Spent.{frame-grows}
 use Rattle.rules.proofs.relation.Tracks.{tracked}
 use Rattle.rules.proofs.relation.Stepped.{Stepped, stepped-same}
 use Rattle.rules.proofs.phases.Moves.{allocate-moves}
@@ -101,6 +107,13 @@ module _ {K : ℕ → Type 0} {m : ℕ → ℕ} {s : Store} {f : Free} (h : Sim 
     shelled-size : size M₂ v ≡ size M v
     shelled-size = shell-size h at-allocate t marked alone shell-one shell-more
 
+    shelled-grows : Grows s (withMemory s M₂)
+    shelled-grows =
+        let F = put-frame shell-more (omega arith) in
+        grows-then (appended-grows (cur-two h) shell-one)
+        (frame-grows {s = withMemory s M₁} {t = withMemory s M₂} (cur-two h) F refl refl
+        (λ u o e. colour-kept F (o .start) (λ q. let z = q .1 in omega arith) ∙ e) (λ z. le-refl _))
+
   -- the walked record gets its shell
   shell-stepped : (under : s .walk .place < frontier M cur) → colour M (walked s) ≢ white → (alone : replica M (walked s) ≡ null)
       → Sim K (tracked (m (walked s)) m M (withShell M other (walked s))) (pastRecord s (withShell M other (walked s))) f
@@ -109,6 +122,12 @@ module _ {K : ℕ → Type 0} {m : ℕ → ℕ} {s : Store} {f : Free} (h : Sim 
       let t = walked-in h (h .walking .at-allocate at-allocate) under in
       walks-on (shelled-sim t marked alone) at-allocate (rw (shell-front t marked alone) under)
       (λ d. shelled-replica t marked alone) (s .walk .place + size M (walked s)) (rw (shelled-size t marked alone))
+
+  shell-spends : (under : s .walk .place < frontier M cur) → colour M (walked s) ≢ white → replica M (walked s) ≡ null
+      → Spends s (pastRecord s (withShell M other (walked s)))
+  unfolding pastRecord withShell
+  shell-spends under marked alone =
+      spends-walking (h .range) (omega arith) (shelled-grows (walked-in h (h .walking .at-allocate at-allocate) under) marked alone) _ _
 
   -- below the frontier
   unit-stepped : s .walk .place < frontier M cur → Stepped K m s f (do
@@ -129,11 +148,13 @@ module _ {K : ℕ → Type 0} {m : ℕ → ℕ} {s : Store} {f : Free} (h : Sim 
         place = tracked (m (walked s)) m M (withShell M other (walked s));
         sim = shell-stepped l (needs-marked M (walked s) e) (needs-alone M (walked s) e);
         tracks = λ u. refl;
+        spent = shell-spends l (needs-marked M (walked s) e) (needs-alone M (walked s) e);
       })
-      (λ e. stepped-same (rw e) (walks-on h at-allocate l (needs-not M (walked s) e) (s .walk .place + size M (walked s)) refl) refl))
+      (λ e. stepped-same (rw e) (walks-on h at-allocate l (needs-not M (walked s) e) (s .walk .place + size M (walked s)) refl) refl
+      (spends-still (h .range) (omega arith) refl refl refl)))
 
   pub allocate-shells-stepped : Stepped K m s f (allocateShells s)
   unfolding allocateShells below
   allocate-shells-stepped = lt-or (s .walk .place) (frontier M cur)
       (λ l. rw (lt-ltb (s .walk .place) (frontier M cur) l) (unit-stepped l))
-      (λ l. rw (le-ltb (s .walk .place) (frontier M cur) l) (waiting-stepped h (allocate-moves h at-allocate l)))
+      (λ l. rw (le-ltb (s .walk .place) (frontier M cur) l) (waiting-stepped h (omega arith) (omega arith) (allocate-moves h at-allocate l)))

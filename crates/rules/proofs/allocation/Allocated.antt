@@ -24,6 +24,7 @@ use Rattle.rules.proofs.invariant.Stages.{stPreMark2, stAllocate, stPre
 use Rattle.rules.proofs.invariant.Sim.{Sim}
 use Rattle.rules.proofs.invariant.Laws.{cur-two, from-current, from-two, to-current}
 use Rattle.rules.proofs.invariant.Spans.{Allowed, level-most, level-from, level-to, level-low}
+use Rattle.rules.proofs.invariant.Spent.{Grows, grows-then, appended-grows}
 use Rattle.rules.proofs.relation.Tracks.{tracked}
 use Rattle.rules.proofs.sessions.Session.{WordFits}
 use Rattle.rules.proofs.allocation.FreeRecords.{withRecords, blankRecord}
@@ -58,6 +59,7 @@ black-tint st a b = record {
 pub record Allocation (K : ℕ → Type 0) (m : ℕ → ℕ) (s : Store) (f : Free) (r p : ℕ) (M′ : Memory) (v : ℕ) : Type 0 where
   pub sim : Sim K (tracked (suc (length (f .records))) m (s .memory) M′) (withMemory s M′) (withRecords f (f .records ++ blankRecord r p ∷ []))
   pub fits : (y : Session) → WordFits K (tracked (suc (length (f .records))) m (s .memory) M′) (withMemory s M′) y v (suc (length (f .records)))
+  pub grows : Grows s (withMemory s M′)
 
 room-known : (M : Memory) (h r p : ℕ) → roomIn M h r p ≡ true → frontier M h + sizeOf r p ≤ length (half M h)
 unfolding roomIn
@@ -80,7 +82,7 @@ module _ {K : ℕ → Type 0} {m : ℕ → ℕ} {s : Store} {f : Free} (h : Sim 
   one-half : (c : ℕ) → l ≤ 2 → Tint (stage (s .phase)) c → Allocation K m s f r p (placed M (s .current) r p c null) (nextReference M (s .current))
   one-half c i t =
       let k = placed-kept (placeable (h .filled) (cur-two h) (t .small) (room-one i)) null in
-      record { sim = single-sim h r p pb t k; fits = single-fits h r p pb t k }
+      record { sim = single-sim h r p pb t k; fits = single-fits h r p pb t k; grows = appended-grows (cur-two h) k }
 
   -- ---- both halves
   room-both : 3 ≤ l → (g : ℕ) → g < 2 → frontier M g + sizeOf r p ≤ length (half M g)
@@ -116,11 +118,14 @@ module _ {K : ℕ → Type 0} {m : ℕ → ℕ} {s : Store} {f : Free} (h : Sim 
         let e = first .front-other (otherHalf from) (other-below-2 from) (other-differs from (sides late .two)) in
         placed-kept (placeable (first .filled) (other-below-2 from) (omega arith) (rw (e, first .lengths (otherHalf from)) (room-both i (otherHalf from) (other-below-2 from)))) (nextReference M from)
 
+    both-grow : Grows s (withMemory s M₂)
+    both-grow = grows-then (appended-grows (cur-two h) first) (appended-grows {s = withMemory s M₁} (cur-two h) second)
+
     both-from : stage (s .phase) ≤ stPreFlip2 → Allocation K m s f r p M₂ (nextReference M from)
-    both-from hi = record { sim = double-sim h r p pb (sides late) first second; fits = from-fits h r p pb (sides late) first second hi }
+    both-from hi = record { sim = double-sim h r p pb (sides late) first second; fits = from-fits h r p pb (sides late) first second hi; grows = both-grow }
 
     both-to : stPreFlip2 ≤ stage (s .phase) → Allocation K m s f r p M₂ (nextReference M (otherHalf from))
-    both-to lo = record { sim = double-sim h r p pb (sides late) first second; fits = to-fits h r p pb (sides late) first second lo }
+    both-to lo = record { sim = double-sim h r p pb (sides late) first second; fits = to-fits h r p pb (sides late) first second lo; grows = both-grow }
 
   -- ---- all levels
   abbrev Goal : Type 0

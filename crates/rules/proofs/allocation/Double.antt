@@ -21,6 +21,7 @@ use Rattle.rules.proofs.memory.Total.{total, total-equal, total-kept, t
 use Rattle.rules.proofs.invariant.Stages.{stAllocate, stPreFlip2, stStackFlip, stReclaim, in-stage}
 use Rattle.rules.proofs.invariant.Words.{ok-start, copied}
 use Rattle.rules.proofs.invariant.Groups.{Pair}
+use Rattle.rules.proofs.invariant.Protected.{clean-covered}
 use Rattle.rules.proofs.invariant.Sim.{Sim}
 use Rattle.rules.proofs.invariant.Laws.{cur-two}
 use Rattle.rules.proofs.invariant.Counted.{copied-same, copied-size}
@@ -244,7 +245,7 @@ module _ {K : ℕ → Type 0} {m : ℕ → ℕ} {s : Store} {f : Free} (h : Sim 
     is = sym (placing .new new-a);
     names = λ d z. half-a ∙ sides .flips (omega arith);
     marked = λ d. absurd (omega arith);
-    scanned = λ d z z′ side. rw colour-a (λ z. omega arith);
+    scanned = λ d z. clean-covered (λ z′ side. rw colour-a (λ z. omega arith));
     clean = λ d e z side. rw colour-a (λ z. omega arith);
     kept = λ z. h .kept .to-come (suc (length rs)) (le-refl _);
   }

@@ -1,7 +1,7 @@
 -- New records: colours, the grey list, what is clean, the walk, and what is kept alive.
 use Prim.Native.Nat.{ℕ, _≤_, _<_}
 use mathlib.Core.Path.{_≡_, sym, _∙_}
-use mathlib.Core.Logic.{_≢_}
+use mathlib.Core.Logic.{_≢_, inl}
 use mathlib.Core.List.{List}
 use native.Mathlib.Omega.{arith}
 use lib.ListN.{getD}
@@ -14,6 +14,7 @@ use Rattle.rules.proofs.memory.Walk.{Walk, walk-start}
 use Rattle.rules.proofs.invariant.Stages.{stHeapMark, stAllocate}
 use Rattle.rules.proofs.invariant.Words.{In, Ok, Clean}
 use Rattle.rules.proofs.invariant.Groups.{Values, Roots}
+use Rattle.rules.proofs.invariant.Protected.{scan, Carries, carries-kept, covered-carried}
 use Rattle.rules.proofs.invariant.Marking.{Colours, GreyList, Cleaned, Walking, Kept}
 use Rattle.rules.proofs.invariant.Carried.{clean-carried}
 use Rattle.rules.proofs.allocation.Grown.{Grown, grown-refs, grown-plains, grown-colour, grown-field, new-ref, grown-in, old-or-new}
@@ -75,13 +76,16 @@ module _ {M M′ : Memory} {New Re : ℕ → Type 0} (g : Grown M M′ New Re) w
     scanned-within = λ a b. rw (grown-refs g (first a b .start)) (k .scanned-within a b);
     globals-below = λ a i n. clean-kept (r .global-ok i) (k .globals-below a i n);
     globals = λ a b i. clean-kept (r .global-ok i) (k .globals a b i);
-    scanned-done = k .scanned-done;
-    scanned = λ a n i d e. clean-kept (r .reg-ok n i) (k .scanned a n i d e);
+    scanned = λ a n i d e. covered-carried (carries a) (r .reg-ok n i) (k .scanned a n i d e);
     registers = λ a b n i. clean-kept (r .reg-ok n i) (k .registers a b n i);
   }
     where
       first : st ≡ stHeapMark → head < tail → In M cur (getD ws head null)
       first a b = l .listed (omega arith) (omega arith) head b
+
+      carries : st ≡ stHeapMark → Carries M M′ cur (scan ws head tail wf) (scan ws head tail wf)
+      carries a = carries-kept (λ u. grown-in g) (λ u o. grown-refs g (o .start)) (λ u o. grown-colour g (o .start)) (l .listed (omega arith) (omega arith))
+          (λ u i o n. inl (grown-field g (o .start) i n))
 
   pub grown-walking : {m′ : ℕ → ℕ} {cur st place wf head tail : ℕ} → cur < 2 → Joined M M′ New Re m′ cur st
       → Walking M cur st place wf head tail → Walking M′ cur st place wf head tail

@@ -18,6 +18,7 @@ use Rattle.rules.proofs.memory.Append.{Appended}
 use Rattle.rules.proofs.memory.Total.{total, total-equal, total-append}
 use Rattle.rules.proofs.invariant.Stages.{stRest, stPreMark1, stPreMark2, stAllocate, stStackFlip, stReclaim}
 use Rattle.rules.proofs.invariant.Words.{ok-start, marks, copied}
+use Rattle.rules.proofs.invariant.Protected.{clean-covered}
 use Rattle.rules.proofs.invariant.Sim.{Sim}
 use Rattle.rules.proofs.invariant.Laws.{cur-two}
 use Rattle.rules.proofs.invariant.Counted.{marks-same, copied-same, copied-none}
@@ -143,7 +144,7 @@ module _ {K : ℕ → Type 0} {m : ℕ → ℕ} {s : Store} {f : Free} (h : Sim 
     is = sym (placing .new refl);
     names = λ a z. kept .made-half;
     marked = λ a b. absurd (either (tint .phases) (λ l. omega arith) (λ l. omega arith));
-    scanned = λ a b z side. rw (kept .new-colour) (tint .marked (omega arith) (omega arith));
+    scanned = λ a b. clean-covered (λ z side. rw (kept .new-colour) (tint .marked (omega arith) (omega arith)));
     clean = λ a b z side. rw (kept .new-colour) (tint .marked (omega arith) (omega arith));
     kept = λ z. h .kept .to-come (suc (length rs)) (le-refl _);
   }

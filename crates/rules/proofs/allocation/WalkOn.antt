@@ -27,6 +27,7 @@ module _ {K : ℕ → Type 0} {m : ℕ → ℕ} {s : Store} {f : Free} (h : Sim 
     globals-below = λ a. absurd (omega arith);
     scanning = λ a. absurd (omega arith);
     scanned-within = λ a. absurd (omega arith);
+    covered = λ a. absurd (omega arith);
     shelled-below = λ a v t l d.
         either (walk-split (cur-two h) (h .walking .at-allocate at-allocate) (t .start) (t .side) (rw e at l))
         (λ l′. h .colours .shelled-below a v t l′ d)

@@ -3,17 +3,20 @@ use Prim.Native.Nat.{ℕ, _≤_, _<_}
 use mathlib.Core.Path.{_≡_, sym, _∙_}
 use mathlib.Core.Logic.{_≢_}
 use mathlib.Core.Bool.{Bool, true, false, cond}
+use mathlib.Core.List.{List, []}
 use native.Mathlib.Omega.{arith}
 use lib.Dec.{eqb}
+use lib.ListN.{getD}
 use borrow.Author.Tests.{eq-eqb, ne-eqb, le-leb, lt-leb, lt-ltb}
 use Rattle.rules.specs.Refusals.{passed}
 use Rattle.rules.specs.Memory.{Memory, null, frontier, put, halfOf, inHalf, replica, refs, copyOf, otherCopy}
 use Rattle.rules.specs.Phases.{otherHalf}
-use Rattle.rules.specs.Barriers.{Heap, to, shadesAt, copiesAt, barrierShade, replicaFor, ownWord, replicaWord, storeWrites, putBoth}
+use Rattle.rules.specs.Barriers.{Heap, to, shadesAt, shadesOldAt, copiesAt, barrierShades, replicaFor, ownWord, replicaWord, storeWrites, putBoth}
+use Rattle.rules.proofs.Ranges.{together}
 use Rattle.rules.proofs.memory.Encoding.{other-differs}
 use Rattle.rules.proofs.memory.Records.{Start, start-nonnull}
 use Rattle.rules.proofs.memory.Put.{frontier-put}
-use Rattle.rules.proofs.invariant.Words.{In, Ok, ok-null, ok-start, fwd}
+use Rattle.rules.proofs.invariant.Words.{In, Ok, ok-null, ok-start, field, fwd}
 use Rattle.rules.proofs.invariant.Laws.{in-or, in-half-yes, in-half-no, in-half-null, fwd-null, fwd-there, fwd-copy}
 use Rattle.rules.proofs.invariant.Following.{Followable, followed-start, other-copy-passed, forward-passed}
 
@@ -22,6 +25,10 @@ use Rattle.rules.proofs.invariant.Following.{Followable, followed-start
 pub shades-low : (l : ℕ) → 1 ≤ l → l ≤ 3 → shadesAt l ≡ true
 unfolding shadesAt
 shades-low l a b = rw (le-leb 1 l a, le-leb l 3 b)
+
+pub shades-old : (l : ℕ) → 2 ≤ l → l ≤ 3 → shadesOldAt l ≡ true
+unfolding shadesOldAt
+shades-old l a b = together (le-leb _ l (omega arith)) (le-leb l _ (omega arith))
 
 shades-high : (l : ℕ) → 4 ≤ l → shadesAt l ≡ false
 unfolding shadesAt
@@ -96,27 +103,27 @@ module _ (z : Heap) (two : z .from < 2) (l v : ℕ) {q : ℕ} (ok : Ok (z .memor
 -- ---- all that a store writes
 module _ (z : Heap) (l v i q : ℕ) where
   -- levels 0 to 3: the record itself, after shading
-  pub store-low : {w : ℕ} → l ≤ 3 → barrierShade z l q ≡ passed w
-      → storeWrites z l v i q ≡ passed (record { shade = w; own = q; replica = null; copy = null })
+  pub store-low : {vs : List ℕ} → l ≤ 3 → barrierShades z l (field (z .memory) v i) q ≡ passed vs
+      → storeWrites z l v i q ≡ passed (record { first = getD vs 0 null; second = getD vs 1 null; own = q; replica = null; copy = null })
   unfolding storeWrites ownWord
   store-low b e = rw (e, replica-low (z .memory) refs l v i b, ne-eqb l 6 (λ n. omega arith), ne-eqb l 5 (λ n. omega arith))
 
   -- levels 4 to 6: no shading
-  pub no-shade : 4 ≤ l → barrierShade z l q ≡ passed null
-  unfolding barrierShade
-  no-shade b = rw (shades-high l b)
+  pub no-shade : (old : ℕ) → 4 ≤ l → barrierShades z l old q ≡ passed []
+  unfolding barrierShades
+  no-shade old b = rw (shades-high l b)
 
   pub store-alone : {u : ℕ} → 4 ≤ l → replica (z .memory) v ≡ null → ownWord z l v q ≡ passed u
-      → storeWrites z l v i q ≡ passed (record { shade = null; own = u; replica = null; copy = null })
+      → storeWrites z l v i q ≡ passed (record { first = null; second = null; own = u; replica = null; copy = null })
   unfolding storeWrites
-  store-alone b n e = rw (no-shade b, replica-none (z .memory) refs l v i b n, e)
+  store-alone b n e = rw (no-shade (field (z .memory) v i) b, replica-none (z .memory) refs l v i b n, e)
 
   pub store-both : {u y : ℕ} → 4 ≤ l → Followable (z .memory) (replica (z .memory) v) → i < refs (z .memory) (replica (z .memory) v)
       → ownWord z l v q ≡ passed u → replicaWord z l v q ≡ passed y
-      → storeWrites z l v i q ≡ passed (record { shade = null; own = u; replica = replica (z .memory) v; copy = y })
+      → storeWrites z l v i q ≡ passed (record { first = null; second = null; own = u; replica = replica (z .memory) v; copy = y })
   unfolding storeWrites
   store-both b t k e c =
-      rw (no-shade b, replica-found (z .memory) refs l v i b t k, e, ne-eqb (replica (z .memory) v) null (start-nonnull (t .start)), c)
+      rw (no-shade (field (z .memory) v i) b, replica-found (z .memory) refs l v i b t k, e, ne-eqb (replica (z .memory) v) null (start-nonnull (t .start)), c)
 
 -- ---- what is written leaves the frontiers
 pub both-front : (M : Memory) (v j x t k y g : ℕ) → frontier (putBoth M v j x t k y) g ≡ frontier M g

@@ -37,6 +37,7 @@ module _ {K : ℕ → Type 0} {m : ℕ → ℕ} {s : Store} {f : Free} (h : Sim 
     globals-below = λ z. absurd (omega arith);
     scanning = λ z. absurd (omega arith);
     scanned-within = λ z. absurd (omega arith);
+    covered = λ z. absurd (omega arith);
     shelled-below = λ z. absurd (omega arith);
     agreement = g;
     flipping = λ z. absurd (omega arith);

@@ -20,11 +20,13 @@ use Rattle.rules.proofs.memory.Records.{ref-inside, plain-inside}
 use Rattle.rules.proofs.invariant.Stages.{stAllocate, stCopy, stStackFlip}
 use Rattle.rules.proofs.invariant.Words.{In, Ok, field, plainOf, fwd, recOf}
 use Rattle.rules.proofs.invariant.Sim.{Sim}
-use Rattle.rules.proofs.invariant.Laws.{marked-black, replica-other, to-other}
+use Rattle.rules.proofs.invariant.Laws.{cur-two, marked-black, replica-other, to-other}
 use Rattle.rules.proofs.invariant.Following.{followed-start, forward-passed, follow-home, follow-replica, follow-word}
 use Rattle.rules.proofs.invariant.Pairs.{replica-shape}
+use Rattle.rules.proofs.invariant.Spending.{spends-still, spends-walking, spends-moving}
 use Rattle.rules.proofs.frames.Change.{refs-kept, plains-kept}
 use Rattle.rules.proofs.frames.Kept.{replicas-kept, fwd-kept}
+use Rattle.rules.proofs.frames.Spent.{fields-grow}
 use Rattle.rules.proofs.relation.Stepped.{Stepped, stepped, stepped-same}
 use Rattle.rules.proofs.phases.Moves.{copy-moves}
 use Rattle.rules.proofs.fields.Written.{Written, written-copy}
@@ -76,7 +78,7 @@ module _ {K : ℕ → Type 0} {m : ℕ → ℕ} {s : Store} {f : Free} (h : Sim 
     written-ref = written-copy h q (refField i) (omega arith) (ref-inside M v i l) n (fwd M away (field M v i))
 
     copy-ref-sim : Sim K m (withMemory s copied-ref) f
-    copy-ref-sim = rw (same-ref f (m v) i) at (ref-write-sim h written-ref l fits (forwarded-away h lo hi fits v (replica M v)))
+    copy-ref-sim = rw (same-ref f (m v) i) at (ref-write-sim h written-ref l fits (forwarded-away h lo hi fits v (replica M v)) (λ e. absurd (omega arith)))
 
     copied-ref-agrees : FieldCopied copied-ref (s .current) v i
     copied-ref-agrees =
@@ -121,6 +123,7 @@ module _ {K : ℕ → Type 0} {m : ℕ → ℕ} {s : Store} {f : Free} (h : Sim 
   ends : frontier (s .memory) (s .current) ≤ s .walk .place → Stepped K m s f (copy s)
   unfolding copy below moveOn
   ends l = stepped-same (rw (le-ltb (s .walk .place) (frontier (s .memory) (s .current)) l)) (copy-moves h e l) refl
+      (spends-moving (h .range) (omega arith) (omega arith))
 
   module _ (l : s .walk .place < frontier (s .memory) (s .current)) where
     abbrev v : ℕ
@@ -136,16 +139,17 @@ module _ {K : ℕ → Type 0} {m : ℕ → ℕ} {s : Store} {f : Free} (h : Sim 
     unfolding copy below pastRecord
     passes-over c b = stepped-same
         (rw (lt-ltb (s .walk .place) (frontier (s .memory) (s .current)) l, followed-start (follow-home h at), b))
-        (past-record h e l c) refl
+        (past-record h e l c) refl (spends-still (h .range) (omega arith) refl refl refl)
 
     -- a field copied: the step passes with memory M′
-    copies : (M′ : Memory) → Sim K m (withMemory s M′) f → ((g : ℕ) → frontier M′ g ≡ frontier (s .memory) g)
+    copies : {M′ : Memory} {t j u y : ℕ} → Written s M′ v t j u y → Sim K m (withMemory s M′) f
         → s .walk .field < refs M′ v + plains M′ v → FieldCopied M′ (s .current) v (s .walk .field)
         → copy s ≡ passed (withWalk (withMemory s M′) (s .walk .place) (s .walk .field + 1)) → Stepped K m s f (copy s)
     unfolding walked
-    copies M′ g front b c p = stepped p
-        (next-field g e (rw (front (s .current)) l) b c)
-        (omega (arith, front 0)) (omega (arith, front 1))
+    copies w g b c p = stepped p
+        (next-field g e (rw (w .frame .front (s .current)) l) b c)
+        (omega (arith, w .frame .front 0)) (omega (arith, w .frame .front 1))
+        (spends-walking (h .range) (omega arith) (fields-grow (cur-two h) (w .frame) (λ a i q. rw (q .0) (w .past))) _ _)
 
     module _ (n : replica (s .memory) (walked s) ≢ null) (b : s .walk .field < refs (s .memory) (walked s) + plains (s .memory) (walked s)) where
       shape : (refs (s .memory) (replica (s .memory) v) ≡ refs (s .memory) v) × (plains (s .memory) (replica (s .memory) v) ≡ plains (s .memory) v)
@@ -177,8 +181,9 @@ module _ {K : ℕ → Type 0} {m : ℕ → ℕ} {s : Store} {f : Free} (h : Sim 
       copies-ref : s .walk .field < refs (s .memory) v → Stepped K m s f (copy s)
       copies-ref r =
           let i = s .walk .field in
-          let F = written-ref h (omega arith) (omega arith) at n i r .frame in
-          copies _ (copy-ref-sim h (omega arith) (omega arith) at n i r) (F .front)
+          let w = written-ref h (omega arith) (omega arith) at n i r in
+          let F = w .frame in
+          copies w (copy-ref-sim h (omega arith) (omega arith) at n i r)
           (rw (refs-kept F (at .start), plains-kept F (at .start)) b)
           (copied-ref-agrees h (omega arith) (omega arith) at n i r)
           (to-field ∙ ref-passes r)
@@ -204,8 +209,9 @@ module _ {K : ℕ → Type 0} {m : ℕ → ℕ} {s : Store} {f : Free} (h : Sim 
           let i : ℕ = s .walk .field - refs (s .memory) v in
           let y : s .walk .field ≡ refs (s .memory) v + i = omega arith in
           let g : i < plains (s .memory) v = omega arith in
-          let F = written-plain h (omega arith) (omega arith) at n i g .frame in
-          copies _ (copy-plain-sim h (omega arith) (omega arith) at n i g) (F .front)
+          let w = written-plain h (omega arith) (omega arith) at n i g in
+          let F = w .frame in
+          copies w (copy-plain-sim h (omega arith) (omega arith) at n i g)
           (rw (refs-kept F (at .start), plains-kept F (at .start)) b)
           (copied-plain-agrees h (omega arith) (omega arith) at n i g (s .walk .field) y)
           (to-field ∙ plain-passes i y g)

@@ -67,6 +67,7 @@ module _ {K : ℕ → Type 0} {m : ℕ → ℕ} {s : Store} {f : Free} {M′ : M
         ok = λ k q b. absurd (omega arith);
         side = λ x k q b. absurd (omega arith);
         clean = λ lo hi k q b. absurd (omega arith);
+        over = λ e k q b. absurd (omega arith);
         away = λ hi o k q b. absurd (let z = copy-refs hi o in omega arith);
         refs-agree = λ lo hi c k q b. absurd (omega arith);
         plains-agree = λ lo hi c k q b. rw (number k q, new-copy lo hi c, new);

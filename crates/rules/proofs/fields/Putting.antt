@@ -3,16 +3,17 @@ use Prim.Native.Nat.{ℕ, _≤_, _<_}
 use mathlib.Core.Path.{_≡_, refl, ap, _∙_}
 use mathlib.Core.Logic.{_≢_}
 use mathlib.Core.Bool.{Bool, true, false, cond, _&&_}
+use mathlib.Core.List.{List}
 use native.Mathlib.Omega.{arith}
 use lib.Dec.{eqb}
-use lib.ListN.{set}
+use lib.ListN.{getD, set}
 use borrow.Author.Tests.{leb-true, ne-eqb}
 use Rattle.rules.specs.Refusals.{passed}
 use Rattle.rules.specs.Memory.{null, inHalf, otherCopy, frontier}
 use Rattle.rules.specs.Control.{Store, lastGlobal}
 use Rattle.rules.specs.Cycle.{stage}
 use Rattle.rules.specs.Phases.{otherHalf}
-use Rattle.rules.specs.Barriers.{Heap, heapOf, shade, barrierShade, ownWord, putWrites}
+use Rattle.rules.specs.Barriers.{Heap, heapOf, shade, shadeBoth, barrierShades, ownWord, putWrites}
 use Rattle.rules.specs.Calls as calls
 use Rattle.rules.specs.Calls.{isRegister, isGlobal, putCommit}
 use Rattle.rules.specs.Free.{Free, freePut}
@@ -22,17 +23,18 @@ use Rattle.rules.proofs.memory.Cases.{eq-or, lt-or, either}
 use Rattle.rules.proofs.invariant.Stages.{stAllocate, stRootFlip, stStackFlip, stReclaim, in-stage}
 use Rattle.rules.proofs.invariant.Words.{Names}
 use Rattle.rules.proofs.invariant.Sim.{Sim}
-use Rattle.rules.proofs.invariant.Laws.{from-current, from-two, in-half-null}
+use Rattle.rules.proofs.invariant.Spent.{Grows, spent-grows, grows-same}
+use Rattle.rules.proofs.invariant.Laws.{cur-two, from-current, from-two, in-half-null}
 use Rattle.rules.proofs.invariant.Following.{follow-word}
 use Rattle.rules.proofs.invariant.Spans.{Allowed, level-from, level-to, level-low, level-last, level-most}
 use Rattle.rules.proofs.relation.Alike.{Alike, passed-both, both-check, both-commit, left-done}
 use Rattle.rules.proofs.relation.Tests.{both-session}
-use Rattle.rules.proofs.sessions.Session.{WordFits, GlobalFits, withFreeGlobals, global-sim}
+use Rattle.rules.proofs.sessions.Session.{WordFits, GlobalFits, global-fits, withFreeGlobals, global-sim}
 use Rattle.rules.proofs.sessions.Registers.{held-fits}
-use Rattle.rules.proofs.marking.Shading.{shade-front}
+use Rattle.rules.proofs.marking.Shading.{keeps-grows, shade-both-front}
 use Rattle.rules.proofs.fields.Reference.{Fits}
 use Rattle.rules.proofs.fields.Barrier.{own-6, no-shade}
-use Rattle.rules.proofs.fields.Barred.{barred}
+use Rattle.rules.proofs.fields.Barred.{both-shaded, barred}
 use Rattle.rules.proofs.fields.Stores.{shaded-fits}
 use Rattle.rules.proofs.fields.Table.{own-fits, forwarded-fits, forwarded-names, reclaim-fits, reclaim-own}
 
@@ -59,46 +61,55 @@ own-global z {l} {q} n = rw (ne-eqb l 6 n, in-half-null) (go (eqb l 5))
     go true = refl
     go false = refl
 
-put-writes : (z : Heap) (l q : ℕ) {w u : ℕ} → barrierShade z l q ≡ passed w → ownWord z l null q ≡ passed u
-    → putWrites z l q ≡ passed (record { shade = w; own = u; replica = null; copy = null })
+put-writes : (z : Heap) (l old q : ℕ) {vs : List ℕ} {u : ℕ} → barrierShades z l old q ≡ passed vs → ownWord z l null q ≡ passed u
+    → putWrites z l old q ≡ passed (record { first = getD vs 0 null; second = getD vs 1 null; own = u; replica = null; copy = null })
 unfolding putWrites
-put-writes z l q e c = rw (e, c)
+put-writes z l old q e c = rw (e, c)
 
 -- a put of q, for the place p, into global g passes its tests, and what it writes keeps the invariant
 pub record GlobalPut (K : ℕ → Type 0) (m : ℕ → ℕ) (s : Store) (f : Free) (l g q p : ℕ) : Type 0 where
   pub writes : Writes
-  pub passes : putWrites (heapOf s) l q ≡ passed writes
+  pub passes : putWrites (heapOf s) l (getD (s .globals) g null) q ≡ passed writes
   pub sim : Sim K m (putCommit s g writes) (withFreeGlobals f (set (f .globals) g p))
+  pub grows : Grows s (shadeBoth s writes)
 
 -- the frontiers stay
 put-front : (s : Store) (g : ℕ) (w : Writes) (h : ℕ) → frontier (putCommit s g w .memory) h ≡ frontier (s .memory) h
 unfolding putCommit
-put-front s g w h = shade-front s (w .shade) h
+put-front s g w h = shade-both-front s w h
+
+-- and globals are not counted
+placed-grows : (s : Store) (g : ℕ) (w : Writes) → Grows s (shadeBoth s w) → Grows s (putCommit s g w)
+unfolding putCommit
+placed-grows s g w k = record { phase = k .phase; front = k .front; blacks = k .blacks; others = k .others }
 
 module _ {K : ℕ → Type 0} {m : ℕ → ℕ} {s : Store} {f : Free} {x : Session} {l q p : ℕ} (h : Sim K m s f) (t : WordFits K m s x q p)
-    (a : Allowed (s .phase) l) (g : ℕ) (b : g ≤ lastGlobal) where
+    (a : Allowed (s .phase) l) (g : ℕ) (b : g ≤ lastGlobal) {y : ℕ} (o : WordFits K m s x (getD (s .globals) g null) y) where
   -- levels 0 to 3: after shading
   placed-low : l ≤ 3 → GlobalPut K m s f l g q p
   unfolding putCommit
   placed-low c =
-      let w = barred h a c t in
+      let w = barred h l (getD (s .globals) g null) q a c o t in
       let k = w .keeps in
+      let z : Writes = record { first = getD (w .them) 0 null; second = getD (w .them) 1 null; own = q; replica = null; copy = null } in
       record {
-        writes = record { shade = w .it; own = q; replica = null; copy = null };
-        passes = put-writes (heapOf s) l q (w .passes) (own-global (heapOf s) (λ e. omega arith));
-        sim = rw (k .globals) at (global-sim (w .sim) g b (fits-global g (shaded-fits h a c t w)
+        writes = z;
+        passes = put-writes (heapOf s) l (getD (s .globals) g null) q (w .passes) (own-global (heapOf s) (λ e. omega arith));
+        sim = rw (both-shaded s z (w .them) (w .few) refl refl) (rw (k .globals) at (global-sim (w .sim) g b (fits-global g (shaded-fits h a c t w)
             (λ lo hi. absurd (either (level-low 3 (omega arith) (h .range .phases) a c)
-            (λ z. omega (arith, ap stage (k .phase))) (λ z. omega (arith, ap stage (k .phase)))))));
+            (λ z. omega (arith, ap stage (k .phase))) (λ z. omega (arith, ap stage (k .phase))))))));
+        grows = rw (both-shaded s z (w .them) (w .few) refl refl) (keeps-grows (cur-two h) k);
       }
 
   -- levels 4 to 6: nothing is shaded
   placed-high : {u : ℕ} → 4 ≤ l → ownWord (heapOf s) l null q ≡ passed u → Fits K m s u p
       → (stRootFlip ≤ stage (s .phase) → stage (s .phase) ≤ stStackFlip → Names (otherHalf (s .current)) u) → GlobalPut K m s f l g q p
-  unfolding shade putCommit
+  unfolding shade shadeBoth putCommit
   placed-high {u} c e y n = record {
-    writes = record { shade = null; own = u; replica = null; copy = null };
-    passes = put-writes (heapOf s) l q (no-shade (heapOf s) l null 0 q c) e;
+    writes = record { first = null; second = null; own = u; replica = null; copy = null };
+    passes = put-writes (heapOf s) l (getD (s .globals) g null) q (no-shade (heapOf s) l null 0 q (getD (s .globals) g null) c) e;
     sim = global-sim h g b (fits-global g y n);
+    grows = grows-same;
   }
 
   put-places : GlobalPut K m s f l g q p
@@ -118,5 +129,6 @@ pub put-alike : {K : ℕ → Type 0} {m : ℕ → ℕ} {s : Store} {f : Free} �
 unfolding calls.put calls.putPlan freePut
 put-alike {s = s} h n g from q = both-commit _ (both-session h n _ _ (λ a. both-check (isRegister from) 8 tt
     (λ b. both-check (isGlobal g) 9 tt
-    (λ c. let w = put-places h (held-fits h n from a) (a .allowed) g (leb-true _ _ c) in
-    rw (w .passes) (passed-both (left-done (w .sim) refl (put-front s g (w .writes) 0) (put-front s g (w .writes) 1)))))))
+    (λ c. let w = put-places h (held-fits h n from a) (a .allowed) g (leb-true _ _ c) (global-fits h n g) in
+    rw (w .passes) (passed-both (left-done (w .sim) refl (put-front s g (w .writes) 0) (put-front s g (w .writes) 1)
+    (spent-grows (placed-grows s g (w .writes) (w .grows)))))))))

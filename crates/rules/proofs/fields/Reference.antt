@@ -1,4 +1,4 @@
--- A reference field written: of v, field i becomes u, and that of its replica the forwarded word.
+-- A reference field written: of v, field i becomes u, and that of its replica the forwarded word. In HeapMark what field i held is clean.
 use Prim.Native.Nat.{ℕ, _≤_, _<_}
 use mathlib.Core.Path.{_≡_, _∙_}
 use mathlib.Core.Logic.{_≢_, inl, inr}
@@ -11,8 +11,8 @@ use Rattle.rules.specs.Cycle.{stage}
 use Rattle.rules.specs.Phases.{otherHalf}
 use Rattle.rules.specs.Free.{Free, Record, recordAt, withRecord}
 use Rattle.rules.proofs.memory.Cases.{eq-or}
-use Rattle.rules.proofs.invariant.Stages.{stPreMark1, stCopy, stStackFlip}
-use Rattle.rules.proofs.invariant.Words.{In, Ok, Names, Clean, fwd, recOf}
+use Rattle.rules.proofs.invariant.Stages.{stPreMark1, stHeapMark, stCopy, stStackFlip}
+use Rattle.rules.proofs.invariant.Words.{In, Ok, Names, Clean, field, fwd, recOf}
 use Rattle.rules.proofs.invariant.Groups.{NoFlip}
 use Rattle.rules.proofs.invariant.Sim.{Sim}
 use Rattle.rules.proofs.frames.Kept.{field-kept, plain-kept}
@@ -39,7 +39,8 @@ pub record FitsAway (s : Store) (v t u y : ℕ) : Type 0 where
   pub agrees : stCopy ≤ stage (s .phase) → stage (s .phase) ≤ stStackFlip → replica (s .memory) v ≢ null → y ≡ fwd (s .memory) (otherHalf (s .current)) u
 
 module _ {K : ℕ → Type 0} {m : ℕ → ℕ} {s : Store} {f : Free} {M′ : Memory} {v t i u y p : ℕ}
-    (h : Sim K m s f) (w : Written s M′ v t (refField i) u y) (l : i < refs (s .memory) v) (x : Fits K m s u p) (z : FitsAway s v t u y) where
+    (h : Sim K m s f) (w : Written s M′ v t (refField i) u y) (l : i < refs (s .memory) v) (x : Fits K m s u p) (z : FitsAway s v t u y)
+    (over : stage (s .phase) ≡ stHeapMark → Clean (s .memory) (s .current) (field (s .memory) v i)) where
   number : (k : ℕ) → refField k ≡ refField i → k ≡ i
   number k q = omega arith
 
@@ -71,6 +72,7 @@ module _ {K : ℕ → Type 0} {m : ℕ → ℕ} {s : Store} {f : Free} {M′ : M
         ok = λ k q b. rw (number k q, w .new) (x .ok);
         side = λ a k q r. rw (number k q, w .new) (x .side a);
         clean = λ lo hi k q b. rw (number k q, w .new) (x .clean lo hi);
+        over = λ e k q b. rw (number k q) (over e);
         away = λ hi o k q b. rw (number k q, w .away hi o) (z .side hi o, z .ok hi o);
         refs-agree = λ lo hi c k q b. rw (number k q, w .copy lo hi c, w .new) (z .agrees lo hi c);
         plains-agree = λ lo hi c k q b. absurd (omega arith);

@@ -13,7 +13,7 @@ use Rattle.rules.specs.Phases.{otherHalf}
 use Rattle.rules.specs.Free.{Free, Record}
 use Rattle.rules.proofs.memory.Cases.{eq-or, either}
 use Rattle.rules.proofs.memory.Records.{Start}
-use Rattle.rules.proofs.invariant.Stages.{stPreMark1, stCopy, stStackFlip}
+use Rattle.rules.proofs.invariant.Stages.{stPreMark1, stHeapMark, stCopy, stStackFlip}
 use Rattle.rules.proofs.invariant.Words.{In, Ok, Names, Clean, field, plainOf, fwd, recOf}
 use Rattle.rules.proofs.invariant.Groups.{NoFlip}
 use Rattle.rules.proofs.invariant.Sim.{Sim}
@@ -48,6 +48,8 @@ pub record FieldWrite (K : ℕ → Type 0) (m : ℕ → ℕ) (s : Store) (f : Fr
       → (k : ℕ) → refField k ≡ j → k < refs (s .memory) v → Names (s .current) (field M′ v k)
   pub clean : stPreMark1 < stage (s .phase) → stage (s .phase) ≤ stStackFlip
       → (k : ℕ) → refField k ≡ j → k < refs (s .memory) v → Clean (s .memory) (s .current) (field M′ v k)
+  -- in HeapMark the word that it takes the place of
+  pub over : stage (s .phase) ≡ stHeapMark → (k : ℕ) → refField k ≡ j → k < refs (s .memory) v → Clean (s .memory) (s .current) (field (s .memory) v k)
   pub away : stage (s .phase) ≤ stStackFlip → In (s .memory) (otherHalf (s .current)) t
       → (k : ℕ) → refField k ≡ j → k < refs (s .memory) t → Names (otherHalf (s .current)) (field M′ t k) × Ok (s .memory) (field M′ t k)
   -- the replica's word agrees with it

@@ -11,9 +11,10 @@ use Rattle.rules.specs.Cycle.{stage}
 use Rattle.rules.specs.Phases.{otherHalf}
 use Rattle.rules.specs.Free.{Free, Record, withRecord}
 use Rattle.rules.proofs.memory.Cases.{eq-or, either}
-use Rattle.rules.proofs.invariant.Stages.{stCopy, stStackFlip}
+use Rattle.rules.proofs.invariant.Stages.{stHeapMark, stCopy, stStackFlip}
 use Rattle.rules.proofs.invariant.Words.{In, Ok, Names, Clean, field, plainOf, fwd, recOf}
 use Rattle.rules.proofs.invariant.Groups.{Identity, Values, FieldHalves, Copied, Agreement}
+use Rattle.rules.proofs.invariant.Protected.{scanOf, Carries, carries-kept, covered-carried}
 use Rattle.rules.proofs.invariant.Marking.{Cleaned, Kept}
 use Rattle.rules.proofs.invariant.Sim.{Sim}
 use Rattle.rules.proofs.invariant.Laws.{cur-two}
@@ -145,6 +146,18 @@ module _ {K : ℕ → Type 0} {m : ℕ → ℕ} {s : Store} {f : Free} {M′ : M
 
   -- ---- marking
 
+  -- what the field held is clean, so nothing white was protected by way of it
+  write-carries : stage (s .phase) ≡ stHeapMark → Carries M M′ cur (scanOf s) (scanOf s)
+  write-carries e =
+      let F = w .frame in
+      let c = changed h w .colours-same in
+      carries-kept (λ a. in-to F) (λ a o. refs-kept F (o .start)) (λ a o. c a (o .start)) (h .grey-list .listed (omega arith) (omega arith))
+      (λ a k o l. eq-or a v
+      (λ y. eq-or (refField k) j
+      (λ i. inr (clean-kept F c (h .values .ok a k o l) (rw y (w .over e k i (rw y at l)))))
+      (λ i. inl (ref-kept h w o k l (inr i))))
+      (λ y. inl (ref-kept h w o k l (inl y))))
+
   write-cleaned : Cleaned M′ cur (stage (s .phase)) (s .walk .place) (s .walk .field) (s .list .words) (s .list .head) (s .list .tail) (s .sessions) (s .globals)
   write-cleaned =
       let F = w .frame in
@@ -170,8 +183,7 @@ module _ {K : ℕ → Type 0} {m : ℕ → ℕ} {s : Store} {f : Free} {M′ : M
             rw (refs-kept F (q .start)) (g .scanned-within e l);
         globals-below = λ e k l. clean-kept F c (rt .global-ok k) (g .globals-below e k l);
         globals = λ lo hi k. clean-kept F c (rt .global-ok k) (g .globals lo hi k);
-        scanned-done = g .scanned-done;
-        scanned = λ e n k a b. clean-kept F c (rt .reg-ok n k) (g .scanned e n k a b);
+        scanned = λ e n k a b. covered-carried (write-carries e) (rt .reg-ok n k) (g .scanned e n k a b);
         registers = λ lo hi n k. clean-kept F c (rt .reg-ok n k) (g .registers lo hi n k);
       }
 

@@ -27,6 +27,7 @@ use Rattle.rules.proofs.invariant.Following.{follow-home, follow-away, 
 use Rattle.rules.proofs.invariant.Pairs.{pair-shape, replica-shape}
 use Rattle.rules.proofs.invariant.Originals.{pair-here}
 use Rattle.rules.proofs.invariant.Spans.{Allowed, level-home, level-low}
+use Rattle.rules.proofs.invariant.Spent.{Grows, spent-grows}
 use Rattle.rules.proofs.relation.Alike.{Alike, passed-both, both-check-eq, both-passes, both-commit, left-done}
 use Rattle.rules.proofs.relation.Tests.{both-record}
 use Rattle.rules.proofs.sessions.Session.{WordFits}
@@ -34,6 +35,7 @@ use Rattle.rules.proofs.sessions.Registers.{held-fits}
 use Rattle.rules.proofs.sessions.Values.{free-plains}
 use Rattle.rules.proofs.fields.Written.{written-alone, written-from, written-to}
 use Rattle.rules.proofs.fields.Plain.{withPlain, plain-write-sim}
+use Rattle.rules.proofs.fields.Spent.{puts-grow}
 use Rattle.rules.proofs.fields.Barrier.{replica-low, replica-none, replica-found, both-front}
 
 -- the store after a plain write of a to field i of v, and of its replica t where that isn't null
@@ -45,6 +47,7 @@ pub record Rewritten (K : ℕ → Type 0) (m : ℕ → ℕ) (s : Store) (f : Fre
   pub other : ℕ
   pub passes : replicaFor (s .memory) plains l v i ≡ passed other
   pub sim : Sim K m (rewritten s v i other a) (withRecord f (m v) (withPlain (recordAt f (m v)) i a))
+  pub copied : other ≢ null → Start (s .memory) other × (i < plains (s .memory) other)
 
 module _ {K : ℕ → Type 0} {m : ℕ → ℕ} {s : Store} {f : Free} {l v i : ℕ} (h : Sim K m s f) (a : ℕ) (r : i < plains (s .memory) v) where
   -- the record alone
@@ -56,6 +59,7 @@ module _ {K : ℕ → Type 0} {m : ℕ → ℕ} {s : Store} {f : Free} {l v i : 
     passes = e;
     sim = plain-write-sim h
         (written-alone h o (plainField (refs (s .memory) v) i) (omega arith) (plain-inside (s .memory) v i r) a a none) r;
+    copied = λ n. absurd (n refl);
   }
 
   -- the record and its replica
@@ -68,6 +72,7 @@ module _ {K : ℕ → Type 0} {m : ℕ → ℕ} {s : Store} {f : Free} {l v i : 
         passes = replica-found (s .memory) plains l v i b (follow-replica h (follow-home h o) (h .pairs .pair v o n)) (rw (e .1) r);
         sim = rw (ne-eqb (replica (s .memory) v) null n, e .0) (plain-write-sim h
             (written-from h o (plainField (refs (s .memory) v) i) (omega arith) (plain-inside (s .memory) v i r) n a a) r);
+        copied = λ z. (h .pairs .pair v o n .start, rw (e .1) r);
       }
 
   -- the record is the replica of one of the current half
@@ -85,6 +90,7 @@ module _ {K : ℕ → Type 0} {m : ℕ → ℕ} {s : Store} {f : Free} {l v i : 
         sim = rw (ne-eqb (replica (s .memory) v) null n, e .0) (rw (p .back, e .0, p .same) at (plain-write-sim h
             (written-to h (pair-here h o p) (plainField (refs (s .memory) (replica (s .memory) v)) i) (omega arith) (plain-inside (s .memory) (replica (s .memory) v) i z)
             (λ y. in-nonnull o (sym (p .back) ∙ y)) a a) z));
+        copied = λ y. (p .start, z);
       }
 
   -- every level; v is the record in a register
@@ -107,6 +113,14 @@ rewritten-front : (s : Store) (v i t a g : ℕ) → frontier (rewritten s v i t 
 unfolding writeCommit
 rewritten-front s v i t a g = both-front (s .memory) v (plainField (refs (s .memory) v) i) a t (plainField (refs (s .memory) t) i) a g
 
+-- and the bound on marking
+rewritten-grows : {K : ℕ → Type 0} {m : ℕ → ℕ} {s : Store} {f : Free} {l v i a : ℕ} → Sim K m s f → Start (s .memory) v → i < plains (s .memory) v
+    → (w : Rewritten K m s f l v i a) → Grows s (rewritten s v i (w .other) a)
+unfolding writeCommit
+rewritten-grows {s = s} {v = v} {i = i} {a = a} h o r w = puts-grow (cur-two h) (h .filled) o (plainField (refs (s .memory) v) i) a (omega arith)
+    (plain-inside (s .memory) v i r) (w .other) (plainField (refs (s .memory) (w .other)) i) a (omega arith)
+    (λ n. let c = w .copied n in (c .0, plain-inside (s .memory) (w .other) i (c .1)))
+
 -- ---- the call
 module _ {K : ℕ → Type 0} {m : ℕ → ℕ} {s : Store} {f : Free} (h : Sim K m s f) where
   pub write-alike : (n k i a q : ℕ) → Alike K q m s (calls.write s n k i a) (freeWrite f n k i a)
@@ -115,4 +129,5 @@ module _ {K : ℕ → Type 0} {m : ℕ → ℕ} {s : Store} {f : Free} (h : Sim 
       (λ c b z e. both-check-eq _ _ 13 (ap (ltb i) (sym (free-plains h z))) tt
       (λ l. let w = plain-writes h a (ltb-true _ _ l) (c .allowed) (held-fits h n k c) z in
       both-passes _ (w .other) (w .passes) _
-      (passed-both (left-done (w .sim) refl (rewritten-front s _ i (w .other) a 0) (rewritten-front s _ i (w .other) a 1))))))
+      (passed-both (left-done (w .sim) refl (rewritten-front s _ i (w .other) a 0) (rewritten-front s _ i (w .other) a 1)
+      (spent-grows (rewritten-grows h z (ltb-true _ _ l) w)))))))

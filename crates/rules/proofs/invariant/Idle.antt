@@ -31,7 +31,6 @@ cleaned-idle n = record {
   scanned-within = λ a. absurd (n (omega arith, omega arith));
   globals-below = λ a. absurd (n (omega arith, omega arith));
   globals = λ a b. absurd (n (omega arith, b));
-  scanned-done = λ a. absurd (n (omega arith, omega arith));
   scanned = λ a. absurd (n (omega arith, omega arith));
   registers = λ a b. absurd (n (omega arith, b));
 }

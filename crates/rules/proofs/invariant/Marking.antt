@@ -13,6 +13,7 @@ use Rattle.rules.proofs.memory.Walk.{Walk}
 use Rattle.rules.proofs.memory.Total.{total}
 use Rattle.rules.proofs.invariant.Stages.{stRest, stPreMark1, stRootMark, stHeapMark, stAllocate, stCopy, stStackFlip, stReclaim}
 use Rattle.rules.proofs.invariant.Words.{In, Clean, field, marks, reg, freg, recOf}
+use Rattle.rules.proofs.invariant.Protected.{scan, Covered}
 
 -- ---- colours of the current half (cur) and of the other; place is the walk place
 pub record Colours (M : Memory) (cur st place : ℕ) : Type 0 where
@@ -47,9 +48,9 @@ pub record Cleaned (M : Memory) (cur st place wf : ℕ) (ws : List ℕ) (head ta
   -- the globals that RootMark has passed; after it all
   pub globals-below : st ≡ stRootMark → (g : ℕ) → g < place → Clean M cur (getD gs g null)
   pub globals : stRootMark < st → st ≤ stStackFlip → (g : ℕ) → Clean M cur (getD gs g null)
-  -- the registers of a scanned session, which is scanned only while the list is done; after HeapMark all
-  pub scanned-done : st ≡ stHeapMark → (n : ℕ) → getD xs n absent .attached ≡ true → getD xs n absent .scanned ≡ true → head ≡ tail
-  pub scanned : st ≡ stHeapMark → (n k : ℕ) → getD xs n absent .attached ≡ true → getD xs n absent .scanned ≡ true → Clean M cur (reg xs n k)
+  -- what the registers of a scanned session name is grey-protected where it is white; after HeapMark no register names a white record
+  pub scanned : st ≡ stHeapMark → (n k : ℕ) → getD xs n absent .attached ≡ true → getD xs n absent .scanned ≡ true
+      → Covered M cur (scan ws head tail wf) (reg xs n k)
   pub registers : stHeapMark < st → st ≤ stStackFlip → (n k : ℕ) → Clean M cur (reg xs n k)
 
 -- ---- the walk

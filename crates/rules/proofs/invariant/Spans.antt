@@ -11,7 +11,7 @@ use borrow.Author.Tests.{le-leb}
 use Rattle.rules.specs.Control.{lastLevel}
 use Rattle.rules.specs.Cycle.{levelOf, nextPhase, stage, lastPhase, phaseCount}
 use Rattle.rules.proofs.memory.Cases.{lt-or, either}
-use Rattle.rules.proofs.invariant.Stages.{stRest, stPreMark1, stPreMark2, stAllocate, stPreCopy, stPreFlip1, stPreFlip2, stReclaim, upTo, at-each, given}
+use Rattle.rules.proofs.invariant.Stages.{stRest, stPreMark1, stPreMark2, stHeapMark, stAllocate, stPreCopy, stPreFlip1, stPreFlip2, stReclaim, upTo, at-each, given}
 use Rattle.rules.proofs.invariant.Groups.{levelBefore, NoFlip}
 
 or-true : (a b : Bool) → T (a || b) → T a ⊎ T b
@@ -74,6 +74,12 @@ pub level-last : {ph l : ℕ} → ph ≤ lastPhase → Allowed ph l → 4 ≤ l 
 level-last {ph} {l} b a g e = lt-or l 6
     (λ z. absurd (omega (arith, level-to 5 (omega arith) b a (omega arith) (omega arith))))
     (λ z. omega (arith, level-most ph l b a))
+
+-- in HeapMark no session has a lower level than 2
+pub level-marking : {ph l : ℕ} → ph ≤ lastPhase → Allowed ph l → stage ph ≡ stHeapMark → 2 ≤ l
+level-marking {ph} {l} b a e = lt-or l 2
+    (λ z. absurd (either (level-low 1 (omega arith) b a (omega arith)) (λ y. omega arith) (λ y. omega arith)))
+    (λ z. z)
 
 -- ---- moving on where all have the phase's level: it is the level before the next phase's
 pub moves-on : (ph : ℕ) → ph ≤ lastPhase → levelOf ph ≡ levelBefore (nextPhase ph)

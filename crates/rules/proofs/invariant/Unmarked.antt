@@ -1,4 +1,4 @@
--- Scanned marks cleared: nothing else of a session changes, and the groups on roots and levels stay.
+-- Scanned marks cleared: nothing else of a session changes, and the group on roots stays.
 use Prim.Native.Nat.{ℕ}
 use mathlib.Core.Path.{_≡_, sym, _∙_}
 use mathlib.Core.Bool.{true, false, false≢true}
@@ -9,11 +9,11 @@ use Rattle.rules.specs.Phases.{absent, withMark, unmarked}
 use Rattle.rules.specs.Free.{FreeSession}
 use Rattle.rules.specs.declared.Session.{Session}
 use Rattle.rules.proofs.invariant.Words.{reg}
-use Rattle.rules.proofs.invariant.Groups.{Roots, Levels, RootHalves}
+use Rattle.rules.proofs.invariant.Groups.{Roots}
 
 -- ---- sessions by number
 
-pub unmarked-at : (xs : List Session) (n : ℕ) → getD (unmarked xs) n absent ≡ withMark (getD xs n absent) false
+unmarked-at : (xs : List Session) (n : ℕ) → getD (unmarked xs) n absent ≡ withMark (getD xs n absent) false
 unfolding unmarked
 unmarked-at xs n = List·getD-map (λ x. withMark x false) xs n absent
 
@@ -39,7 +39,7 @@ unmarked-registers xs n = rw (unmarked-at xs n)
 pub unmarked-reg : (xs : List Session) (n k : ℕ) → reg (unmarked xs) n k ≡ reg xs n k
 unmarked-reg xs n k = rw (unmarked-registers xs n)
 
--- ---- groups
+-- ---- the group on roots
 
 pub roots-unmarked : {M : Memory} {m : ℕ → ℕ} {xs : List Session} {ys : List FreeSession} {gs fgs : List ℕ}
     → Roots M m xs ys gs fgs → Roots M m (unmarked xs) ys gs fgs
@@ -56,16 +56,4 @@ roots-unmarked {M} {m} {xs} r = record {
   reg-is = λ n k. rw (unmarked-reg xs n k) (r .reg-is n k);
   global-ok = r .global-ok;
   global-is = r .global-is;
-}
-
-pub levels-unmarked : {st : ℕ} {xs : List Session} → Levels st xs → Levels st (unmarked xs)
-levels-unmarked {xs = xs} r = record { allowed = λ n e. rw (unmarked-at xs n) (r .allowed n (rw (unmarked-at xs n) at e)) }
-
-pub root-halves-unmarked : {cur st place : ℕ} {xs : List Session} {gs : List ℕ} → RootHalves cur st place xs gs → RootHalves cur st place (unmarked xs) gs
-root-halves-unmarked {xs = xs} r = record {
-  regs = λ a n k. rw (unmarked-at xs n) (r .regs a n k);
-  globals = r .globals;
-  flipping = r .flipping;
-  flipped = r .flipped;
-  marked = λ a n k e q. absurd (unmarked-none xs n q);
 }

@@ -15,6 +15,7 @@ use Rattle.rules.proofs.memory.Walk.{Walk, walk-start, walk-next, walk-
 use Rattle.rules.proofs.invariant.Stages.{stRootMark, stHeapMark, stAllocate, stRootFlip}
 use Rattle.rules.proofs.invariant.Words.{In, Names, Clean, field}
 use Rattle.rules.proofs.invariant.Groups.{Agreement}
+use Rattle.rules.proofs.invariant.Protected.{scan, scanOf, Carries, covered-carried}
 use Rattle.rules.proofs.invariant.Marking.{Walking}
 use Rattle.rules.proofs.invariant.Sim.{Sim}
 use Rattle.rules.proofs.invariant.Laws.{cur-two}
@@ -46,6 +47,8 @@ pub record WalkFits (s : Store) (k i : ℕ) : Type 0 where
   pub scanning : stage (s .phase) ≡ stHeapMark → s .list .head < s .list .tail → (j : ℕ) → j < i
       → Clean (s .memory) (s .current) (field (s .memory) (getD (s .list .words) (s .list .head) null) j)
   pub scanned-within : stage (s .phase) ≡ stHeapMark → s .list .head < s .list .tail → i ≤ refs (s .memory) (getD (s .list .words) (s .list .head) null)
+  pub covered : stage (s .phase) ≡ stHeapMark
+      → Carries (s .memory) (s .memory) (s .current) (scanOf s) (scan (s .list .words) (s .list .head) (s .list .tail) i)
   -- Allocate
   pub shelled-below : stage (s .phase) ≡ stAllocate → (v : ℕ) → In (s .memory) (s .current) v → wordOf v < k → colour (s .memory) v ≢ white → replica (s .memory) v ≢ null
   -- Copy
@@ -89,8 +92,7 @@ walk-sim h {k} {i} t = record {
     scanned-within = t .scanned-within;
     globals-below = t .globals-below;
     globals = r .globals;
-    scanned-done = r .scanned-done;
-    scanned = r .scanned;
+    scanned = λ e n j a b. covered-carried (t .covered e) (h .roots .reg-ok n j) (r .scanned e n j a b);
     registers = r .registers;
   });
   walking = t .walking;

@@ -1,12 +1,12 @@
 -- Words that name records: null or a start, the half that they name, whether they name a white record; forwarding as a function.
-use Prim.Native.Nat.{ℕ, _-_}
+use Prim.Native.Nat.{ℕ, _+_, _-_}
 use mathlib.Core.Path.{_≡_}
 use mathlib.Core.Logic.{_≢_}
 use mathlib.Core.Bool.{cond, _||_}
 use mathlib.Core.List.{List}
 use lib.Dec.{eqb}
 use lib.ListN.{getD}
-use Rattle.rules.specs.Memory.{Memory, null, halfOf, inHalf, white, word, colour, replica, refs, size, refField, plainField, copyOf}
+use Rattle.rules.specs.Memory.{Memory, null, halfOf, inHalf, white, black, word, colour, replica, refs, size, refField, plainField, copyOf}
 use Rattle.rules.specs.Phases.{absent}
 use Rattle.rules.specs.Free.{Record, FreeSession, noRecord, freeAbsent}
 use Rattle.rules.specs.declared.Session.{Session}
@@ -47,6 +47,13 @@ marks M v = cond (eqb (colour M v) white) 0 1
 
 unfoldable pub copied : Memory → ℕ → ℕ
 copied M v = cond (eqb (replica M v) null) 0 (size M v)
+
+-- the steps that HeapMark spends on a record, all of them once it is black
+abbrev pub work : Memory → ℕ → ℕ
+work M v = refs M v + 1
+
+unfoldable pub done : Memory → ℕ → ℕ
+done M v = cond (eqb (colour M v) black) (work M v) 0
 
 -- registers by session and number, and the record of a place
 abbrev pub reg : List Session → ℕ → ℕ → ℕ

@@ -1,5 +1,5 @@
 -- The grey list and what is clean, after HeapMark has coloured the entry at the list's place black.
-use Prim.Native.Nat.{ℕ, _+_, _≤_, _<_}
+use Prim.Native.Nat.{ℕ, _+_, _≤_, _<_, zero-le}
 use mathlib.Core.Path.{_≡_, sym, _∙_}
 use mathlib.Core.Logic.{_≢_}
 use mathlib.Core.List.{List}
@@ -10,10 +10,11 @@ use Rattle.rules.specs.declared.Session.{Session}
 use Rattle.rules.proofs.memory.Cases.{eq-or, lt-or}
 use Rattle.rules.proofs.memory.Put.{PutKept}
 use Rattle.rules.proofs.invariant.Stages.{stRest, stPreMark1, stHeapMark, stStackFlip}
-use Rattle.rules.proofs.invariant.Words.{In, Ok, Clean, field}
+use Rattle.rules.proofs.invariant.Words.{In, Ok, Clean, field, reg}
+use Rattle.rules.proofs.invariant.Protected.{scan, Carries, covered-carried, entry-covers, white-covers}
 use Rattle.rules.proofs.invariant.Marking.{GreyList, Cleaned}
 use Rattle.rules.proofs.frames.Kept.{in-to, in-back}
-use Rattle.rules.proofs.marking.Recolour.{recolour-frame, colour-new, colour-other, field-still, clean-still, total-still}
+use Rattle.rules.proofs.marking.Recolour.{recolour-frame, colour-new, colour-other, field-same, field-still, clean-still, total-still}
 
 module _ {M M′ : Memory} {cur st : ℕ} {ws : List ℕ} {head tail : ℕ} (p : PutKept M M′ (getD ws head null) colourAt black) (is : st ≡ stHeapMark)
     (two : cur < 2) (g : GreyList M cur st ws head tail) (more : head < tail) where
@@ -48,18 +49,32 @@ module _ {M M′ : Memory} {cur st : ℕ} {ws : List ℕ} {head tail : ℕ} (p :
     room = λ a b. rw (total-still p (omega arith) two oldest oldest-grey) (g .room a b);
   }
 
-  -- all its fields are passed
+  -- all its fields are passed: it has protected nothing any more
+  black-carries : {wf : ℕ} → refs M (getD ws head null) ≤ wf → Carries M M′ cur (scan ws head tail wf) (scan ws (head + 1) tail 0)
+  black-carries all = record {
+    entry = λ n i a. let o = g .listed lo hi n (a .below) in
+        lt-or head n
+        (λ l. entry-covers n i (field-same p (o .start) i (a .within))
+        (record { from = omega arith; below = a .below; within = rw (p .same-refs (o .start)) (a .within); left = λ d. zero-le }))
+        (λ l. let y : n ≡ head = omega (arith, a .from) in
+        let b : i < refs M (getD ws head null) = rw y at (a .within) in absurd (omega (arith, a .left y)));
+    link = λ u i o c l k. white-covers u i (field-same p (o .start) i l) (in-to (recolour-frame p) o)
+        (colour-other p (o .start) (λ z. oldest-grey (rw z at c)) ∙ c) (rw (p .same-refs (o .start)) l) k;
+    whites = λ u o c. eq-or u (getD ws head null)
+        (λ z. absurd (let w : colour M′ (getD ws head null) ≡ white = rw z at c in omega (arith, colour-new p)))
+        (λ z. sym (colour-other p (o .start) z) ∙ c);
+  }
+
   pub black-cleaned : {place wf : ℕ} {xs : List Session} {gs : List ℕ} → ((u i : ℕ) → In M cur u → i < refs M u → Ok M (field M u i))
-      → ((k : ℕ) → Ok M (getD gs k null)) → refs M (getD ws head null) ≤ wf
+      → ((k : ℕ) → Ok M (getD gs k null)) → ((n k : ℕ) → Ok M (reg xs n k)) → refs M (getD ws head null) ≤ wf
       → Cleaned M cur st place wf ws head tail xs gs → Cleaned M′ cur st place 0 ws (head + 1) tail xs gs
-  black-cleaned {place} {wf} {xs} {gs} ok root all q = record {
+  black-cleaned {place} {wf} {xs} {gs} ok root held all q = record {
     fields = fields;
     scanning = λ a b i l. absurd (omega arith);
     scanned-within = λ a b. omega arith;
     globals-below = λ a. absurd (omega arith);
     globals = λ a b k. clean-still p (omega arith) (root k) (q .globals a b k);
-    scanned-done = λ a n c o. absurd (omega (arith, q .scanned-done is n c o));
-    scanned = λ a n k c o. absurd (omega (arith, q .scanned-done is n c o));
+    scanned = λ a n k c o. covered-carried (black-carries all) (held n k) (q .scanned a n k c o);
     registers = λ a. absurd (omega arith);
   }
     where

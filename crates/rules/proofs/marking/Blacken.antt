@@ -2,6 +2,7 @@
 use Prim.Native.Nat.{ℕ, _+_, _≤_, _<_}
 use mathlib.Core.Path.{_≡_, refl}
 use mathlib.Core.Logic.{_≢_}
+use native.Mathlib.Nat.{le-refl}
 use native.Mathlib.Omega.{arith}
 use lib.ListN.{getD}
 use Rattle.rules.specs.Memory.{null, white, black, colourAt, colour, refs, put}
@@ -13,11 +14,13 @@ use Rattle.rules.proofs.memory.Put.{PutKept, put-colour}
 use Rattle.rules.proofs.invariant.Stages.{stRest, stHeapMark}
 use Rattle.rules.proofs.invariant.Words.{In}
 use Rattle.rules.proofs.invariant.Sim.{Sim}
+use Rattle.rules.proofs.invariant.Spending.{Spends}
 use Rattle.rules.proofs.invariant.Laws.{cur-two}
 use Rattle.rules.proofs.invariant.Idle.{agreement-early, walking-early}
 use Rattle.rules.proofs.invariant.Range.{range-with}
 use Rattle.rules.proofs.frames.Whole.{colour-changed}
-use Rattle.rules.proofs.marking.Recolour.{recolour-frame}
+use Rattle.rules.proofs.frames.Spent.{black-spends}
+use Rattle.rules.proofs.marking.Recolour.{recolour-frame, colour-new}
 use Rattle.rules.proofs.marking.Recoloured.{colours-recoloured, kept-recoloured}
 use Rattle.rules.proofs.marking.BlackList.{black-list, black-cleaned}
 
@@ -62,7 +65,13 @@ module _ {K : ℕ → Type 0} {m : ℕ → ℕ} {s : Store} {f : Free} (h : Sim 
         agreement = agreement-early (omega arith);
         colours = colours-recoloured p lo hi two t (omega arith) (λ e. absurd (omega arith)) (h .colours);
         grey-list = black-list p is two (h .grey-list) more;
-        cleaned = black-cleaned p is two (h .grey-list) more (h .values .ok) (h .roots .global-ok) all (h .cleaned);
+        cleaned = black-cleaned p is two (h .grey-list) more (h .values .ok) (h .roots .global-ok) (h .roots .reg-ok) all (h .cleaned);
         walking = walking-early hi (λ a b. refl);
         kept = kept-recoloured p lo hi two t (omega arith) (h .kept .marked lo (omega arith) (oldest s) t oldest-marked) (h .kept);
       }
+
+  -- the steps on its fields, and this one
+  pub blacken-spends : Spends s (blackened s)
+  blacken-spends = black-spends {t = blackened s} (h .range) (cur-two h) is (recolour-frame blacken-kept) refl refl oldest-in
+      (omega (arith, h .grey-list .unfinished (omega arith) (omega arith) (s .list .head) (omega arith) more)) (colour-new blacken-kept)
+      (h .cleaned .scanned-within is more) (le-refl _)

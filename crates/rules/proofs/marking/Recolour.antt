@@ -29,7 +29,7 @@ module _ {M M′ : Memory} {v c : ℕ} (p : PutKept M M′ v colourAt c) where
   pub replica-same : {u : ℕ} → Start M u → replica M′ u ≡ replica M u
   replica-same t = replica-kept recolour-frame t (λ q. let e = q .1 in omega arith)
 
-  field-same : {u : ℕ} → Start M u → (i : ℕ) → i < refs M u → field M′ u i ≡ field M u i
+  pub field-same : {u : ℕ} → Start M u → (i : ℕ) → i < refs M u → field M′ u i ≡ field M u i
   field-same t i l = field-kept recolour-frame t i l (λ q. let e = q .1 in omega arith)
 
   -- a colour other than white takes nothing white that wasn't

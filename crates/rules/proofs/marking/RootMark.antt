@@ -15,6 +15,7 @@ use Rattle.rules.proofs.memory.Cases.{lt-or}
 use Rattle.rules.proofs.invariant.Stages.{stRootMark}
 use Rattle.rules.proofs.invariant.Sim.{Sim}
 use Rattle.rules.proofs.invariant.Alive.{global-alive}
+use Rattle.rules.proofs.invariant.Spending.{spends-early}
 use Rattle.rules.proofs.relation.Stepped.{Stepped, stepped, stepped-same}
 use Rattle.rules.proofs.phases.Moves.{root-mark-moves}
 use Rattle.rules.proofs.marking.Shading.{Shaded, shading-marks}
@@ -35,11 +36,12 @@ module _ {K : ℕ → Type 0} {m : ℕ → ℕ} {s : Store} {f : Free} (h : Sim 
       (rw (lt-ltb k globalCount l, z .passes))
       (past-global (z .sim) (ap stage (w .phase) ∙ is) k i (ap (λ x. x .place) (w .walk)) (ap (λ x. x .field) (w .walk)) l
       (rw (w .current, w .globals) (z .clean)))
-      (omega (arith, w .frame .front 0)) (omega (arith, w .frame .front 1))
+      (omega (arith, w .frame .front 0)) (omega (arith, w .frame .front 1)) (spends-early (h .range) (omega arith))
 
   globals-done : globalCount ≤ s .walk .place → Stepped K m s f (rootMark s)
   unfolding rootMark moveOn
   globals-done l = stepped-same {s′ = moveOn s} (rw (le-ltb (s .walk .place) globalCount l)) (root-mark-moves h is l) refl
+      (spends-early (h .range) (omega arith))
 
   pub root-mark-stepped : Stepped K m s f (rootMark s)
   root-mark-stepped = lt-or (s .walk .place) globalCount global-left globals-done

@@ -1,92 +1,93 @@
--- HeapMark, the list done: the registers of an unscanned session are shaded. Where one of them is white, that clears its mark again;
--- where none is, the session is scanned.
-use Prim.Native.Nat.{ℕ, _+_, _≤_}
-use mathlib.Core.Path.{_≡_, refl, ap}
-use mathlib.Core.Logic.{_≢_}
-use mathlib.Core.Bool.{true}
+-- HeapMark, the list done: the white records among the registers of an unscanned session are shaded, and the session is scanned.
+use Prim.Native.Nat.{ℕ, _≤_}
+use mathlib.Core.Path.{_≡_, refl}
+use mathlib.Core.Bool.{Bool, true, false, cond}
 use mathlib.Core.List.{List, [], _∷_}
 use native.Mathlib.Omega.{arith}
-use lib.ListN.{getD, length}
-use borrow.Author.Tests.{le-leb}
-use Rattle.rules.specs.Refusals.{passed}
+use lib.Dec.{eqb}
+use lib.ListN.{getD}
 use Rattle.rules.specs.Memory.{null}
-use Rattle.rules.specs.Control.{Store, lastSession}
+use Rattle.rules.specs.Control.{Store, withSessions, lastSession}
 use Rattle.rules.specs.Cycle.{stage}
-use Rattle.rules.specs.Phases.{sessionAt, withMark, withSession, absent}
-use Rattle.rules.specs.Barriers.{listRoom}
-use Rattle.rules.specs.Collector.{shadeAll, toShadeAll, scanSession}
+use Rattle.rules.specs.Phases.{absent, sessionAt, withMark, withSession}
+use Rattle.rules.specs.Barriers.{shade, shadeAll}
+use Rattle.rules.specs.Collector.{scanSession}
 use Rattle.rules.specs.Free.{Free, freeSession}
-use Rattle.rules.proofs.Scanned.{scanned, shade-scanned}
+use Rattle.rules.specs.declared.Session.{Session}
+use Rattle.rules.proofs.Shaded.{shaded}
 use Rattle.rules.proofs.invariant.Stages.{stHeapMark}
 use Rattle.rules.proofs.invariant.Words.{Clean}
+use Rattle.rules.proofs.invariant.Protected.{clean-covered}
 use Rattle.rules.proofs.invariant.Sim.{Sim}
-use Rattle.rules.proofs.invariant.Laws.{in-nonnull}
-use Rattle.rules.proofs.invariant.Following.{follow-home}
+use Rattle.rules.proofs.invariant.Spending.{scan-spends}
+use Rattle.rules.proofs.invariant.Laws.{cur-two}
 use Rattle.rules.proofs.invariant.Alive.{register-alive}
-use Rattle.rules.proofs.relation.Stepped.{Stepped, stepped, stepped-same}
+use Rattle.rules.proofs.relation.Stepped.{Stepped, stepped}
 use Rattle.rules.proofs.sessions.Session.{SessionFits, session-fits, session-sim-same}
-use Rattle.rules.proofs.marking.Whites.{Whites, one-white, Found, found}
-use Rattle.rules.proofs.marking.ShadeAll.{ShadedAll, shade-all}
+use Rattle.rules.proofs.marking.Shading.{keeps-grows}
+use Rattle.rules.proofs.marking.ShadeAll.{ShadedAll, shading-all-marks}
 
-module _ {K : ℕ → Type 0} {m : ℕ → ℕ} {s : Store} {f : Free} (h : Sim K m s f) (is : stage (s .phase) ≡ stHeapMark) (done : s .list .head ≡ s .list .tail)
-    (n : ℕ) (l : n ≤ lastSession) where
-  -- registers without a white record: the session may be marked
-  scanned-fits : ((k : ℕ) → Clean (s .memory) (s .current) (getD (sessionAt s n .registers) k null))
-      → SessionFits K m s (withMark (sessionAt s n) true) (freeSession f n)
-  scanned-fits c =
-      let z = session-fits h n l in
-      record {
-        registers = z .registers;
-        free-registers = z .free-registers;
-        attached = z .attached;
-        low = z .low;
-        allowed = z .allowed;
-        idle = z .idle;
-        done = λ a b e. done;
-        words = λ a k. let w = z .words a k in record {
-          ok = w .ok;
-          is = w .is;
-          names = w .names;
-          marked = λ e. absurd (omega arith);
-          scanned = λ e y. c k;
-          clean = w .clean;
-          kept = w .kept;
-        };
-        free-idle = z .free-idle;
-      }
+-- session n marked scanned
+abbrev scanned : Store → ℕ → Store
+scanned s n = withSession s n (withMark (sessionAt s n) true)
 
-  scanned-sim : ((k : ℕ) → Clean (s .memory) (s .current) (getD (sessionAt s n .registers) k null)) → Sim K m (scanned s n) f
-  scanned-sim c = session-sim-same h n l (scanned-fits c)
+-- ---- marked before shading or after it, that is the same
 
-  -- the white records among its registers
-  registers-found : Found (s .memory) (s .current) (λ v. K (m v)) (sessionAt s n .registers)
+shade-sessions : (s : Store) (xs : List Session) (v : ℕ) → shade (withSessions s xs) v ≡ withSessions (shade s v) xs
+unfolding shade
+shade-sessions s xs v = pick (eqb v null)
+  where
+    pick : (b : Bool) → cond b (withSessions s xs) (shaded (withSessions s xs) v) ≡ withSessions (cond b s (shaded s v)) xs
+    pick true = refl
+    pick false = refl
+
+shade-all-sessions : (vs : List ℕ) (s : Store) (xs : List Session) → shadeAll (withSessions s xs) vs ≡ withSessions (shadeAll s vs) xs
+shade-all-sessions [] s xs = refl
+shade-all-sessions (v ∷ vs) s xs = rw (shade-sessions s xs v) (shade-all-sessions vs (shade s v) xs)
+
+-- ---- a session whose registers are clean may be marked
+scanned-sim : {K : ℕ → Type 0} {m : ℕ → ℕ} {s : Store} {f : Free} → Sim K m s f → stage (s .phase) ≡ stHeapMark → (n : ℕ) → n ≤ lastSession
+    → ((k : ℕ) → Clean (s .memory) (s .current) (getD (sessionAt s n .registers) k null)) → Sim K m (scanned s n) f
+scanned-sim {K} {m} {s} {f} h is n l c = session-sim-same h n l fits
+  where
+    fits : SessionFits K m s (withMark (sessionAt s n) true) (freeSession f n)
+    fits =
+        let z = session-fits h n l in
+        record {
+          registers = z .registers;
+          free-registers = z .free-registers;
+          attached = z .attached;
+          low = z .low;
+          allowed = z .allowed;
+          idle = z .idle;
+          words = λ a k. let w = z .words a k in record {
+            ok = w .ok;
+            is = w .is;
+            names = w .names;
+            marked = λ e. absurd (omega arith);
+            scanned = λ e y. clean-covered (c k);
+            clean = w .clean;
+            kept = w .kept;
+          };
+          free-idle = z .free-idle;
+        }
+
+module _ {K : ℕ → Type 0} {m : ℕ → ℕ} {s : Store} {f : Free} (h : Sim K m s f) (is : stage (s .phase) ≡ stHeapMark) (n : ℕ) (l : n ≤ lastSession)
+    (yet : getD (s .sessions) n absent .scanned ≡ false) where
+  registers-shaded : ShadedAll K m s f (sessionAt s n .registers)
   unfolding sessionAt
-  registers-found = found (λ v. follow-home h) (getD (s .sessions) n absent .registers) (h .roots .reg-ok n)
-      (h .root-halves .regs (omega arith) n) (register-alive h n)
+  registers-shaded = shading-all-marks h (h .roots .reg-ok n) (h .root-halves .regs (omega arith) n) (omega arith) (omega arith) (register-alive h n)
 
-  -- none: the session is scanned
-  scan-none : toShadeAll (s .memory) (sessionAt s n .registers) ≡ passed []
-      → ((k : ℕ) → Clean (s .memory) (s .current) (getD (sessionAt s n .registers) k null)) → Stepped K m s f (scanSession s n)
-  unfolding scanSession listRoom withSession
-  scan-none e c = stepped-same {s′ = scanned s n}
-      (rw (e, le-leb (s .list .tail + 0) (length (s .list .words)) (omega (arith, h .range .ends, h .range .lent2))))
-      (scanned-sim c) refl
-
-  -- some: all are shaded; there was room, since the list after it has them
-  scan-some : (v : ℕ) (vs : List ℕ) → toShadeAll (s .memory) (sessionAt s n .registers) ≡ passed (v ∷ vs) → v ≢ null
-      → ShadedAll K m s f (v ∷ vs) → Stepped K m s f (scanSession s n)
-  unfolding scanSession listRoom
-  scan-some v vs e d z =
-      let room : s .list .tail + length (v ∷ vs) ≤ length (s .list .words) =
-      omega (arith, z .sim .range .ends, z .tail, ap (λ x. x .list) (z .lengths), h .range .lent2) in
-      stepped {s′ = shadeAll s (v ∷ vs)}
-      (rw (e, le-leb (s .list .tail + length (v ∷ vs)) (length (s .list .words)) room, shade-scanned s n v d))
-      (z .sim) (omega (arith, z .front 0)) (omega (arith, z .front 1))
-
-  scan-with : (vs : List ℕ) → toShadeAll (s .memory) (sessionAt s n .registers) ≡ passed vs → Whites (s .memory) (s .current) (λ v. K (m v)) vs
-      → (vs ≡ [] → (k : ℕ) → Clean (s .memory) (s .current) (getD (sessionAt s n .registers) k null)) → Stepped K m s f (scanSession s n)
-  scan-with [] e w c = scan-none e (c refl)
-  scan-with (v ∷ vs) e (one-white t b k a q) c = scan-some v vs e (in-nonnull t) (shade-all (v ∷ vs) h (omega arith) (omega arith) (one-white t b k a q))
+  scan-with : (z : ShadedAll K m s f (sessionAt s n .registers)) → Stepped K m s f (scanSession s n)
+  unfolding scanSession withSession sessionAt
+  scan-with z =
+      let k = z .keeps in
+      let t = shadeAll s (z .them) in
+      stepped {s′ = scanned t n}
+      (rw (z .passes, shade-all-sessions (z .them) s _, k .sessions))
+      (scanned-sim (z .sim) (rw (k .phase) is) n l (rw (k .current, k .sessions) (z .clean)))
+      (omega (arith, k .frame .front 0)) (omega (arith, k .frame .front 1))
+      (scan-spends (h .range) is (keeps-grows (cur-two h) k) n (withMark (sessionAt t n) true) (rw (k .sessions) (omega (arith, h .roots .sessions))) (rw (k .sessions) yet) refl)
 
   pub scan-session-stepped : Stepped K m s f (scanSession s n)
-  scan-session-stepped = let z = registers-found in scan-with (z .them) (z .passes) (z .whites) (z .none)
+  scan-session-stepped = scan-with registers-shaded

@@ -2,14 +2,15 @@
 use Prim.Native.Nat.{ℕ, _+_, _≤_, _<_}
 use mathlib.Core.Path.{_≡_}
 use native.Mathlib.Omega.{arith}
-use lib.ListN.{length, set, length-set}
+use lib.ListN.{length, length-set}
 use borrow.Author.Tests.{ne-eqb}
-use Rattle.rules.specs.Memory.{Memory, null, white, grey, colourAt, colour, put}
-use Rattle.rules.specs.Control.{Store, withMemory, withList, withSessions}
+use Rattle.rules.specs.Memory.{null, white, grey, colourAt, colour}
+use Rattle.rules.specs.Control.{Store}
 use Rattle.rules.specs.Cycle.{stage}
-use Rattle.rules.specs.Phases.{unmarked, sessionAt}
+use Rattle.rules.specs.Phases.{sessionAt}
 use Rattle.rules.specs.Barriers.{shade}
 use Rattle.rules.specs.Free.{Free}
+use Rattle.rules.proofs.Shaded.{greyed, shaded}
 use Rattle.rules.proofs.memory.Put.{PutKept, put-colour}
 use Rattle.rules.proofs.memory.Total.{total-room, total-count}
 use Rattle.rules.proofs.invariant.Stages.{stRest, stHeapMark}
@@ -17,7 +18,6 @@ use Rattle.rules.proofs.invariant.Words.{In, marks}
 use Rattle.rules.proofs.invariant.Sim.{Sim}
 use Rattle.rules.proofs.invariant.Laws.{cur-two, in-nonnull}
 use Rattle.rules.proofs.invariant.Idle.{walking-early}
-use Rattle.rules.proofs.invariant.Unmarked.{unmarked-at, roots-unmarked, levels-unmarked, root-halves-unmarked}
 use Rattle.rules.proofs.invariant.Range.{frontier-range, range-with}
 use Rattle.rules.proofs.invariant.Counted.{marks-none, marks-most}
 use Rattle.rules.proofs.frames.Frame.{Frame, One}
@@ -25,15 +25,6 @@ use Rattle.rules.proofs.frames.Whole.{colour-changed}
 use Rattle.rules.proofs.marking.Recolour.{recolour-frame}
 use Rattle.rules.proofs.marking.Recoloured.{colours-recoloured, kept-recoloured}
 use Rattle.rules.proofs.marking.ShadeList.{shade-list, shade-cleaned}
-
--- ---- the memory and the store after it
-
-abbrev pub greyed : Store → ℕ → Memory
-greyed s v = put (s .memory) v colourAt grey
-
-abbrev pub shaded : Store → ℕ → Store
-shaded s v =
-    withSessions (withList (withMemory s (greyed s v)) (set (s .list .words) (s .list .tail) v) (s .list .head) (s .list .tail + 1)) (unmarked (s .sessions))
 
 -- ---- the list has room for a white record
 
@@ -65,20 +56,20 @@ module _ {K : ℕ → Type 0} {m : ℕ → ℕ} {s : Store} {f : Free} (h : Sim 
       let r = g .range in
       record {
         range = range-with r (r .places) (r .fields) (length-set (s .list .words) (s .list .tail) v) (omega (arith, r .begins)) shade-room
-            (λ n. rw (unmarked-at (s .sessions) n) (r .levels n));
+            (r .levels);
         filled = g .filled;
         identity = g .identity;
         values = g .values;
-        roots = roots-unmarked (g .roots);
-        levels = levels-unmarked (h .levels);
-        root-halves = root-halves-unmarked (h .root-halves);
+        roots = g .roots;
+        levels = h .levels;
+        root-halves = h .root-halves;
         field-halves = g .field-halves;
         pairs = g .pairs;
         agreement = g .agreement;
         colours = colours-recoloured p lo hi (cur-two h) t (omega arith) (λ z. omega arith) (h .colours);
         grey-list = shade-list p lo hi (cur-two h) t e (h .grey-list) (h .range .begins) (omega (arith, shade-room));
         cleaned = shade-cleaned p lo hi (cur-two h) t e (h .grey-list) (h .range .begins) (omega (arith, shade-room))
-            (h .values .ok) (h .roots .global-ok) (h .walking .field-heap-mark) (h .cleaned);
+            (h .values .ok) (h .roots .global-ok) (h .walking .field-heap-mark) (h .roots .reg-ok) (h .cleaned);
         walking = walking-early hi (λ a b. absurd (omega (arith, r .begins)));
         kept = kept-recoloured p lo hi (cur-two h) t (omega arith) k (h .kept);
       }

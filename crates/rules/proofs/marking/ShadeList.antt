@@ -7,16 +7,15 @@ use native.Mathlib.Omega.{arith}
 use lib.ListN.{getD, set, length}
 use lib.Seq.{getD-set-same, getD-set-other}
 use Rattle.rules.specs.Memory.{Memory, null, white, grey, black, colourAt, colour, refs}
-use Rattle.rules.specs.Phases.{unmarked}
 use Rattle.rules.specs.declared.Session.{Session}
 use Rattle.rules.proofs.memory.Cases.{eq-or, lt-or}
 use Rattle.rules.proofs.memory.Put.{PutKept}
 use Rattle.rules.proofs.invariant.Stages.{stRest, stPreMark1, stHeapMark, stStackFlip}
-use Rattle.rules.proofs.invariant.Words.{In, Ok, Clean, field}
+use Rattle.rules.proofs.invariant.Words.{In, Ok, Clean, field, reg}
+use Rattle.rules.proofs.invariant.Protected.{scan, Carries, covered-carried, entry-covers, white-covers}
 use Rattle.rules.proofs.invariant.Marking.{GreyList, Cleaned}
-use Rattle.rules.proofs.invariant.Unmarked.{unmarked-none}
 use Rattle.rules.proofs.frames.Kept.{in-to, in-back}
-use Rattle.rules.proofs.marking.Recolour.{recolour-frame, colour-new, colour-other, field-still, clean-still, total-more}
+use Rattle.rules.proofs.marking.Recolour.{recolour-frame, colour-new, colour-other, field-same, field-still, clean-still, total-more}
 
 module _ {M M′ : Memory} {v cur st : ℕ} (p : PutKept M M′ v colourAt grey) (lo : stRest < st) (hi : st ≤ stHeapMark) (two : cur < 2) (t : In M cur v)
     (e : colour M v ≡ white) {ws : List ℕ} {head tail : ℕ} (g : GreyList M cur st ws head tail) (begins : head ≤ tail) (fits : tail < length ws) where
@@ -63,11 +62,35 @@ module _ {M M′ : Memory} {v cur st : ℕ} (p : PutKept M M′ v colourAt grey)
     room = λ a b. omega (arith, total-more p (omega arith) two t e, g .room lo hi);
   }
 
+  -- what was protected by way of v is so by its entry
+  shade-carries : {wf : ℕ} → (head ≡ tail → wf ≡ 0) → Carries M M′ cur (scan ws head tail wf) (scan (set ws tail v) head (tail + 1) wf)
+  shade-carries none = record {
+    entry = λ n i a. entry-covers n i (rw (entry n (a .below)) (same-field (g .listed lo hi n (a .below)) i (a .within)))
+        (record {
+          from = a .from;
+          below = omega (arith, a .below);
+          within = rw (entry n (a .below), p .same-refs (g .listed lo hi n (a .below) .start)) (a .within);
+          left = a .left;
+        });
+    link = λ u i o c l k. eq-or u v
+        (λ z. entry-covers tail i (rw (last, ← z) (same-field o i l)) (record {
+          from = begins;
+          below = omega arith;
+          within = rw (last, ← z, p .same-refs (o .start)) l;
+          left = λ d. omega (arith, none (omega arith));
+        }))
+        (λ z. white-covers u i (same-field o i l) (in-to (recolour-frame p) o) (colour-other p (o .start) z ∙ c) (rw (p .same-refs (o .start)) l) k);
+    whites = λ u o c. eq-or u v (λ z. rw z e) (λ z. sym (colour-other p (o .start) z) ∙ c);
+  }
+    where
+      same-field : {u : ℕ} → In M cur u → (i : ℕ) → i < refs M u → field M′ u i ≡ field M u i
+      same-field o i l = field-same p (o .start) i l
+
   -- what was clean stays so; the fields passed of the entry at the list's place are none where it is v
   pub shade-cleaned : {place wf : ℕ} {xs : List Session} {gs : List ℕ} → ((u i : ℕ) → In M cur u → i < refs M u → Ok M (field M u i))
       → ((k : ℕ) → Ok M (getD gs k null)) → (st ≡ stHeapMark → head ≡ tail → wf ≡ 0)
-      → Cleaned M cur st place wf ws head tail xs gs → Cleaned M′ cur st place wf (set ws tail v) head (tail + 1) (unmarked xs) gs
-  shade-cleaned {place} {wf} {xs} {gs} ok root none q = record {
+      → ((n k : ℕ) → Ok M (reg xs n k)) → Cleaned M cur st place wf ws head tail xs gs → Cleaned M′ cur st place wf (set ws tail v) head (tail + 1) xs gs
+  shade-cleaned {place} {wf} {xs} {gs} ok root none held q = record {
     fields = fields;
     scanning = λ a b i l. lt-or head tail
         (λ n. let j = g .listed lo hi head n in
@@ -79,8 +102,7 @@ module _ {M M′ : Memory} {v cur st : ℕ} (p : PutKept M M′ v colourAt grey)
         (λ n. omega (arith, none a (omega arith)));
     globals-below = λ a k l. clean-still p (omega arith) (root k) (q .globals-below a k l);
     globals = λ a b k. clean-still p (omega arith) (root k) (q .globals a b k);
-    scanned-done = λ a n c o. absurd (unmarked-none xs n o);
-    scanned = λ a n k c o. absurd (unmarked-none xs n o);
+    scanned = λ a n k c o. covered-carried (shade-carries (none a)) (held n k) (q .scanned a n k c o);
     registers = λ a. absurd (omega arith);
   }
     where

@@ -1,10 +1,9 @@
 -- Shading by the rule: what it gives, and that it keeps the invariant.
 use Prim.Native.Nat.{ℕ, _+_, _≤_, _<_}
-use mathlib.Core.Path.{_≡_, refl, ap}
+use mathlib.Core.Path.{_≡_, refl, _∙_}
 use mathlib.Core.Logic.{_≢_}
-use mathlib.Core.Bool.{Bool, true, false, cond}
+use native.Mathlib.Nat.{le-refl}
 use native.Mathlib.Omega.{arith}
-use lib.Dec.{eqb}
 use lib.ListN.{getD, length}
 use lib.Seq.{getD-set-other}
 use borrow.Author.Tests.{ne-eqb, le-leb}
@@ -12,73 +11,70 @@ use Rattle.rules.specs.Refusals.{passed}
 use Rattle.rules.specs.Memory.{Memory, null, frontier, white, grey, colourAt, colour}
 use Rattle.rules.specs.Control.{Store}
 use Rattle.rules.specs.Cycle.{stage}
-use Rattle.rules.specs.Phases.{absent}
-use Rattle.rules.specs.Barriers.{heapOf, toShade, listRoom, shading, shade}
+use Rattle.rules.specs.Barriers.{heapOf, toShade, listRoom, shading, shade, shadeBoth}
 use Rattle.rules.specs.Free.{Free}
-use Rattle.rules.proofs.memory.Cases.{eq-or}
+use Rattle.rules.specs.declared.Writes.{Writes}
+use Rattle.rules.proofs.Shaded.{greyed, shaded, shade-either}
+use Rattle.rules.proofs.memory.Cases.{eq-or, either}
 use Rattle.rules.proofs.memory.Records.{Filled, start-nonnull}
 use Rattle.rules.proofs.memory.Put.{PutKept, frontier-put}
 use Rattle.rules.proofs.invariant.Stages.{stRest, stHeapMark}
 use Rattle.rules.proofs.invariant.Words.{In, Ok, ok-null, ok-start, Names, Clean}
 use Rattle.rules.proofs.invariant.Sim.{Sim}
+use Rattle.rules.proofs.invariant.Spent.{Grows}
 use Rattle.rules.proofs.invariant.Laws.{in-half}
 use Rattle.rules.proofs.invariant.Following.{Followable, followed-start, follow-home}
-use Rattle.rules.proofs.invariant.Unmarked.{unmarked-at}
-use Rattle.rules.proofs.frames.Frame.{Frame, One}
-use Rattle.rules.proofs.frames.Change.{frame-none, frame-wider}
+use Rattle.rules.proofs.frames.Frame.{Frame}
+use Rattle.rules.proofs.frames.Change.{frame-none, frame-then, frame-wider}
+use Rattle.rules.proofs.frames.Kept.{in-to, ok-to}
+use Rattle.rules.proofs.frames.Spent.{frame-grows}
 use Rattle.rules.proofs.marking.Recolour.{colour-new, colour-other, clean-still}
-use Rattle.rules.proofs.marking.Shade.{greyed, shaded, shade-is, greyed-kept, greyed-frame, shade-room, shade-sim}
+use Rattle.rules.proofs.marking.Shade.{shade-is, greyed-kept, greyed-frame, shade-room, shade-sim}
 
--- the store with w shaded (nothing where w is null) differs from s in the colour of w, the list and the marks alone
-pub record ShadeKeeps (s : Store) (w : ℕ) : Type 0 where
-  pub frame : Frame (s .memory) (shade s w .memory) (One w colourAt)
-  pub lengths : shade s w .lengths ≡ s .lengths
-  pub current : shade s w .current ≡ s .current
-  pub phase : shade s w .phase ≡ s .phase
-  pub walk : shade s w .walk ≡ s .walk
-  pub globals : shade s w .globals ≡ s .globals
-  pub registers : (n : ℕ) → getD (shade s w .sessions) n absent .registers ≡ getD (s .sessions) n absent .registers
-  pub level : (n : ℕ) → getD (shade s w .sessions) n absent .level ≡ getD (s .sessions) n absent .level
-  pub attached : (n : ℕ) → getD (shade s w .sessions) n absent .attached ≡ getD (s .sessions) n absent .attached
-  pub head : shade s w .list .head ≡ s .list .head
-  pub grows : s .list .tail ≤ shade s w .list .tail
-  pub entries : (i : ℕ) → i < s .list .tail → getD (shade s w .list .words) i null ≡ getD (s .list .words) i null
-  -- what names no white record still names none; what is black stays so
-  pub clean : (h u : ℕ) → Ok (s .memory) u → Clean (s .memory) h u → Clean (shade s w .memory) h u
-  pub other : (u : ℕ) → In (s .memory) (s .current) u → colour (s .memory) u ≢ white → colour (shade s w .memory) u ≡ colour (s .memory) u
+-- a store after shading differs from s in colours and the list alone
+pub record ShadeKeeps (s t : Store) : Type 0 where
+  pub frame : Frame (s .memory) (t .memory) (λ v j. j ≡ colourAt)
+  pub lengths : t .lengths ≡ s .lengths
+  pub current : t .current ≡ s .current
+  pub phase : t .phase ≡ s .phase
+  pub walk : t .walk ≡ s .walk
+  pub globals : t .globals ≡ s .globals
+  pub sessions : t .sessions ≡ s .sessions
+  pub head : t .list .head ≡ s .list .head
+  pub grows : s .list .tail ≤ t .list .tail
+  pub entries : (i : ℕ) → i < s .list .tail → getD (t .list .words) i null ≡ getD (s .list .words) i null
+  -- what names no white record still names none; what is marked keeps its colour
+  pub clean : (h u : ℕ) → Ok (s .memory) u → Clean (s .memory) h u → Clean (t .memory) h u
+  pub other : (u : ℕ) → In (s .memory) (s .current) u → colour (s .memory) u ≢ white → colour (t .memory) u ≡ colour (s .memory) u
 
 -- shading v by the rule passes its tests and shades `it`, which is v or null; v is clean then
 pub record Shaded (K : ℕ → Type 0) (m : ℕ → ℕ) (s : Store) (f : Free) (v : ℕ) : Type 0 where
   pub it : ℕ
   pub passes : shading (heapOf s) v ≡ passed it
   pub sim : Sim K m (shade s it) f
-  pub keeps : ShadeKeeps s it
+  pub keeps : ShadeKeeps s (shade s it)
   pub clean : Clean (shade s it .memory) (s .current) v
 
--- ---- what a shade keeps
+-- ---- what shading keeps
 
 -- the frontiers, whatever is shaded
-pub shade-front : (s : Store) (w g : ℕ) → frontier (shade s w .memory) g ≡ frontier (s .memory) g
-unfolding shade
-shade-front s w g = pick (eqb w null)
-  where
-    pick : (b : Bool) → frontier (cond b s (shaded s w) .memory) g ≡ frontier (s .memory) g
-    pick true = refl
-    pick false = frontier-put (s .memory) w colourAt grey g
+shade-front : (s : Store) (w g : ℕ) → frontier (shade s w .memory) g ≡ frontier (s .memory) g
+shade-front s w g = shade-either (λ t. frontier (t .memory) g ≡ frontier (s .memory) g) s w refl (frontier-put (s .memory) w colourAt grey g)
+
+pub shade-both-front : (s : Store) (w : Writes) (g : ℕ) → frontier (shadeBoth s w .memory) g ≡ frontier (s .memory) g
+unfolding shadeBoth
+shade-both-front s w g = shade-front (shade s (w .first)) (w .second) g ∙ shade-front s (w .first) g
 
 -- nothing shaded
-pub keeps-none : {s : Store} → Filled (s .memory) → ShadeKeeps s null
-unfolding shade
+pub keeps-none : {s : Store} → Filled (s .memory) → ShadeKeeps s s
 keeps-none f = record {
-  frame = frame-wider (frame-none f) (λ v j q. absurd q) (λ v q. let e = q .1 in omega arith);
+  frame = frame-wider (frame-none f) (λ v j q. absurd q) (λ v e. omega arith);
   lengths = refl;
   current = refl;
   phase = refl;
   walk = refl;
   globals = refl;
-  registers = λ n. refl;
-  level = λ n. refl;
-  attached = λ n. refl;
+  sessions = refl;
   head = refl;
   grows = omega arith;
   entries = λ i l. refl;
@@ -87,18 +83,16 @@ keeps-none f = record {
 }
 
 -- a white record shaded
-keeps-shade : {K : ℕ → Type 0} {m : ℕ → ℕ} {s : Store} {f : Free} {v : ℕ} → Sim K m s f → stRest < stage (s .phase) → stage (s .phase) ≤ stHeapMark
-    → In (s .memory) (s .current) v → colour (s .memory) v ≡ white → ShadeKeeps s v
+pub keeps-shade : {K : ℕ → Type 0} {m : ℕ → ℕ} {s : Store} {f : Free} {v : ℕ} → Sim K m s f → stRest < stage (s .phase) → stage (s .phase) ≤ stHeapMark
+    → In (s .memory) (s .current) v → colour (s .memory) v ≡ white → ShadeKeeps s (shade s v)
 keeps-shade {s = s} {v = v} h lo hi t e = record {
-  frame = rw is (greyed-frame h lo hi t e);
+  frame = rw is (frame-wider (greyed-frame h lo hi t e) (λ a j q. q .1) (λ a q. omega arith));
   lengths = rw is;
   current = rw is;
   phase = rw is;
   walk = rw is;
   globals = rw is;
-  registers = λ n. rw is (ap (λ x. x .registers) (unmarked-at (s .sessions) n));
-  level = λ n. rw is (ap (λ x. x .level) (unmarked-at (s .sessions) n));
-  attached = λ n. rw is (ap (λ x. x .attached) (unmarked-at (s .sessions) n));
+  sessions = rw is;
   head = rw is;
   grows = rw is (omega arith);
   entries = λ i l. rw is (getD-set-other (s .list .words) (s .list .tail) i v null (omega arith));
@@ -111,6 +105,28 @@ keeps-shade {s = s} {v = v} h lo hi t e = record {
 
     p : PutKept (s .memory) (greyed s v) v colourAt grey
     p = greyed-kept h lo hi t e
+
+-- one record after another
+pub keeps-then : {s t u : Store} → ShadeKeeps s t → ShadeKeeps t u → ShadeKeeps s u
+keeps-then {s} {t} {u} a b = record {
+  frame = frame-wider (frame-then (a .frame) (b .frame)) (λ v j q. either q (λ e. e) (λ e. e)) (λ v e. omega arith);
+  lengths = b .lengths ∙ a .lengths;
+  current = b .current ∙ a .current;
+  phase = b .phase ∙ a .phase;
+  walk = b .walk ∙ a .walk;
+  globals = b .globals ∙ a .globals;
+  sessions = b .sessions ∙ a .sessions;
+  head = b .head ∙ a .head;
+  grows = omega (arith, a .grows, b .grows);
+  entries = λ i l. b .entries i (omega (arith, a .grows)) ∙ a .entries i l;
+  clean = λ h v ok c. b .clean h v (ok-to (a .frame) ok) (a .clean h v ok c);
+  other = λ v i c. let e = a .other v i c in b .other v (rw (a .current) (in-to (a .frame) i)) (rw e c) ∙ e;
+}
+
+-- what is counted of marking: no black record changes its colour, and no mark goes
+pub keeps-grows : {s t : Store} → s .current < 2 → ShadeKeeps s t → Grows s t
+keeps-grows two k = frame-grows two (k .frame) (k .phase) (k .current)
+    (λ v t e. k .other v t (λ w. omega arith) ∙ e) (λ a. rw (k .walk, k .sessions) (le-refl _))
 
 -- ---- what is to be shaded
 
@@ -134,7 +150,7 @@ to-shade-clean (ok-start t) side f c =
 -- ---- the rule
 module _ {K : ℕ → Type 0} {m : ℕ → ℕ} {s : Store} {f : Free} {v : ℕ} (h : Sim K m s f) where
   -- a word that names no white record, in every phase: nothing is shaded
-  pub shading-clean : Ok (s .memory) v → Names (s .current) v → Clean (s .memory) (s .current) v → Shaded K m s f v
+  shading-clean : Ok (s .memory) v → Names (s .current) v → Clean (s .memory) (s .current) v → Shaded K m s f v
   unfolding shading listRoom shade
   shading-clean ok side c = record {
     it = null;

@@ -103,7 +103,7 @@ module _ {M : Memory} (k : Filled M) {h : ℕ} (two : h < 2) where
       (rw e (number-start i c), rw e (half-reference h (pos (half M h) i) two))
 
   -- its weights add up to the total
-  listing-sum : (f : ℕ → ℕ) → sumOver f (recordsOf M h) ≡ total M h f
+  pub listing-sum : (f : ℕ → ℕ) → sumOver f (recordsOf M h) ≡ total M h f
   listing-sum f =
       let one : ℕ → ℕ = λ i. f (reference h (pos (half M h) i)) in
       let q : sum one 0 + sumOver f (numbered (half M h) h 0 (k .count h)) ≡ sum one (k .count h) = rw zero-add at (numbered-sum (half M h) h f 0 (k .count h)) in

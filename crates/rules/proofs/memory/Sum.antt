@@ -10,7 +10,7 @@ unfoldable pub sum : (ℕ → ℕ) → ℕ → ℕ
 sum f zero = 0
 sum f (suc n) = sum f n + f n
 
-sum-le : (f g : ℕ → ℕ) (n : ℕ) → ((k : ℕ) → k < n → f k ≤ g k) → sum f n ≤ sum g n
+pub sum-le : (f g : ℕ → ℕ) (n : ℕ) → ((k : ℕ) → k < n → f k ≤ g k) → sum f n ≤ sum g n
 unfolding sum
 sum-le f g zero h = zero-le
 sum-le f g (suc n) h = let q = sum-le f g n (λ k l. h k (omega arith)) in omega (arith, h n (omega arith))

@@ -14,7 +14,7 @@ use Rattle.rules.proofs.memory.Chain.{pos, sizeAt, pos-zero, pos-suc, p
 use Rattle.rules.proofs.memory.Records.{Start, Filled, start-at, start-number, size-number}
 use Rattle.rules.proofs.memory.Same.{SameStarts}
 use Rattle.rules.proofs.memory.Append.{Appended}
-use Rattle.rules.proofs.memory.Sum.{sum, sum-same, sum-room, sum-bump, sum-cut, sum-zero, sum-suc, sum-ones}
+use Rattle.rules.proofs.memory.Sum.{sum, sum-le, sum-same, sum-room, sum-bump, sum-cut, sum-zero, sum-suc, sum-ones}
 
 -- the weight of the record of number n, 0 past the last
 weight : Memory → ℕ → (ℕ → ℕ) → ℕ → ℕ
@@ -60,6 +60,11 @@ module _ (M : Memory) {h : ℕ} (two : h < 2) (f g : ℕ → ℕ) where
   unfolding total
   total-equal e = sum-same (weight M h f) (weight M h g) (frontier M h)
       (λ n l. weights (λ x y. x ≡ y) refl n (λ b. e (reference h (pos (half M h) n)) (start-at M h n two b) (here n)))
+
+  pub total-le : ((v : ℕ) → Start M v → halfOf v ≡ h → f v ≤ g v) → total M h f ≤ total M h g
+  unfolding total
+  total-le e = sum-le (weight M h f) (weight M h g) (frontier M h)
+      (λ n l. weights (λ x y. x ≤ y) zero-le n (λ b. e (reference h (pos (half M h) n)) (start-at M h n two b) (here n)))
 
   -- one start's weight grows by d
   pub total-bump : {v : ℕ} → Start M v → halfOf v ≡ h → (d : ℕ) → g v ≡ f v + d

@@ -3,24 +3,29 @@ use Prim.Native.Nat.{ℕ, _≤_}
 use mathlib.Core.Path.{_≡_, refl}
 use native.Mathlib.Omega.{arith}
 use lib.ListN.{getD, length}
+use Rattle.rules.specs.Memory.{frontier, black, colour}
 use Rattle.rules.specs.Control.{Store, withCurrent}
 use Rattle.rules.specs.Cycle.{stage, atStackFlip}
 use Rattle.rules.specs.Phases.{tospace, levelOf, nextPhase, absent, unmarked, moveOn, lowestUnmarked}
 use Rattle.rules.specs.Free.{Free}
-use Rattle.rules.proofs.memory.Cases.{bool-or}
+use Rattle.rules.proofs.memory.Cases.{eq-or, bool-or}
 use Rattle.rules.proofs.memory.Encoding.{other-below-2}
 use Rattle.rules.proofs.memory.Walk.{walk-zero}
+use Rattle.rules.proofs.memory.Total.{total-le}
 use Rattle.rules.proofs.invariant.Stages.{stStackFlip, stReclaim, stage-next}
-use Rattle.rules.proofs.invariant.Words.{Names, reg}
+use Rattle.rules.proofs.invariant.Words.{Names, copied, done, reg}
 use Rattle.rules.proofs.invariant.Groups.{Values, Levels, levelBefore, FieldHalves, Pairs}
 use Rattle.rules.proofs.invariant.Marking.{Walking, Kept}
 use Rattle.rules.proofs.invariant.Sim.{Sim}
-use Rattle.rules.proofs.invariant.Laws.{other, to-other}
+use Rattle.rules.proofs.invariant.Laws.{cur-two, other, to-other}
 use Rattle.rules.proofs.invariant.Originals.{original, original-in, original-paired, original-ref, original-plain}
 use Rattle.rules.proofs.invariant.Idle.{agreement-late, list-idle, cleaned-idle, colours-reclaim, roots-home, walking-reclaim}
 use Rattle.rules.proofs.invariant.Unmarked.{unmarked-reg, roots-unmarked}
 use Rattle.rules.proofs.invariant.Range.{range-moved, range-current}
 use Rattle.rules.proofs.invariant.Carried.{kept-carried}
+use Rattle.rules.proofs.invariant.Counted.{copied-size, done-none, done-work, work-size}
+use Rattle.rules.proofs.invariant.Spent.{doneIn}
+use Rattle.rules.proofs.invariant.Spending.{Spends, spends-late}
 use Rattle.rules.proofs.phases.Sessions.{all-marked}
 use Rattle.rules.proofs.phases.Moves.{steady}
 use Rattle.rules.proofs.phases.MoveOn.{levels-on}
@@ -97,3 +102,21 @@ module _ {K : ℕ → Type 0} {m : ℕ → ℕ} {s : Store} {f : Free} (h : Sim 
     walking = rw next walking-flip;
     kept = rw next kept-flip;
   })
+
+  -- ---- the bound on marking: a black record has a replica, and the other half holds the sizes of those with one
+  done-copied : doneIn (s .memory) (s .current) ≤ frontier (s .memory) (other h)
+  done-copied =
+      let M = s .memory in
+      rw (h .pairs .spent (omega arith)) (total-le M (cur-two h) (done M) (copied M) (λ v t side. eq-or (colour M v) black
+      (λ b. omega (arith, done-work M v, work-size M v, copied-size M v (h .colours .shelled (omega arith) (omega arith) v (record { start = t; side = side }) (λ w. omega arith))))
+      (λ b. omega (arith, done-none M v b))))
+
+  pub flip-spends : Spends s (withCurrent (moveOn s) (tospace s))
+  unfolding moveOn
+  flip-spends = rw (to-other h (omega arith)) (spends-late (h .range) (omega arith) (λ n k. record {
+    early = λ a b. absurd (omega (arith, next));
+    marking = λ a. absurd (omega (arith, next));
+    late = λ a b. absurd (omega (arith, next));
+    at-reclaim = λ a. omega (arith, k .late (omega arith) (omega arith), done-copied);
+    at-rest = λ a. absurd (omega (arith, next));
+  }))

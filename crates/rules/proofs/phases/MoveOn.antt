@@ -127,7 +127,6 @@ module _ {K : ℕ → Type 0} {m : ℕ → ℕ} {s : Store} {f : Free} (h : Sim 
     scanned-within = λ a l. zero-le;
     globals-below = λ a g l. absurd (omega arith);
     globals = λ a b g. eq-or (stage (s .phase)) stRootMark (λ c. e .globals c g) (λ c. r .globals (omega arith) (omega arith) g);
-    scanned-done = λ a n t b. absurd (unmarked-none (s .sessions) n b);
     scanned = λ a n k t b. absurd (unmarked-none (s .sessions) n b);
     registers = λ a b n k. rw (unmarked-reg (s .sessions) n k) (eq-or (stage (s .phase)) stHeapMark (λ c. e .registers c n k) (λ c. r .registers (omega arith) (omega arith) n k));
   }

@@ -16,6 +16,7 @@ use Rattle.rules.proofs.memory.Walk.{walk-done}
 use Rattle.rules.proofs.invariant.Stages.{stRest, stRootMark, stHeapMark, stAllocate, stCopy, stRootFlip, stStackFlip, stageOf, phase-is}
 use Rattle.rules.proofs.invariant.Words.{In, Clean, reg}
 use Rattle.rules.proofs.invariant.Groups.{levelBefore}
+use Rattle.rules.proofs.invariant.Protected.{covered-clean}
 use Rattle.rules.proofs.invariant.Sim.{Sim}
 use Rattle.rules.proofs.invariant.Idle.{list-idle, cleaned-idle, walking-idle}
 use Rattle.rules.proofs.invariant.Range.{range-emptied}
@@ -109,10 +110,11 @@ module _ {K : ℕ → Type 0} {m : ℕ → ℕ} {s : Store} {f : Free} (h : Sim 
       })
       (omega arith)
 
-  -- ---- 4 HeapMark: the list is done, so nothing is grey; all attached sessions are scanned
-  scanned-all : stage (s .phase) ≡ stHeapMark → length (s .sessions) ≤ lowestUnmarked (s .sessions) → (n k : ℕ) → Clean (s .memory) (s .current) (reg (s .sessions) n k)
-  scanned-all e l n k = bool-or (getD (s .sessions) n absent .attached)
-      (λ a. h .cleaned .scanned e n k a (all-marked (s .sessions) l n a))
+  -- ---- 4 HeapMark: the list is done, so nothing is grey, and nothing grey-protected; all attached sessions are scanned
+  scanned-all : stage (s .phase) ≡ stHeapMark → s .list .head ≡ s .list .tail → length (s .sessions) ≤ lowestUnmarked (s .sessions)
+      → (n k : ℕ) → Clean (s .memory) (s .current) (reg (s .sessions) n k)
+  scanned-all e d l n k = bool-or (getD (s .sessions) n absent .attached)
+      (λ a. covered-clean (omega arith) (h .cleaned .scanned e n k a (all-marked (s .sessions) l n a)))
       (λ a o. absurd (o (h .roots .idle n k a)))
 
   pub heap-mark-moves : stage (s .phase) ≡ stHeapMark → s .list .head ≡ s .list .tail → length (s .sessions) ≤ lowestUnmarked (s .sessions) → Sim K m (moveOn s) f
@@ -123,7 +125,7 @@ module _ {K : ℕ → Type 0} {m : ℕ → ℕ} {s : Store} {f : Free} (h : Sim 
         emptied = λ o. absurd (omega arith);
         globals = λ o. absurd (omega arith);
         none-grey = λ o v t g. let x = h .grey-list .found (omega arith) (omega arith) v t g in omega (arith, x .1, x .2);
-        registers = λ o. scanned-all e l;
+        registers = λ o. scanned-all e d l;
         shelled = λ o. absurd (omega arith);
         copied = λ o. absurd (omega arith);
         flipped = λ o. absurd (omega arith);

@@ -15,9 +15,11 @@ use Rattle.rules.proofs.memory.Put.{frontier-put}
 use Rattle.rules.proofs.invariant.Stages.{stReclaim}
 use Rattle.rules.proofs.invariant.Sim.{Sim}
 use Rattle.rules.proofs.invariant.Following.{followed-start, follow-home}
+use Rattle.rules.proofs.invariant.Spent.{spent-grows}
+use Rattle.rules.proofs.invariant.Spending.{spends-late, spends-waiting}
 use Rattle.rules.proofs.relation.Stepped.{Stepped, stepped, stepped-same}
 use Rattle.rules.proofs.phases.Clear.{cleared-in, clear-sim}
-use Rattle.rules.proofs.phases.Reclaimed.{front-less-0, front-less-1, reclaim-moves}
+use Rattle.rules.proofs.phases.Reclaimed.{front-less-0, front-less-1, reclaim-moves, reclaim-spends}
 
 module _ {K : ℕ → Type 0} {m : ℕ → ℕ} {s : Store} {f : Free} (h : Sim K m s f) (e : stage (s .phase) ≡ stReclaim) where
   -- below the frontier
@@ -28,17 +30,23 @@ module _ {K : ℕ → Type 0} {m : ℕ → ℕ} {s : Store} {f : Free} (h : Sim 
       (clear-sim h e l)
       (omega (arith, frontier-put (s .memory) (walked s) replicaAt null 0))
       (omega (arith, frontier-put (s .memory) (walked s) replicaAt null 1))
+      (spends-late (h .range) (omega arith) (spent-grows (record {
+        phase = refl;
+        front = omega (arith, frontier-put (s .memory) (walked s) replicaAt null (s .current));
+        blacks = λ a b. absurd (omega arith);
+        others = λ a. absurd (omega arith);
+      })))
 
   -- at the frontier
   ends : haveLevel s ≡ true → frontier (s .memory) (s .current) ≤ s .walk .place → Stepped K m s f (reclaim s)
   unfolding reclaim below moveOn
   ends a d = stepped
       (rw (a, le-ltb (s .walk .place) (frontier (s .memory) (s .current)) d))
-      (reclaim-moves h e d a) (front-less-0 h e d) (front-less-1 h e d)
+      (reclaim-moves h e d a) (front-less-0 h e d) (front-less-1 h e d) (reclaim-spends h e d)
 
   waits : haveLevel s ≡ false → Stepped K m s f (reclaim s)
   unfolding reclaim
-  waits a = stepped-same (rw a) h refl
+  waits a = stepped-same (rw a) h refl (spends-waiting (h .range) (omega arith))
 
   pub reclaim-stepped : Stepped K m s f (reclaim s)
   reclaim-stepped = bool-or (haveLevel s)

@@ -27,6 +27,7 @@ use Rattle.rules.proofs.invariant.Unmarked.{unmarked-reg, roots-unmarke
 use Rattle.rules.proofs.invariant.Range.{range-moved, range-memory}
 use Rattle.rules.proofs.invariant.Carried.{in-carried, Within, identity-carried, values-carried, roots-carried, kept-carried}
 use Rattle.rules.proofs.invariant.Counted.{copied-none}
+use Rattle.rules.proofs.invariant.Spending.{Spends, spends-late}
 use Rattle.rules.proofs.phases.MoveOn.{levels-on}
 use Rattle.rules.proofs.phases.Moves.{have-level}
 
@@ -158,3 +159,14 @@ module _ {K : ℕ → Type 0} {m : ℕ → ℕ} {s : Store} {f : Free} (h : Sim 
     walking = walking-idle (omega (arith, next)) (omega (arith, next)) (omega (arith, next)) (omega (arith, next));
     kept = rw next kept-empty;
   }
+
+  -- the current half keeps its words
+  pub reclaim-spends : Spends s (moveOn (withMemory s (withFrontier (s .memory) (otherHalf (s .current)) 0)))
+  unfolding moveOn
+  reclaim-spends = spends-late (h .range) (omega arith) (λ n k. record {
+    early = λ a b. absurd (omega (arith, next));
+    marking = λ a. absurd (omega (arith, next));
+    late = λ a b. absurd (omega (arith, next));
+    at-reclaim = λ a. absurd (omega (arith, next));
+    at-rest = λ a. omega (arith, k .at-reclaim e, gone .front-other (s .current) (cur-two h) (λ q. other-not h (sym q)));
+  })

@@ -20,6 +20,7 @@ use Rattle.rules.proofs.invariant.Laws.{other, other-not, fwd-place, fw
 use Rattle.rules.proofs.invariant.Following.{forward-passed, follow-word}
 use Rattle.rules.proofs.invariant.Idle.{walking-idle}
 use Rattle.rules.proofs.invariant.Walked.{walk-sim}
+use Rattle.rules.proofs.invariant.Spending.{spends-still, spends-moving}
 use Rattle.rules.proofs.relation.Stepped.{Stepped, stepped-same}
 use Rattle.rules.proofs.sessions.Session.{GlobalFits, global-sim-same}
 use Rattle.rules.proofs.phases.Moves.{root-flip-moves}
@@ -35,6 +36,7 @@ module _ {K : ℕ → Type 0} {m : ℕ → ℕ} {s : Store} {f : Free} (h : Sim 
     globals-below = λ a. absurd (omega arith);
     scanning = λ a. absurd (omega arith);
     scanned-within = λ a. absurd (omega arith);
+    covered = λ a. absurd (omega arith);
     shelled-below = λ a. absurd (omega arith);
     agreement = record {
       refs-agree = λ a b v i t n c d. h .agreement .refs-agree a b v i t n c (over (omega arith));
@@ -74,11 +76,12 @@ module _ {K : ℕ → Type 0} {m : ℕ → ℕ} {s : Store} {f : Free} (h : Sim 
       (rw (lt-ltb (s .walk .place) globalCount l, to-other h (omega arith), forward-passed (other h) (h .roots .global-ok (s .walk .place)) (λ t d. follow-word h (λ y. h .root-halves .globals y (s .walk .place)) t)))
       (next-global (global-sim-same h (s .walk .place) (omega arith) new-fits) e l
       (rw (getD-set-same (s .globals) (s .walk .place) new null (omega (arith, h .roots .globals))) new-names))
-      refl
+      refl (spends-still (h .range) (omega arith) refl refl refl)
 
   ends : globalCount ≤ s .walk .place → Stepped K m s f (rootFlip s)
   unfolding rootFlip moveOn
   ends l = stepped-same (rw (le-ltb (s .walk .place) globalCount l)) (root-flip-moves h e l) refl
+      (spends-moving (h .range) (omega arith) (omega arith))
 
   pub root-flip-stepped : Stepped K m s f (rootFlip s)
   root-flip-stepped = lt-or (s .walk .place) globalCount forwards ends

@@ -21,10 +21,11 @@ use Rattle.rules.proofs.invariant.Words.{Ok, Names, fwd}
 use Rattle.rules.proofs.invariant.Sim.{Sim}
 use Rattle.rules.proofs.invariant.Laws.{other, other-not, fwd-null, fwd-place, fwd-ok, fwd-names, to-other}
 use Rattle.rules.proofs.invariant.Following.{Followable, forward-passed, follow-word}
+use Rattle.rules.proofs.invariant.Spending.{spends-still}
 use Rattle.rules.proofs.relation.Stepped.{Stepped, stepped-same}
 use Rattle.rules.proofs.sessions.Session.{WordFits, SessionFits, session-sim-same, register-fits, session-fits}
 use Rattle.rules.proofs.phases.Sessions.{lowest}
-use Rattle.rules.proofs.phases.Flip.{flip-moves}
+use Rattle.rules.proofs.phases.Flip.{flip-moves, flip-spends}
 
 -- ---- a list of registers forwarded
 forward-all-passed : {M : Memory} (to : ℕ) (vs : List ℕ) → ((k : ℕ) → Ok M (getD vs k null)) → ((k : ℕ) → Start M (getD vs k null) → Followable M (getD vs k null))
@@ -67,7 +68,6 @@ module _ {K : ℕ → Type 0} {m : ℕ → ℕ} {s : Store} {f : Free} (h : Sim 
       low = z .low;
       allowed = z .allowed;
       idle = λ b. absurd (true≢false (sym a ∙ b));
-      done = λ b. absurd (omega arith);
       words = λ b k. rw (forwarded-at (s .memory) (other h) regs k) (word-fits k);
       free-idle = z .free-idle;
     }
@@ -94,11 +94,11 @@ module _ {K : ℕ → Type 0} {m : ℕ → ℕ} {s : Store} {f : Free} (h : Sim 
       stepped-same
       (rw (lt-ltb low (length (s .sessions)) l, to-other h (omega arith), forward-all-passed (other h) (regs low b a) (regs-ok low b a) (regs-follow low b a)))
       (session-sim-same h low b (new-fits low b a))
-      refl
+      refl (spends-still (h .range) (omega arith) refl refl refl)
 
   ends : length (s .sessions) ≤ low → Stepped K m s f (stackFlip s)
   unfolding stackFlip moveOn
-  ends l = stepped-same (rw (le-ltb low (length (s .sessions)) l)) (flip-moves h e l) refl
+  ends l = stepped-same (rw (le-ltb low (length (s .sessions)) l)) (flip-moves h e l) refl (flip-spends h e)
 
   pub stack-flip-stepped : Stepped K m s f (stackFlip s)
   stack-flip-stepped = lt-or low (length (s .sessions)) forwards ends

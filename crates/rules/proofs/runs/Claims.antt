@@ -20,15 +20,15 @@ use Rattle.rules.proofs.runs.StaysFreed.{freed-after}
 use Rattle.rules.proofs.runs.LiveFits.{reached-fits}
 
 -- every place may stay
-abbrev Any : ℕ → Type 0
+abbrev pub Any : ℕ → Type 0
 Any q = Unit {0}
 
 -- the invariant in every run
 module _ (s : Store) (made : Made s) where
-  start-holds : Holds Any (newBeside s)
+  pub start-holds : Holds Any (newBeside s)
   start-holds = start-sim Any (λ q l. tt) s made
 
-  holds : (cs : List Call) → Holds Any (beside (newBeside s) cs)
+  pub holds : (cs : List Call) → Holds Any (beside (newBeside s) cs)
   holds cs = run-holds (newBeside s) start-holds cs
 
 pub answers : Answers

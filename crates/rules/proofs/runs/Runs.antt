@@ -1,13 +1,15 @@
--- Runs: the invariant along a list of calls, and the session answers of the collector-free store.
+-- Runs: the invariant and the bound on marking along a list of calls, and the session answers of the collector-free store.
 use Prim.Native.Nat.{ℕ}
 use mathlib.Core.Path.{_≡_, refl, ap, _∙_}
 use mathlib.Core.Bool.{true, cond}
-use mathlib.Core.List.{List, [], _∷_}
+use mathlib.Core.List.{List, [], _∷_, _++_}
 use Rattle.rules.specs.Refusals.{Reply}
-use Rattle.rules.specs.Runs.{Call, apply, after, isSession, isAllocation, sessionCalls, sessionRun, Fed, fedBy, feeds}
+use Rattle.rules.specs.Control.{Store}
+use Rattle.rules.specs.Runs.{Call, apply, after, isSession, isAllocation, sessionCalls, sessionRun, Fed, fedBy, feeds, spentBy, spent}
 use Rattle.rules.specs.Free.{Free, freeApply, freeRun, nextFed}
 use Rattle.rules.specs.Tracking.{Beside, besideCall, beside}
 use Rattle.rules.proofs.invariant.Sim.{Sim}
+use Rattle.rules.proofs.invariant.Spent.{Spent}
 use Rattle.rules.proofs.relation.Kinds.{Kind, allocation, unfed, silent, kind}
 use Rattle.rules.proofs.runs.Call.{one-call}
 
@@ -20,10 +22,20 @@ pub run-holds : {K : ℕ → Type 0} (b : Beside) → Holds K b → (cs : List C
 run-holds b h [] = h
 run-holds b h (c ∷ cs) = run-holds (besideCall b c) (one-call b h c .sim) cs
 
+-- and the bound on marking
+pub run-spent : {K : ℕ → Type 0} (b : Beside) → Holds K b → (cs : List Call) (n : ℕ) → Spent n (b .store) → Spent (spent n (b .store) cs) (beside b cs .store)
+run-spent b h [] n k = k
+run-spent b h (c ∷ cs) n k = let z = one-call b h c in run-spent (besideCall b c) (z .sim) cs (spentBy n (b .store) c) (z .spent n k)
+
 -- the store beside is the store of the run
 pub beside-store : (b : Beside) (cs : List Call) → beside b cs .store ≡ after (b .store) cs
 beside-store b [] = refl
 beside-store b (c ∷ cs) = beside-store (besideCall b c) cs
+
+-- calls after calls
+pub after-more : (s : Store) (cs ds : List Call) → after s (cs ++ ds) ≡ after (after s cs) ds
+after-more s [] ds = refl
+after-more s (c ∷ cs) ds = after-more (apply s c .store) cs ds
 
 -- ---- session answers
 

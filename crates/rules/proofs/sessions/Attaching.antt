@@ -2,11 +2,12 @@
 use Prim.Native.Nat.{ℕ, _≤_}
 use mathlib.Core.Path.{refl, sym}
 use mathlib.Core.Logic.{inl}
-use mathlib.Core.Bool.{true, not, true≢false}
+use mathlib.Core.Bool.{Bool, true, not, true≢false}
 use native.Mathlib.Omega.{arith}
 use lib.Dec.{leb}
-use borrow.Author.Tests.{leb-true}
+use borrow.Author.Tests.{leb-true, eq-eqb}
 use Rattle.rules.specs.Refusals.{_>>=_, done}
+use Rattle.rules.specs.Cycle.{atHeapMark}
 use Rattle.rules.specs.Control.{Store, registerCount, lastSession, lastLevel}
 use Rattle.rules.specs.Phases.{withLevel, attachedAt, detached, levelOf, sessionAt, withSession}
 use Rattle.rules.specs.Calls as calls
@@ -14,7 +15,9 @@ use Rattle.rules.specs.Free.{Free, freeSession, freeNobody, withFreeAtta
 use Rattle.rules.specs.declared.Session.{Session}
 use Rattle.rules.proofs.Ranges.{in-range-tested}
 use Rattle.rules.proofs.memory.Lists.{zeros}
+use Rattle.rules.proofs.invariant.Stages.{phase-is}
 use Rattle.rules.proofs.invariant.Sim.{Sim}
+use Rattle.rules.proofs.invariant.Spent.{spent-grows, session-grows}
 use Rattle.rules.proofs.invariant.Spans.{level-most}
 use Rattle.rules.proofs.relation.Alike.{Alike, both-check, alike-done}
 use Rattle.rules.proofs.relation.Tests.{same-attached, both-session}
@@ -24,16 +27,15 @@ module _ {K : ℕ → Type 0} {m : ℕ → ℕ} {s : Store} {f : Free} (h : Sim 
   phase-level : levelOf (s .phase) ≤ lastLevel
   phase-level = level-most (s .phase) (levelOf (s .phase)) (h .range .phases) (inl refl)
 
-  attached-fits : SessionFits K m s (attachedAt (levelOf (s .phase)))
-      (withFreeAttached freeNobody true)
-  attached-fits = record {
+  -- with a mark or without: its registers are null
+  attached-fits : (b : Bool) → SessionFits K m s (attachedAt (levelOf (s .phase)) b) (withFreeAttached freeNobody true)
+  attached-fits b = record {
     registers = refl;
     free-registers = refl;
     attached = refl;
     low = phase-level;
     allowed = λ e. inl refl;
     idle = λ e. absurd (true≢false e);
-    done = λ p a e. absurd (true≢false (sym e));
     words = λ e k. rw (zeros registerCount k) (null-fits h _);
     free-idle = λ e. absurd (true≢false e);
   }
@@ -46,7 +48,6 @@ module _ {K : ℕ → Type 0} {m : ℕ → ℕ} {s : Store} {f : Free} (h : Sim 
     low = omega arith;
     allowed = λ e. absurd (true≢false (sym e));
     idle = λ e k. zeros registerCount k;
-    done = λ p e. absurd (true≢false (sym e));
     words = λ e. absurd (true≢false (sym e));
     free-idle = λ e k. zeros registerCount k;
   }
@@ -61,7 +62,6 @@ module _ {K : ℕ → Type 0} {m : ℕ → ℕ} {s : Store} {f : Free} (h : Sim 
     low = phase-level;
     allowed = λ e. inl refl;
     idle = z .idle;
-    done = z .done;
     words = λ e k. refit _ refl (z .words e k);
     free-idle = z .free-idle;
   }
@@ -70,13 +70,16 @@ module _ {K : ℕ → Type 0} {m : ℕ → ℕ} {s : Store} {f : Free} (h : Sim 
   unfolding calls.attach freeAttach withSession
   attach-alike n q = rw (in-range-tested (h .range), same-attached h n) (both-check (leb n lastSession) 5 tt
       (λ l. both-check (not (sessionAt s n .attached)) 7 tt
-      (λ e. alike-done (session-sim h n (leb-true n lastSession l) attached-fits) refl refl refl)))
+      (λ e. alike-done (session-sim h n (leb-true n lastSession l) (attached-fits _)) refl refl refl
+      (spent-grows (session-grows s n _ (λ p z. eq-eqb (s .phase) _ (omega (arith, phase-is atHeapMark (h .range .phases) (omega arith) p))))))))
 
   pub detach-alike : (n q : ℕ) → Alike K q m s (calls.detach s n) (freeDetach f n)
   unfolding calls.detach freeDetach withSession
-  detach-alike n q = both-session h n _ _ (λ a. alike-done (session-sim h n (a .number) (detached-fits (sessionAt s n))) refl refl refl)
+  detach-alike n q = both-session h n _ _ (λ a. alike-done (session-sim h n (a .number) (detached-fits (sessionAt s n))) refl refl refl
+      (spent-grows (session-grows s n _ (λ p z. z))))
 
   -- the collector-free store has no safe point: beside it the same session tests, and nothing changed
   pub safe-point-alike : (n q : ℕ) → Alike K q m s (calls.safePoint s n) (freeSessionOf f n >>= λ x. done f)
   unfolding calls.safePoint withSession
-  safe-point-alike n q = both-session h n _ _ (λ a. alike-done (session-sim-same h n (a .number) (safe-fits n (a .number))) refl refl refl)
+  safe-point-alike n q = both-session h n _ _ (λ a. alike-done (session-sim-same h n (a .number) (safe-fits n (a .number))) refl refl refl
+      (spent-grows (session-grows s n _ (λ p z. z))))

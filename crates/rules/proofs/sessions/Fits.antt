@@ -15,6 +15,7 @@ use Rattle.rules.proofs.memory.Cases.{bool-or}
 use Rattle.rules.proofs.invariant.Stages.{stRootMark, stHeapMark, stRootFlip, stStackFlip}
 use Rattle.rules.proofs.invariant.Words.{Ok, ok-null, Names, Clean}
 use Rattle.rules.proofs.invariant.Groups.{NoFlip}
+use Rattle.rules.proofs.invariant.Protected.{scanOf, Covered, clean-covered}
 use Rattle.rules.proofs.invariant.Sim.{Sim}
 use Rattle.rules.proofs.invariant.Spans.{Allowed}
 
@@ -24,7 +25,7 @@ pub record WordFits (K : ℕ → Type 0) (m : ℕ → ℕ) (s : Store) (x : Sess
   pub is : q ≡ m v
   pub names : NoFlip (stage (s .phase)) → Names (s .current) v
   pub marked : stage (s .phase) ≡ stStackFlip → x .scanned ≡ true → Names (otherHalf (s .current)) v
-  pub scanned : stage (s .phase) ≡ stHeapMark → x .scanned ≡ true → Clean (s .memory) (s .current) v
+  pub scanned : stage (s .phase) ≡ stHeapMark → x .scanned ≡ true → Covered (s .memory) (s .current) (scanOf s) v
   pub clean : stHeapMark < stage (s .phase) → stage (s .phase) ≤ stStackFlip → Clean (s .memory) (s .current) v
   pub kept : q ≢ null → K q
 
@@ -48,8 +49,6 @@ pub record SessionFits (K : ℕ → Type 0) (m : ℕ → ℕ) (s : Store) (x : S
   pub low : x .level ≤ lastLevel
   pub allowed : x .attached ≡ true → Allowed (s .phase) (x .level)
   pub idle : x .attached ≡ false → (k : ℕ) → getD (x .registers) k null ≡ null
-  -- HeapMark marks a session only while the list is done
-  pub done : stage (s .phase) ≡ stHeapMark → x .attached ≡ true → x .scanned ≡ true → s .list .head ≡ s .list .tail
   pub words : x .attached ≡ true → (k : ℕ) → WordFits K m s x (getD (x .registers) k null) (getD (y .registers) k null)
   pub free-idle : x .attached ≡ false → (k : ℕ) → getD (y .registers) k null ≡ null
 
@@ -110,7 +109,7 @@ module _ {K : ℕ → Type 0} {m : ℕ → ℕ} {s : Store} {f : Free} (h : Sim 
     is = h .roots .global-is g;
     names = λ u. h .root-halves .globals u g;
     marked = λ e z. h .root-halves .flipped (omega arith) (omega arith) g;
-    scanned = λ e z. h .cleaned .globals (omega arith) (omega arith) g;
+    scanned = λ e z. clean-covered (h .cleaned .globals (omega arith) (omega arith) g);
     clean = λ u v. h .cleaned .globals (omega arith) v g;
     kept = h .kept .globals g;
   }
@@ -139,7 +138,6 @@ module _ {K : ℕ → Type 0} {m : ℕ → ℕ} {s : Store} {f : Free} (h : Sim 
     low = h .range .levels n;
     allowed = h .levels .allowed n;
     idle = λ a k. h .roots .idle n k a;
-    done = λ e. h .cleaned .scanned-done e n;
     words = λ a k. register-fits n k a;
     free-idle = λ a k. free-null n k a;
   }

@@ -62,7 +62,6 @@ module _ {K : ℕ → Type 0} {m : ℕ → ℕ} {s : Store} {f : Free} (h : Sim 
     scanned-within = r .scanned-within;
     globals-below = λ e. each-global (λ j u w. j < s .walk .place → Clean (s .memory) (s .current) u) (t .below e) (r .globals-below e);
     globals = λ a b. each-global (λ j u w. Clean (s .memory) (s .current) u) (t .clean a b) (r .globals a b);
-    scanned-done = r .scanned-done;
     scanned = r .scanned;
     registers = r .registers;
   }

@@ -1,7 +1,7 @@
 -- The calls that read a record: load, read, the stretch and its companion.
 use Prim.Native.Nat.{ℕ, zero, suc, _+_, _-_, _≤_, _<_}
 use mathlib.Core.Path.{_≡_, refl, sym, ap, _∙_}
-use mathlib.Core.Bool.{true, _&&_, and-comm, and-self}
+use mathlib.Core.Bool.{_&&_, and-comm, and-self}
 use mathlib.Core.List.{List}
 use native.Mathlib.Omega.{arith}
 use lib.Dec.{ltb}
@@ -11,7 +11,6 @@ use borrow.Author.Tests.{ltb-true}
 use Rattle.rules.specs.Refusals.{answer}
 use Rattle.rules.specs.Memory.{Memory, half, halfOf, wordOf, header, word, refs, plains}
 use Rattle.rules.specs.Control.{Store}
-use Rattle.rules.specs.Cycle.{stage}
 use Rattle.rules.specs.Phases.{sessionAt, register}
 use Rattle.rules.specs.Calls as calls
 use Rattle.rules.specs.Calls.{isRegister}
@@ -19,7 +18,6 @@ use Rattle.rules.specs.Free.{Free, freeLoad, freeRead, freeStretch}
 use Rattle.rules.specs.declared.Answer.the-variants.{Word}
 use Rattle.rules.proofs.Ranges.{both}
 use Rattle.rules.proofs.memory.Records.{Start, Filled, start-inside, size-fields}
-use Rattle.rules.proofs.invariant.Stages.{stHeapMark}
 use Rattle.rules.proofs.invariant.Words.{plainOf}
 use Rattle.rules.proofs.invariant.Sim.{Sim}
 use Rattle.rules.proofs.relation.Alike.{Alike, Both, passed-both, both-check-eq, both-commit, alike-done}
@@ -28,14 +26,10 @@ use Rattle.rules.proofs.sessions.Registers.{set-left, held-fits}
 use Rattle.rules.proofs.sessions.Values.{Fields, record-values}
 
 module _ {K : ℕ → Type 0} {m : ℕ → ℕ} {s : Store} {f : Free} (h : Sim K m s f) where
-  list-done : (n : ℕ) → Attached s n → stage (s .phase) ≡ stHeapMark → sessionAt s n .scanned ≡ true → s .list .head ≡ s .list .tail
-  unfolding sessionAt
-  list-done n a e = h .cleaned .scanned-done e n (a .attached)
-
   -- the record in register k of the call's session
   held-values : (n k : ℕ) → Attached s n → Start (s .memory) (register (sessionAt s n) k)
       → Fields K m s f (sessionAt s n) (register (sessionAt s n) k)
-  held-values n k a z = record-values h (held-fits h n k a) z (list-done n a)
+  held-values n k a z = record-values h (held-fits h n k a) z
 
   pub load-alike : (n to k i q : ℕ) → Alike K q m s (calls.load s n to k i) (freeLoad f n to k i)
   unfolding calls.load calls.loadPlan freeLoad
@@ -49,7 +43,7 @@ module _ {K : ℕ → Type 0} {m : ℕ → ℕ} {s : Store} {f : Free} (h : Sim 
   read-alike n k i q = both-record h n k k (isRegister k) (and-self (isRegister k)) _ _
       (λ a b z p. let w = held-values n k a z in
       both-check-eq _ _ 13 (ap (ltb i) (sym (w .nplains))) tt
-      (λ l. alike-done h (ap (λ u. answer (Word u)) (sym (w .plain i (ltb-true _ _ l)))) refl refl))
+      (λ l. alike-done h (ap (λ u. answer (Word u)) (sym (w .plain i (ltb-true _ _ l)))) refl refl (λ c z. z)))
 
 -- ---- the stretch
 

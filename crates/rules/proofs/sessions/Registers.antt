@@ -12,6 +12,7 @@ use Rattle.rules.specs.Free.{Free, freeSession, freeRegister, withFreeRe
 use Rattle.rules.specs.declared.Answer.the-variants.{Done}
 use Rattle.rules.proofs.Ranges.{both}
 use Rattle.rules.proofs.invariant.Sim.{Sim}
+use Rattle.rules.proofs.invariant.Spent.{Grows, spent-grows, session-grows}
 use Rattle.rules.proofs.relation.Alike.{Left, Alike, passed-both, both-check, left-done}
 use Rattle.rules.proofs.relation.Tests.{Attached, both-session}
 use Rattle.rules.proofs.sessions.Session.{WordFits, register-sim, register-fits, global-fits, null-fits}
@@ -20,12 +21,17 @@ use Rattle.rules.proofs.sessions.Session.{WordFits, register-sim, regis
 is-register : (k : ℕ) → isRegister k ≡ true → k ≤ lastRegister
 is-register k e = leb-true k lastRegister e
 
+-- a session keeps its mark when a register is set
+pub register-grows : (s : Store) (n k v : ℕ) → Grows s (withRegister s n k v)
+unfolding withRegister
+register-grows s n k v = session-grows s n _ (λ a b. b)
+
 module _ {K : ℕ → Type 0} {m : ℕ → ℕ} {s : Store} {f : Free} (h : Sim K m s f) where
   -- a register of the call's session set to a word that fits ends the call alike
   pub set-left : {q : ℕ} (n to : ℕ) → Attached s n → isRegister to ≡ true → {v p : ℕ} → WordFits K m s (sessionAt s n) v p
       → Left K q m s (record { store = withRegister s n to v; reply = answer Done }) (record { store = withFreeRegister f n to p; reply = answer Done })
   unfolding withRegister withSession
-  set-left n to a e t = left-done (register-sim h n to (a .number) (is-register to e) (a .attached) t) refl refl refl
+  set-left n to a e t = left-done (register-sim h n to (a .number) (is-register to e) (a .attached) t) refl refl refl (spent-grows (register-grows s n to _))
 
   set-alike : {q : ℕ} (n to : ℕ) → Attached s n → isRegister to ≡ true → {v p : ℕ} → WordFits K m s (sessionAt s n) v p
       → Alike K q m s (done (withRegister s n to v)) (done (withFreeRegister f n to p))

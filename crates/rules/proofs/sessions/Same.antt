@@ -111,4 +111,4 @@ module _ {K : ℕ → Type 0} {m : ℕ → ℕ} {s : Store} {f : Free} (h : Sim 
   pub same-alike : (n a b q : ℕ) → Alike K q m s (calls.same s n a b) (freeSame f n a b)
   unfolding calls.same freeSame
   same-alike n a b q = both-session h n _ _ (λ z. both-check (isRegister a && isRegister b) 8 tt
-      (λ e. both-passes _ _ (same-passed (held-fits h n a z) (held-fits h n b z) (z .allowed)) _ (alike-done h refl refl refl)))
+      (λ e. both-passes _ _ (same-passed (held-fits h n a z) (held-fits h n b z) (z .allowed)) _ (alike-done h refl refl refl (λ c z. z))))

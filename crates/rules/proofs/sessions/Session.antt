@@ -17,6 +17,7 @@ use Rattle.rules.proofs.Ranges.{InRange}
 use Rattle.rules.proofs.memory.Lists.{set-each}
 use Rattle.rules.proofs.invariant.Words.{Ok, Names, Clean}
 use Rattle.rules.proofs.invariant.Groups.{Roots, Levels, RootHalves}
+use Rattle.rules.proofs.invariant.Protected.{scanOf, Covered}
 use Rattle.rules.proofs.invariant.Marking.{Cleaned, Kept}
 use Rattle.rules.proofs.invariant.Sim.{Sim}
 use Rattle.rules.proofs.invariant.Spans.{Allowed}
@@ -76,8 +77,7 @@ module _ {K : ℕ → Type 0} {m : ℕ → ℕ} {s : Store} {f : Free} (h : Sim 
     scanned-within = r .scanned-within;
     globals-below = r .globals-below;
     globals = r .globals;
-    scanned-done = λ e. each (λ j u w. u .attached ≡ true → u .scanned ≡ true → s .list .head ≡ s .list .tail) (t .done e) (r .scanned-done e);
-    scanned = λ e j k. each (λ j u w. u .attached ≡ true → u .scanned ≡ true → Clean (s .memory) (s .current) (getD (u .registers) k null))
+    scanned = λ e j k. each (λ j u w. u .attached ≡ true → u .scanned ≡ true → Covered (s .memory) (s .current) (scanOf s) (getD (u .registers) k null))
         (λ a b. t .words a k .scanned e b) (λ i. r .scanned e i k) j;
     registers = λ a b j k. each (λ j u w. Clean (s .memory) (s .current) (getD (u .registers) k null)) (fits-clean t k a b) (λ i. r .registers a b i k) j;
   }
@@ -134,7 +134,6 @@ module _ {K : ℕ → Type 0} {m : ℕ → ℕ} {s : Store} {f : Free} (h : Sim 
         low = z .low;
         allowed = z .allowed;
         idle = λ e. absurd (true≢false (sym a ∙ e));
-        done = z .done;
         words = λ e. set-each (sessionAt s n .registers) (freeSession f n .registers) k (omega (arith, z .registers)) (omega (arith, z .free-registers)) v null q null
             (λ i. WordFits K m s x) (refit x refl t) (λ i. refit x refl (register-fits h n i a));
         free-idle = λ e. absurd (true≢false (sym a ∙ e));

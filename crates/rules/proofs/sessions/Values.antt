@@ -1,21 +1,21 @@
 -- The record that a register names, of either half: its fields may be loaded, and its words are the collector-free ones.
-use Prim.Native.Nat.{ℕ, _≤_, _<_}
-use mathlib.Core.Path.{_≡_, sym, _∙_}
-use mathlib.Core.Logic.{_≢_}
+use Prim.Native.Nat.{ℕ, suc, _≤_, _<_}
+use mathlib.Core.Path.{_≡_, refl, sym, _∙_}
 use mathlib.Core.Bool.{true}
 use native.Mathlib.Omega.{arith}
 use lib.ListN.{getD, length}
-use Rattle.rules.specs.Memory.{Memory, null, grey, black, colour, refs, plains}
+use Rattle.rules.specs.Memory.{Memory, null, white, grey, colour, refs, plains}
 use Rattle.rules.specs.Control.{Store}
 use Rattle.rules.specs.Cycle.{stage}
 use Rattle.rules.specs.Phases.{otherHalf}
 use Rattle.rules.specs.Free.{Free, recordAt}
 use Rattle.rules.specs.declared.Session.{Session}
-use Rattle.rules.proofs.memory.Cases.{lt-or}
+use Rattle.rules.proofs.memory.Cases.{eq-or, lt-or}
 use Rattle.rules.proofs.memory.Records.{Start, start-nonnull}
 use Rattle.rules.proofs.invariant.Stages.{stHeapMark, stPreFlip2, stStackFlip}
 use Rattle.rules.proofs.invariant.Words.{In, field, plainOf, recOf}
 use Rattle.rules.proofs.invariant.Groups.{NoFlip}
+use Rattle.rules.proofs.invariant.Protected.{scanOf, entryOf, Covered, clean-covered, entry-covers, white-covers}
 use Rattle.rules.proofs.invariant.Sim.{Sim}
 use Rattle.rules.proofs.invariant.Laws.{in-or, cur-two, other-not, marked-black}
 use Rattle.rules.proofs.invariant.Originals.{original-ref, original-plain}
@@ -44,8 +44,7 @@ flips : (st : ℕ) → (NoFlip st → ⊥) → (stPreFlip2 ≤ st) × (st ≤ st
 flips st c =
     lt-or st stPreFlip2 (λ a. absurd (c (omega arith))) (λ a. lt-or stStackFlip st (λ b. absurd (c (λ z. b))) (λ b. (a, b)))
 
-module _ {K : ℕ → Type 0} {m : ℕ → ℕ} {s : Store} {f : Free} (h : Sim K m s f) {x : Session} {v q : ℕ} (t : WordFits K m s x v q) (z : Start (s .memory) v)
-    (done : stage (s .phase) ≡ stHeapMark → x .scanned ≡ true → s .list .head ≡ s .list .tail) where
+module _ {K : ℕ → Type 0} {m : ℕ → ℕ} {s : Store} {f : Free} (h : Sim K m s f) {x : Session} {v q : ℕ} (t : WordFits K m s x v q) (z : Start (s .memory) v) where
   abbrev M : Memory
   M = s .memory
 
@@ -54,13 +53,27 @@ module _ {K : ℕ → Type 0} {m : ℕ → ℕ} {s : Store} {f : Free} (h : Sim 
 
   -- ---- of the current half
 
-  -- while the list is done no record is grey
-  not-grey : stage (s .phase) ≡ stHeapMark → x .scanned ≡ true → In M (s .current) v → colour M v ≢ grey
-  not-grey p b c g = let w = h .grey-list .found (omega arith) (omega arith) v c g in omega (arith, done p b, w .1, w .2)
+  -- a field of a listed record: HeapMark has passed it, or has still to come to it
+  listed-field : stage (s .phase) ≡ stHeapMark → (n i : ℕ) → s .list .head ≤ n → n < s .list .tail → entryOf (scanOf s) n ≡ v → i < refs M v
+      → Covered M (s .current) (scanOf s) (field M v i)
+  listed-field p n i a b e l = lt-or n (suc (s .list .head))
+      (λ c. let y : n ≡ s .list .head = omega arith in
+      lt-or i (s .walk .field)
+      (λ d. clean-covered (rw (← e, y) (h .cleaned .scanning p (omega arith) i d)))
+      (λ d. to-pass (λ o. d)))
+      (λ c. to-pass (λ o. absurd (omega arith)))
+    where
+      to-pass : (n ≡ s .list .head → s .walk .field ≤ i) → Covered M (s .current) (scanOf s) (field M v i)
+      to-pass d = entry-covers n i (rw e) (record { from = a; below = b; within = rw e l; left = d })
 
-  scanned-black : stage (s .phase) ≡ stHeapMark → x .scanned ≡ true → In M (s .current) v → colour M v ≡ black
-  scanned-black p b c =
-      omega (arith, h .filled .colours z, t .scanned p b (start-nonnull z) (c .side), not-grey p b c)
+  -- what a scanned session loads: from a black record what is clean, from a grey or a white one what is protected at most
+  scanned-field : stage (s .phase) ≡ stHeapMark → x .scanned ≡ true → In M (s .current) v → (i : ℕ) → i < refs M v
+      → Covered M (s .current) (scanOf s) (field M v i)
+  scanned-field p b c i l = eq-or (colour M v) white
+      (λ e. white-covers v i refl c e l (t .scanned p b))
+      (λ w. eq-or (colour M v) grey
+      (λ g. let o = h .grey-list .found (omega arith) (omega arith) v c g in listed-field p (o .0) i (o .1) (o .2) (o .3) l)
+      (λ g. clean-covered (h .cleaned .fields (omega arith) (omega arith) v i c (omega (arith, h .filled .colours z)) l)))
 
   home-ref : In M (s .current) v → (i : ℕ) → i < refs M v → WordFits K m s x (field M v i) (getD (recOf (f .records) (m v) .refs) i null)
   home-ref c i l = record {
@@ -68,7 +81,7 @@ module _ {K : ℕ → Type 0} {m : ℕ → ℕ} {s : Store} {f : Free} (h : Sim 
     is = h .values .ref v i c l;
     names = λ a. h .field-halves .home a v i c l;
     marked = λ p b. absurd (other-not h (sym (t .marked p b (start-nonnull z)) ∙ c .side));
-    scanned = λ p b. h .cleaned .fields (omega arith) (omega arith) v i c (scanned-black p b c) l;
+    scanned = λ p b. scanned-field p b c i l;
     clean = λ lo hi. h .cleaned .fields (omega arith) hi v i c (marked-black h lo hi c (t .clean lo hi (start-nonnull z) (c .side))) l;
     kept = h .kept .fields (m v) i held-kept;
   }

@@ -1,0 +1,202 @@
+-- How every rule ends: refused with a number that its call may be refused with, or with a store in which lengths and marks stay and an
+-- answer that is no refusal.
+use Prim.Native.Nat.{ℕ}
+use mathlib.Core.Path.{_≡_, refl}
+use mathlib.Core.Bool.{Bool, true, false, not}
+use lib.Dec.{leb}
+use lib.ListN.{getD}
+use native.Mathlib.Omega.{arith}
+use borrow.Author.Tests.{eq-eqb}
+use Rattle.rules.specs.Refusals.{Tested, check, _>>_, answer, Outcome, settle, done, doneOr}
+use Rattle.rules.specs.Cycle.{atHeapMark}
+use Rattle.rules.specs.Control.{Store, inRange, lastSession}
+use Rattle.rules.specs.Phases.{sessionAt, withSession, moveOn}
+use Rattle.rules.specs.Calls as calls
+use Rattle.rules.specs.Collector as collector
+use Rattle.rules.specs.Runs.{Call, Attach, Detach, SafePoint, Allocate, Load, StoreRef, Read, Write, Move, Clear, SameAs, Get, Put, Stretch, Companion, Step, apply, isAllocation}
+use Rattle.rules.specs.declared.Session.{Session}
+use Rattle.rules.specs.declared.Answer.the-variants.{Refused}
+use Rattle.rules.proofs.relation.Replies.{isRefusal}
+use Rattle.rules.proofs.relation.Units.{each-unit}
+use Rattle.rules.proofs.relation.Rows.{Ends, refuses, passes, then-row, row, Allowed, Row, followed-row, forward-row, shading-row, shading-all-row, replica-row, store-writes-row, put-writes-row, same-at-row, forward-all-row, of-session, record-row}
+use Rattle.rules.proofs.relation.Stays.{Stays, unwritten, stays}
+
+-- what a rule of s leaves where all its tests pass
+pub record Passed (s : Store) (o : Outcome Store) : Type 0 where
+  pub stays : Stays s (o .store)
+  pub reply : isRefusal (o .reply) ≡ false
+
+leaves : {s : Store} (o : Outcome Store) → Stays s (o .store) → isRefusal (o .reply) ≡ false → Passed s o
+leaves o h e = record { stays = h; reply = e }
+
+-- the rule of a call of s; room says whether it may be refused with 14
+abbrev pub RuleEnds : Bool → Store → Tested (Outcome Store) → Type 0
+RuleEnds room s t = Ends (Allowed room) (Passed s) t
+
+-- the rule of a phase
+abbrev UnitEnds : Store → Tested Store → Type 0
+UnitEnds s t = Ends (Allowed false) (Stays s) t
+
+ruleset rule = (row, passes, leaves, stays)
+
+-- ---- the session calls
+
+module _ (s : Store) where
+  -- in HeapMark the new session has a mark
+  pub attach-ends : (n : ℕ) → RuleEnds false s (calls.attach s n)
+  unfolding calls.attach
+  attach-ends n = keeps-mark _ (λ e m. eq-eqb (s .phase) _ (omega arith))
+    where
+      keeps-mark : (x : Session) → (s .phase ≡ atHeapMark → sessionAt s n .scanned ≡ true → x .scanned ≡ true)
+          → RuleEnds false s (check (inRange s) 4 >> (check (leb n lastSession) 5 >> (check (not (sessionAt s n .attached)) 7 >> done (withSession s n x))))
+      keeps-mark x h = search rule depth 7
+
+  pub detach-ends : (n : ℕ) → RuleEnds false s (calls.detach s n)
+  unfolding calls.detach
+  detach-ends n = search (rule, of-session)
+
+  pub safe-point-ends : (n : ℕ) → RuleEnds false s (calls.safePoint s n)
+  unfolding calls.safePoint
+  safe-point-ends n = search (rule, of-session)
+
+  pub load-ends : (n to k i : ℕ) → RuleEnds false s (calls.load s n to k i)
+  unfolding calls.load calls.loadPlan
+  load-ends n to k i = search (rule, record-row)
+
+  pub store-ends : (n k i from : ℕ) → RuleEnds false s (calls.store s n k i from)
+  unfolding calls.store calls.storePlan calls.storeCommit
+  store-ends n k i from = search (rule, record-row, store-writes-row)
+
+  pub read-ends : (n k i : ℕ) → RuleEnds false s (calls.read s n k i)
+  unfolding calls.read
+  read-ends n k i = search (rule, record-row)
+
+  pub write-ends : (n k i a : ℕ) → RuleEnds false s (calls.write s n k i a)
+  unfolding calls.write calls.writePlan calls.writeCommit
+  write-ends n k i a = search (rule, record-row, replica-row)
+
+  pub move-ends : (n to from : ℕ) → RuleEnds false s (calls.move s n to from)
+  unfolding calls.move
+  move-ends n to from = search (rule, of-session)
+
+  pub clear-ends : (n k : ℕ) → RuleEnds false s (calls.clear s n k)
+  unfolding calls.clear
+  clear-ends n k = search (rule, of-session)
+
+  pub same-ends : (n x y : ℕ) → RuleEnds false s (calls.same s n x y)
+  unfolding calls.same
+  same-ends n x y = search (rule, of-session, same-at-row) depth 7
+
+  pub get-ends : (n to g : ℕ) → RuleEnds false s (calls.get s n to g)
+  unfolding calls.get
+  get-ends n to g = search (rule, of-session) depth 7
+
+  pub put-ends : (n g from : ℕ) → RuleEnds false s (calls.put s n g from)
+  unfolding calls.put calls.putPlan calls.putCommit
+  put-ends n g from = search (rule, of-session, put-writes-row) depth 7
+
+  stretch-row : (n k : ℕ) → Row false (calls.stretch s n k)
+  unfolding calls.stretch
+  stretch-row n k = search (rule, record-row)
+
+  -- the one call that may be refused with 14
+  pub allocate-ends : (n k r p : ℕ) → RuleEnds true s (calls.allocate s n k r p)
+  unfolding calls.allocate
+  allocate-ends n k r p = search (rule, of-session) depth 7
+
+  -- ---- the collector step
+
+  rest-ends : UnitEnds s (collector.rest s)
+  unfolding collector.rest moveOn
+  rest-ends = search rule
+
+  handshake-ends : UnitEnds s (collector.handshake s)
+  unfolding collector.handshake moveOn
+  handshake-ends = search rule
+
+  root-mark-ends : UnitEnds s (collector.rootMark s)
+  unfolding collector.rootMark moveOn
+  root-mark-ends = search (rule, shading-row)
+
+  scan-record-ends : (v : ℕ) → UnitEnds s (collector.scanRecord s v)
+  unfolding collector.scanRecord
+  scan-record-ends v = search (rule, followed-row, shading-row) depth 7
+
+  scan-session-ends : (n : ℕ) → UnitEnds s (collector.scanSession s n)
+  unfolding collector.scanSession
+  scan-session-ends n = search (rule, shading-all-row)
+
+  heap-mark-ends : UnitEnds s (collector.heapMark s)
+  unfolding collector.heapMark moveOn
+  heap-mark-ends = search (rule, scan-record-ends, scan-session-ends)
+
+  shells-ends : UnitEnds s (collector.allocateShells s)
+  unfolding collector.allocateShells collector.pastRecord
+  shells-ends = search (rule, handshake-ends, followed-row) depth 7
+
+  copy-field-ends : (v i : ℕ) → UnitEnds s (collector.copyField s v i)
+  unfolding collector.copyField collector.copyRef collector.copyPlain
+  copy-field-ends v i = search (rule, followed-row, forward-row) depth 7
+
+  copy-ends : UnitEnds s (collector.copy s)
+  unfolding collector.copy collector.pastRecord moveOn
+  copy-ends = search (rule, followed-row, copy-field-ends)
+
+  root-flip-ends : UnitEnds s (collector.rootFlip s)
+  unfolding collector.rootFlip moveOn
+  root-flip-ends = search (rule, forward-row)
+
+  stack-flip-ends : UnitEnds s (collector.stackFlip s)
+  unfolding collector.stackFlip moveOn
+  stack-flip-ends = search (rule, forward-all-row)
+
+  reclaim-ends : UnitEnds s (collector.reclaim s)
+  unfolding collector.reclaim collector.pastRecord moveOn
+  reclaim-ends = search (rule, followed-row)
+
+  unit-ends : (ph : ℕ) → UnitEnds s (getD collector.units ph collector.handshake s)
+  unit-ends = each-unit (UnitEnds s) s rest-ends handshake-ends root-mark-ends heap-mark-ends shells-ends copy-ends root-flip-ends stack-flip-ends reclaim-ends
+
+  step-ends : RuleEnds false s (collector.step s)
+  unfolding collector.step
+  step-ends = search (rule, then-row, unit-ends (s .phase))
+
+-- ---- any call
+
+-- a refused call hands the store back as it came, and any other leaves what a rule does
+pub data CallEnds (room : Bool) (s : Store) : Outcome Store → Type 0 where
+  refusal : (n : ℕ) → Allowed room n → CallEnds room s (record { store = s; reply = answer (Refused n) })
+  success : (o : Outcome Store) → Passed s o → CallEnds room s o
+
+settled : {room : Bool} {s : Store} {t : Tested (Outcome Store)} → RuleEnds room s t → CallEnds room s (settle s t)
+settled (refuses n a) = refusal n a
+settled (passes o h) = success o h
+
+companion : {room : Bool} {s : Store} {A : Type 0} {t : Tested A} → Row room t → CallEnds room s (record { store = s; reply = answer (doneOr t) })
+companion (refuses n a) = refusal n a
+companion (passes o h) = success _ (leaves _ (unwritten refl) refl)
+
+pub call-ends : (s : Store) (c : Call) → CallEnds (isAllocation c) s (apply s c)
+call-ends s (Attach n) = settled (attach-ends s n)
+call-ends s (Detach n) = settled (detach-ends s n)
+call-ends s (SafePoint n) = settled (safe-point-ends s n)
+call-ends s (Allocate n k r p) = settled (allocate-ends s n k r p)
+call-ends s (Load n to k i) = settled (load-ends s n to k i)
+call-ends s (StoreRef n k i from) = settled (store-ends s n k i from)
+call-ends s (Read n k i) = settled (read-ends s n k i)
+call-ends s (Write n k i a) = settled (write-ends s n k i a)
+call-ends s (Move n to from) = settled (move-ends s n to from)
+call-ends s (Clear n k) = settled (clear-ends s n k)
+call-ends s (SameAs n a b) = settled (same-ends s n a b)
+call-ends s (Get n to g) = settled (get-ends s n to g)
+call-ends s (Put n g from) = settled (put-ends s n g from)
+call-ends s (Stretch n k) = success _ (leaves _ (unwritten refl) refl)
+call-ends s (Companion n k) = companion (stretch-row s n k)
+call-ends s Step = settled (step-ends s)
+
+pub call-stays : (s : Store) (c : Call) → Stays s (apply s c .store)
+call-stays s c = of-call (call-ends s c)
+  where
+    of-call : {room : Bool} {o : Outcome Store} → CallEnds room s o → Stays s (o .store)
+    of-call (refusal n a) = unwritten refl
+    of-call (success o h) = h .stays
