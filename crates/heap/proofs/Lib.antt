@@ -11,4 +11,5 @@ pub mod Written
 -- the arms of this crate's functions
 pub mod Copies
 pub mod Shadings
+pub mod Levels
 pub mod Replicas

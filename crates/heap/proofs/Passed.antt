@@ -14,9 +14,5 @@ pub second-passed : (t : Bool) (k : Tested ℕ) {w : ℕ} → cond t (passed 0) 
 second-passed true k e n = absurd (n cc)
 second-passed false k e n = (refl, e)
 
-pub first-passed : (t : Bool) (k : Tested ℕ) {w : ℕ} → cond t k (passed 0) ≡ passed w → (w ≡ 0 → ⊥) → (t ≡ true) × (k ≡ passed w)
-first-passed true k e n = (refl, e)
-first-passed false k e n = absurd (n cc)
-
 pub same-passed : {A : Type 0} {a b : A} → passed a ≡ passed b → a ≡ b
 same-passed e = cc

@@ -1,16 +1,21 @@
 -- What is known of the records that a plan writes: they are sound, and the list has room.
-use Prim.Native.Nat.{ℕ, _+_, _≤_, _<_}
-use mathlib.Core.Path.{_≡_, _∙_, sym, ap}
+use Prim.Native.Nat.{ℕ, zero, suc, _+_, _≤_, _<_}
+use mathlib.Core.Path.{_≡_, _∙_, sym, refl, ap}
 use mathlib.Core.Bool.{Bool, true, false, cond, not, _||_}
+use mathlib.Core.List.{List, [], _∷_}
 use native.Mathlib.Omega.{arith}
+use native.Mathlib.Nat.{le-of-suc-le-suc, not-suc-le-zero}
 use lib.Dec.{leb, ltb, eqb}
-use borrow.Author.Tests.{leb-true, ltb-true, ne-eqb}
+use lib.ListN.{length, getD, List·getD-eq-default}
+use borrow.Author.Tests.{leb-true, ltb-true, eqb-false, ne-eqb}
 use Rattle.rules.specs.Refusals.{Tested, passed, check, _>>=_, _>>_}
-use Rattle.rules.specs.Memory.{Memory, colour, replica, refs, sound, followed}
-use Rattle.rules.specs.Barriers.{Heap, toShade, listRoom, shading, shadesAt, barrierShade, copiesAt, replicaFor, ownWord, replicaWord, storeWrites, putWrites}
+use Rattle.rules.specs.Memory.{Memory, word, colour, replica, refs, refField, sound, followed}
+use Rattle.rules.specs.Barriers.{Heap, toShade, listRoom, shading, without, toShadeAll, listing, shadingAll, shadesAt, shadesOldAt, barrierShades, copiesAt, replicaFor, ownWord, replicaWord, storeWrites, putWrites}
 use Rattle.rules.specs.declared.Writes.{Writes}
 use Rattle.rules.proofs.Ranges.{after-check}
-use Rattle.heap.proofs.Passed.{bind-passed, second-passed, first-passed, same-passed}
+use Rattle.rules.proofs.memory.Cases.{lt-or, bool-or}
+use Rattle.rules.proofs.marking.Whites.{All, all-none, all-more, without-all}
+use Rattle.heap.proofs.Passed.{bind-passed, second-passed, same-passed}
 
 -- ---- shading
 
@@ -18,7 +23,7 @@ chosen : (b : Bool) (v : ℕ) {w : ℕ} → cond b v 0 ≡ w → (w ≡ 0 → �
 chosen true v e n = sym e
 chosen false v e n = absurd (n (sym e))
 
-pub to-shade-known : (M : Memory) (v w : ℕ) → toShade M v ≡ passed w → (w ≡ 0 → ⊥) → (w ≡ v) × (sound M w ≡ true)
+to-shade-known : (M : Memory) (v w : ℕ) → toShade M v ≡ passed w → (w ≡ 0 → ⊥) → (w ≡ v) × (sound M w ≡ true)
 unfolding toShade followed
 to-shade-known M v w e n =
     let a = second-passed (eqb v 0) (check (sound M v) 12 >> passed (cond (eqb (colour M v) 0) v 0)) e n in
@@ -26,12 +31,38 @@ to-shade-known M v w e n =
     let c = chosen (eqb (colour M v) 0) v (same-passed (b .1)) n in
     (c, rw c (b .0))
 
--- a record to shade is sound, and the list has room for it
-pub record Shaded (z : Heap) (w : ℕ) : Type 0 where
-  pub sound : sound (z .memory) w ≡ true
-  pub room : z .tail < z .capacity
+-- ---- shading several references: the records found are sound
 
-pub shading-known : (z : Heap) (v w : ℕ) → shading z v ≡ passed w → (w ≡ 0 → ⊥) → Shaded z w
+abbrev AllSound : Memory → List ℕ → Type 0
+AllSound M ws = All (λ u. sound M u ≡ true) ws
+
+found-step : (M : Memory) (v w : ℕ) (ws : List ℕ) (b : Bool) → eqb w 0 ≡ b → toShade M v ≡ passed w → AllSound M ws → AllSound M (cond b ws (w ∷ without w ws))
+found-step M v w ws true q e a = a
+found-step M v w ws false q e a = all-more {v = w} (to-shade-known M v w e (eqb-false w 0 q) .1) (without-all w a)
+
+found-sound : (M : Memory) (vs ws : List ℕ) → toShadeAll M vs ≡ passed ws → AllSound M ws
+found-sound M [] ws e = rw (← same-passed e) all-none
+found-sound M (v ∷ vs) ws e =
+    let a = bind-passed (toShade M v) (λ (w : ℕ). toShadeAll M vs >>= (λ (us : List ℕ). passed (cond (eqb w 0) us (w ∷ without w us)))) e in
+    let b = bind-passed (toShadeAll M vs) (λ (us : List ℕ). passed (cond (eqb (a .0) 0) us (a .0 ∷ without (a .0) us))) (a .2) in
+    rw (← same-passed (b .2)) (found-step M v (a .0) (b .0) (eqb (a .0) 0) refl (a .1) (found-sound M vs (b .0) (b .1)))
+
+each : (M : Memory) {ws : List ℕ} → AllSound M ws → (j : ℕ) → j < length ws → sound M (getD ws j 0) ≡ true
+each M all-none j h = absurd (not-suc-le-zero h)
+each M (all-more e a) zero h = e
+each M (all-more e a) (suc j) h = each M a j (le-of-suc-le-suc h)
+
+pub whites-sound : (M : Memory) (vs ws : List ℕ) → toShadeAll M vs ≡ passed ws → (j : ℕ) → j < length ws → sound M (getD ws j 0) ≡ true
+whites-sound M vs ws e = each M (found-sound M vs ws e)
+
+-- ---- room in the list
+
+-- a record to shade after j others is sound, and the list has room for it
+pub record Shadable (z : Heap) (w j : ℕ) : Type 0 where
+  pub sound : sound (z .memory) w ≡ true
+  pub room : z .tail + j < z .capacity
+
+pub shading-known : (z : Heap) (v w : ℕ) → shading z v ≡ passed w → (w ≡ 0 → ⊥) → Shadable z w 0
 unfolding shading listRoom
 shading-known z v w e n =
     let a = bind-passed (toShade (z .memory) v) (λ (u : ℕ). check (leb (z .tail + cond (eqb u 0) 0 1) (z .capacity)) 12 >> passed u) e in
@@ -40,9 +71,30 @@ shading-known z v w e n =
     let d : z .tail + 1 ≤ z .capacity = leb-true (z .tail + 1) (z .capacity) (rw (c, ne-eqb w 0 n) at (b .0)) in
     record { sound = to-shade-known (z .memory) v w (rw c at (a .1)) n .1; room = omega arith }
 
-pub barrier-shade-known : (z : Heap) (l q w : ℕ) → barrierShade z l q ≡ passed w → (w ≡ 0 → ⊥) → Shaded z w
-unfolding barrierShade
-barrier-shade-known z l q w e n = shading-known z q w (first-passed (shadesAt l) (shading z q) e n .1) n
+-- an entry that isn't null is one of the list
+entered : (ws : List ℕ) (j : ℕ) → (getD ws j 0 ≡ 0 → ⊥) → j < length ws
+entered ws j n = lt-or j (length ws) (λ h. h) (λ h. absurd (n (List·getD-eq-default ws 0 h)))
+
+shading-all-known : (z : Heap) (vs ws : List ℕ) → shadingAll z vs ≡ passed ws → (j : ℕ) → (getD ws j 0 ≡ 0 → ⊥) → Shadable z (getD ws j 0) j
+unfolding shadingAll listing listRoom
+shading-all-known z vs ws e j n =
+    let a = bind-passed (toShadeAll (z .memory) vs) (λ (us : List ℕ). check (leb (z .tail + length us) (z .capacity)) 12 >> passed us) e in
+    let b = after-check (leb (z .tail + length (a .0)) (z .capacity)) 12 (passed (a .0)) (a .2) in
+    let c : a .0 ≡ ws = same-passed (b .1) in
+    let d : z .tail + length ws ≤ z .capacity = leb-true (z .tail + length ws) (z .capacity) (rw c at (b .0)) in
+    let h = entered ws j n in
+    record { sound = whites-sound (z .memory) vs ws (rw c at (a .1)) j h; room = omega arith }
+
+-- what a plan shades: the first record and the second, where there are any
+pub record Shading (z : Heap) (v w : ℕ) : Type 0 where
+  pub first : (v ≡ 0 → ⊥) → Shadable z v 0
+  pub second : (w ≡ 0 → ⊥) → Shadable z w 1
+
+barrier-known : (z : Heap) (l old q : ℕ) (vs : List ℕ) → barrierShades z l old q ≡ passed vs → Shading z (getD vs 0 0) (getD vs 1 0)
+unfolding barrierShades
+barrier-known z l old q vs e = bool-or (shadesAt l)
+    (λ t. let a = shading-all-known z (cond (shadesOldAt l) old 0 ∷ q ∷ []) vs (rw t at e) in record { first = a 0; second = a 1 })
+    (λ f. let a : [] ≡ vs = same-passed (rw f at e) in record { first = λ n. absurd (n (rw (← a))); second = λ n. absurd (n (rw (← a))) })
 
 -- ---- the replica written
 
@@ -64,29 +116,29 @@ replica-known M count l v i t e n =
 -- ---- stores and puts
 
 pub record Stored (z : Heap) (i : ℕ) (w : Writes) : Type 0 where
-  pub shaded : (w .shade ≡ 0 → ⊥) → Shaded z (w .shade)
+  pub shaded : Shading z (w .first) (w .second)
   pub copied : (w .replica ≡ 0 → ⊥) → Copied (z .memory) refs (w .replica) i
 
 pub store-known : (z : Heap) (l v i q : ℕ) (w : Writes) → storeWrites z l v i q ≡ passed w → Stored z i w
 unfolding storeWrites
 store-known z l v i q w e =
+    let old = word (z .memory) v (refField i) in
     let copying : ℕ → Tested ℕ = λ t. cond (eqb t 0) (passed 0) (replicaWord z l v q) in
-    let last : ℕ → ℕ → ℕ → ℕ → Tested Writes = λ s t o c. passed (record { shade = s; own = o; replica = t; copy = c }) in
-    let a = bind-passed (barrierShade z l q) (λ (s : ℕ). replicaFor (z .memory) refs l v i >>= (λ (t : ℕ). ownWord z l v q >>= (λ (o : ℕ). copying t >>= (λ (c : ℕ). last s t o c)))) e in
+    let last : List ℕ → ℕ → ℕ → ℕ → Tested Writes = λ vs t o c. passed (record { first = getD vs 0 0; second = getD vs 1 0; own = o; replica = t; copy = c }) in
+    let a = bind-passed (barrierShades z l old q) (λ (vs : List ℕ). replicaFor (z .memory) refs l v i >>= (λ (t : ℕ). ownWord z l v q >>= (λ (o : ℕ). copying t >>= (λ (c : ℕ). last vs t o c)))) e in
     let b = bind-passed (replicaFor (z .memory) refs l v i) (λ (t : ℕ). ownWord z l v q >>= (λ (o : ℕ). copying t >>= (λ (c : ℕ). last (a .0) t o c))) (a .2) in
     let o = bind-passed (ownWord z l v q) (λ (o : ℕ). copying (b .0) >>= (λ (c : ℕ). last (a .0) (b .0) o c)) (b .2) in
     let c = bind-passed (copying (b .0)) (λ (c : ℕ). last (a .0) (b .0) (o .0) c) (o .2) in
     let r = same-passed (c .2) in
     record {
-      shaded = λ n. barrier-shade-known z l q (w .shade) (a .1 ∙ ap (λ (x : Writes). passed (x .shade)) r) n;
+      shaded = rw (← r) (barrier-known z l old q (a .0) (a .1));
       copied = λ n. replica-known (z .memory) refs l v i (w .replica) (b .1 ∙ ap (λ (x : Writes). passed (x .replica)) r) n;
     }
 
-pub put-known : (z : Heap) (l q : ℕ) (w : Writes) → putWrites z l q ≡ passed w → (w .shade ≡ 0 → ⊥) → Shaded z (w .shade)
+pub put-known : (z : Heap) (l old q : ℕ) (w : Writes) → putWrites z l old q ≡ passed w → Shading z (w .first) (w .second)
 unfolding putWrites
-put-known z l q w e n =
-    let last : ℕ → ℕ → Tested Writes = λ s o. passed (record { shade = s; own = o; replica = 0; copy = 0 }) in
-    let a = bind-passed (barrierShade z l q) (λ (s : ℕ). ownWord z l 0 q >>= (λ (o : ℕ). last s o)) e in
+put-known z l old q w e =
+    let last : List ℕ → ℕ → Tested Writes = λ vs o. passed (record { first = getD vs 0 0; second = getD vs 1 0; own = o; replica = 0; copy = 0 }) in
+    let a = bind-passed (barrierShades z l old q) (λ (vs : List ℕ). ownWord z l 0 q >>= (λ (o : ℕ). last vs o)) e in
     let b = bind-passed (ownWord z l 0 q) (λ (o : ℕ). last (a .0) o) (a .2) in
-    let r = same-passed (b .2) in
-    barrier-shade-known z l q (w .shade) (a .1 ∙ ap (λ (x : Writes). passed (x .shade)) r) n
+    rw (← same-passed (b .2)) (barrier-known z l old q (a .0) (a .1))

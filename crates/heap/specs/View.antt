@@ -1,11 +1,11 @@
 -- The lent halves, bounds and answers of this crate as the rules' values.
 use Prim.Native.Nat.{ℕ, _+_, _≤_, _<_}
-use mathlib.Core.Bool.{Bool}
-use mathlib.Core.List.{List}
+use mathlib.Core.Bool.{Bool, cond}
+use mathlib.Core.List.{List, [], _∷_}
 use lib.Dec.{eqb}
 use lib.ListN.{length}
 use Rattle.rules.specs.Refusals.{Tested, refused, passed, _>>_}
-use Rattle.rules.specs.Memory.{Memory, half, halfOf, wordOf, shapeAt, refs, replica, plainField, followed}
+use Rattle.rules.specs.Memory.{Memory, null, half, halfOf, wordOf, shapeAt, refs, replica, plainField, followed}
 use Rattle.rules.specs.Barriers.{Heap}
 use Rattle.rules.specs.declared.Writes.{Writes}
 use Rattle.heap.specs.declared.Bounds.{Bounds}
@@ -15,6 +15,8 @@ use Rattle.heap.specs.declared.Compared.{Compared}
 use Rattle.heap.specs.declared.Compared.the-variants as compare
 use Rattle.heap.specs.declared.Planned.{Planned}
 use Rattle.heap.specs.declared.Planned.the-variants as plan
+use Rattle.heap.specs.declared.shades.Shaded.{Shaded}
+use Rattle.heap.specs.declared.shades.Shaded.the-variants as shade
 
 -- the words of half 0 and half 1, and the frontier of each
 abbrev pub memory : List ℕ → List ℕ → ℕ → ℕ → Memory
@@ -54,6 +56,14 @@ checked check.Damage = refused 12
 abbrev pub compared : Compared → Tested Bool
 compared (compare.Equal b) = passed b
 compared compare.Damage = refused 12
+
+-- the records v and w, one after the other, as a list: null for none, w null where v is
+abbrev pub records : ℕ → ℕ → List ℕ
+records v w = cond (eqb w null) (cond (eqb v null) [] (v ∷ [])) (v ∷ w ∷ [])
+
+abbrev pub shaded : Shaded → Tested (List ℕ)
+shaded (shade.Records v w) = passed (records v w)
+shaded shade.Damage = refused 12
 
 abbrev pub planned : Planned → Tested Writes
 planned (plan.Plan w) = passed w

@@ -1,7 +1,11 @@
-// Shading: the record to colour grey, with room for it in the grey list, and what a store or a put shades first.
+// Shading: the record to colour grey, with room for it in the grey list, and what a store or a put shades.
 ghost use mathlib.Core.Path.{_≡_};
-ghost use Rattle.rules.specs.Barriers.{toShade, shading, barrierShade};
-ghost use Rattle.heap.specs.View.{heap, checked, Within};
+ghost use mathlib.Core.Bool.{true, cond};
+ghost use mathlib.Core.List.{List, [], _∷_};
+ghost use Prim.Native.Nat.{ℕ, _≤_};
+ghost use Rattle.rules.specs.Memory.{null};
+ghost use Rattle.rules.specs.Barriers.{toShade, shading, listing, shadingAll, shadesAt, shadesOldAt, barrierShades};
+ghost use Rattle.heap.specs.View.{heap, checked, records, shaded, Within};
 use crate::Bounds;
 use crate::COLOUR_AT;
 use crate::Checked;
@@ -9,6 +13,12 @@ use crate::WHITE;
 use crate::following::follow;
 use crate::words::get_word;
 use rules::Followed;
+
+// The records that a store or a put shades, one after the other (0: none), or damage.
+pub enum Shaded {
+    Records(u32, u32),
+    Damage,
+}
 
 // The reference to shade, or null where there is nothing to do.
 pub fn to_shade<'a>(b: Bounds, h0: &'a [u32], h1: &'a [u32], v: u32) -> Checked
@@ -46,13 +56,64 @@ pub fn shading<'a>(b: Bounds, h0: &'a [u32], h1: &'a [u32], v: u32) -> Checked
     Checked::Word(w)
 }
 
-// What a store or a put of q at level l shades first: levels 1 to 3 shade the stored record.
-pub(crate) fn barrier_shade<'a>(b: Bounds, h0: &'a [u32], h1: &'a [u32], l: u32, q: u32) -> Checked
-    requires { ⌜ Within b (now h0) (now h1) ⌝ }
-    ensures { λ r. ⌜ checked r ≡ barrierShade (heap b (now (h0 .entry)) (now (h1 .entry))) l q ⌝ }
+// The records `first` and `second` (0: none), with room for them in the grey list.
+fn listing(b: Bounds, first: u32, second: u32) -> Shaded
+    requires { ⌜ b .tail ≤ b .capacity ⌝ }
+    ensures { λ r. ⌜ ((h0 h1 : List ℕ) → shaded r ≡ listing (heap b h0 h1) (records first second)) ⌝ }
 {
-    if (1 <= l) & (l <= 3) {
-        return shading(b, h0, h1, q);
+    let free = b.capacity - b.tail;
+    if ((first != 0) & (free < 1)) | ((second != 0) & (free < 2)) {
+        return Shaded::Damage;
     }
-    Checked::Word(0)
+    Shaded::Records(first, second)
+}
+
+// What there is to shade of two references, in their order, each record once, with room for all of it in the grey list.
+fn shading_both<'a>(b: Bounds, h0: &'a [u32], h1: &'a [u32], v: u32, w: u32) -> Shaded
+    requires { ⌜ Within b (now h0) (now h1) ⌝ }
+    ensures { λ r. ⌜ shaded r ≡ shadingAll (heap b (now (h0 .entry)) (now (h1 .entry))) (v ∷ w ∷ []) ⌝ }
+{
+    let Checked::Word(first) = to_shade(b, h0, h1, v) else {
+        return Shaded::Damage;
+    };
+    let Checked::Word(second) = to_shade(b, h0, h1, w) else {
+        return Shaded::Damage;
+    };
+    if (first == 0) | (first == second) {
+        return listing(b, second, 0);
+    }
+    listing(b, first, second)
+}
+
+// Whether a store or a put at level l shades: at levels 1 to 3.
+pub(crate) fn shades_at(l: u32) -> bool
+    ensures { λ r. ⌜ r ≡ shadesAt l ⌝ }
+{
+    (1 <= l) & (l <= 3)
+}
+
+// The overwritten reference where a store or a put at level l shades it, at levels 2 and 3, else null.
+fn overwritten(l: u32, old: u32) -> u32
+    ensures { λ r. ⌜ r ≡ cond (shadesOldAt l) old null ⌝ }
+{
+    if (2 <= l) & (l <= 3) {
+        return old;
+    }
+    0
+}
+
+// What a store or a put of q over `old` shades at level l, one that shades: the overwritten reference before the stored one.
+pub(crate) fn barrier_shades<'a>(
+    b: Bounds,
+    h0: &'a [u32],
+    h1: &'a [u32],
+    l: u32,
+    old: u32,
+    q: u32,
+) -> Shaded
+    requires { ⌜ Within b (now h0) (now h1) × (shadesAt l ≡ true) ⌝ }
+    ensures { λ r. ⌜ shaded r ≡ barrierShades (heap b (now (h0 .entry)) (now (h1 .entry))) l old q ⌝ }
+{
+    let over = overwritten(l, old);
+    shading_both(b, h0, h1, over, q)
 }

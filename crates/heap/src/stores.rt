@@ -1,12 +1,15 @@
 // What stores and puts write, by the session's level: Table 1(a) at level 5, Table 1(b) at level 6; in both a global is "Non".
 // And which replica a write goes to as well, of a reference field or of a plain one.
 ghost use mathlib.Core.Path.{_≡_};
-ghost use mathlib.Core.Bool.{cond};
-ghost use Rattle.rules.specs.Memory.{replicaAt, refs, plains};
-ghost use Rattle.rules.specs.Barriers.{replicaFor, ownWord, replicaWord, storeWrites, putWrites};
+ghost use mathlib.Core.Bool.{true, cond};
+ghost use lib.Dec.{eqb};
+ghost use Rattle.rules.specs.Refusals.{passed};
+ghost use Rattle.rules.specs.Memory.{null, replicaAt, refs, plains, refField};
+ghost use Rattle.rules.specs.Barriers.{shadesAt, replicaFor, ownWord, replicaWord, storeWrites, putWrites};
 ghost use Rattle.heap.specs.View.{heap, checked, planned, Within, Inside};
 use crate::Bounds;
 use crate::Checked;
+use crate::HEADER;
 use crate::Planned;
 use crate::REPLICA_AT;
 use crate::following::follow;
@@ -14,7 +17,9 @@ use crate::forwarding::forward;
 use crate::forwarding::in_half;
 use crate::forwarding::other_copy;
 use crate::forwarding::other_half;
-use crate::shades::barrier_shade;
+use crate::shades::Shaded;
+use crate::shades::barrier_shades;
+use crate::shades::shades_at;
 use crate::words::get_word;
 use rules::Followed;
 use rules::Writes;
@@ -71,8 +76,8 @@ pub(crate) fn own_word<'a>(
     }
     let tospace = other_half(b.from);
     let moved = in_half(tospace, v);
-    let old = in_half(b.from, q);
-    if (l == 5) & moved & old {
+    let here = in_half(b.from, q);
+    if (l == 5) & moved & here {
         return other_copy(b, h0, h1, q);
     }
     Checked::Word(q)
@@ -101,8 +106,37 @@ pub(crate) fn replica_word<'a>(
     Checked::Word(q)
 }
 
-// All that a store of q into reference field i of v writes: the record to shade at levels 1 to 3, the record's own word, and
-// from level 4 on the replica's.
+// The same where v has a replica t to write, else null.
+fn copy_word<'a>(b: Bounds, h0: &'a [u32], h1: &'a [u32], l: u32, v: u32, t: u32, q: u32) -> Checked
+    requires { ⌜ Within b (now h0) (now h1) ⌝ }
+    ensures { λ r. ⌜ checked r ≡ cond (eqb t null) (passed null) (replicaWord (heap b (now (h0 .entry)) (now (h1 .entry))) l v q) ⌝ }
+{
+    if t == 0 {
+        return Checked::Word(0);
+    }
+    replica_word(b, h0, h1, l, v, q)
+}
+
+// All that a store or a put of q over `old` writes at level l, one that shades: the records to shade, and q itself. No replica
+// is written at these levels, and no reference forwarded.
+fn shading_writes<'a>(b: Bounds, h0: &'a [u32], h1: &'a [u32], l: u32, old: u32, q: u32) -> Planned
+    requires { ⌜ Within b (now h0) (now h1) × (shadesAt l ≡ true) ⌝ }
+    ensures { λ r. ⌜ planned r ≡ putWrites (heap b (now (h0 .entry)) (now (h1 .entry))) l old q ⌝ }
+{
+    let Shaded::Records(first, second) = barrier_shades(b, h0, h1, l, old, q) else {
+        return Planned::Damage;
+    };
+    Planned::Plan(Writes {
+        first,
+        second,
+        own: q,
+        replica: 0,
+        copy: 0,
+    })
+}
+
+// All that a store of q into reference field i of v writes: at levels 1 to 3 the records to shade and q; at the others nothing
+// is shaded, and the record's own word and, from level 4 on, the replica's are written.
 pub fn store_writes<'a>(
     b: Bounds,
     h0: &'a [u32],
@@ -112,50 +146,48 @@ pub fn store_writes<'a>(
     i: u32,
     q: u32,
 ) -> Planned
-    requires { ⌜ Within b (now h0) (now h1) × Inside (now h0) (now h1) v replicaAt ⌝ }
+    requires { ⌜ Within b (now h0) (now h1) × Inside (now h0) (now h1) v replicaAt × Inside (now h0) (now h1) v (refField i) ⌝ }
     ensures { λ r. ⌜ planned r ≡ storeWrites (heap b (now (h0 .entry)) (now (h1 .entry))) l v i q ⌝ }
 {
-    let Checked::Word(w) = barrier_shade(b, h0, h1, l, q) else {
-        return Planned::Damage;
-    };
+    let shades = shades_at(l);
+    if shades {
+        let old = get_word(h0, h1, v, HEADER + (i as usize));
+        return shading_writes(b, h0, h1, l, old, q);
+    }
     let Checked::Word(t) = replica_for(b, h0, h1, false, l, v, i) else {
         return Planned::Damage;
     };
     let Checked::Word(own) = own_word(b, h0, h1, l, v, q) else {
         return Planned::Damage;
     };
-    if t == 0 {
-        return Planned::Plan(Writes {
-            shade: w,
-            own,
-            replica: 0,
-            copy: 0,
-        });
-    }
-    let Checked::Word(copy) = replica_word(b, h0, h1, l, v, q) else {
+    let Checked::Word(copy) = copy_word(b, h0, h1, l, v, t, q) else {
         return Planned::Damage;
     };
     Planned::Plan(Writes {
-        shade: w,
+        first: 0,
+        second: 0,
         own,
         replica: t,
         copy,
     })
 }
 
-// All that a put of q into a global writes: the record to shade at levels 1 to 3, and the global's word.
-pub fn put_writes<'a>(b: Bounds, h0: &'a [u32], h1: &'a [u32], l: u32, q: u32) -> Planned
+// All that a put of q into a global that holds `old` writes: at levels 1 to 3 the records to shade and q, at the others the
+// global's word.
+pub fn put_writes<'a>(b: Bounds, h0: &'a [u32], h1: &'a [u32], l: u32, old: u32, q: u32) -> Planned
     requires { ⌜ Within b (now h0) (now h1) ⌝ }
-    ensures { λ r. ⌜ planned r ≡ putWrites (heap b (now (h0 .entry)) (now (h1 .entry))) l q ⌝ }
+    ensures { λ r. ⌜ planned r ≡ putWrites (heap b (now (h0 .entry)) (now (h1 .entry))) l old q ⌝ }
 {
-    let Checked::Word(w) = barrier_shade(b, h0, h1, l, q) else {
-        return Planned::Damage;
-    };
+    let shades = shades_at(l);
+    if shades {
+        return shading_writes(b, h0, h1, l, old, q);
+    }
     let Checked::Word(own) = own_word(b, h0, h1, l, 0, q) else {
         return Planned::Damage;
     };
     Planned::Plan(Writes {
-        shade: w,
+        first: 0,
+        second: 0,
         own,
         replica: 0,
         copy: 0,

@@ -1,18 +1,20 @@
--- The claims 2 to 4 of the rules (`Claims.antt` there), said of the code: of the replies of its calls, and of the control records
+-- The claims 2 to 4 and two of 7 of the rules (`Claims.antt` there), said of the code: of the replies of its calls, and of the control records
 -- and words that they leave.
-use Prim.Native.Nat.{ℕ, _<_}
+use Prim.Native.Nat.{ℕ, _+_, _≤_, _<_}
 use mathlib.Core.Path.{_≡_}
 use mathlib.Core.Logic.{_≢_}
 use mathlib.Core.Bool.{cond}
 use mathlib.Core.List.{List, [], _∷_, _++_, List·Memᴰ}
+use lib.ListN.{length, take, drop}
 use Rattle.rules.specs.Refusals.{Reply, answer}
-use Rattle.rules.specs.Cycle.{atRest}
-use Rattle.rules.specs.Runs.{Call, Step, isSession, isAllocation, sessionCalls, Fed, fedBy}
+use Rattle.rules.specs.Memory.{frontier}
+use Rattle.rules.specs.Cycle.{atRest, atHeapMark}
+use Rattle.rules.specs.Runs.{Call, Step, isSession, isAllocation, sessionCalls, Fed, fedBy, steps, spentBy}
 use Rattle.rules.specs.Free.{newFree, freeRun}
 use Rattle.rules.specs.Tracking.{Beside, newBeside, beside}
-use Rattle.rules.specs.Claims.{FilledFrom, Living, placesIn, FreedBetween, leftIn}
+use Rattle.rules.specs.Claims.{FilledFrom, Living, placesIn, FreedBetween, leftIn, scansAndMove}
 use Rattle.rules.specs.declared.Answer.the-variants.{Refused}
-use Rattle.store.specs.CodeRuns.{Lent, viewed, CodeMade, Called, CodeRun}
+use Rattle.store.specs.CodeRuns.{Lent, viewed, CodeMade, Called, CodeRun, ended, next}
 
 -- the session answers among the replies of calls
 abbrev pub sessionReplies : List Call → List Reply → List Reply
@@ -79,3 +81,24 @@ CodeStaysFreed =
     → b .control .cursor .phase ≡ atRest → e .control .cursor .phase ≡ atRest
     → (h : ℕ) → h < 2 → (q : ℕ) → List·Memᴰ q (placesIn (besideCode a ((cs ++ (Step ∷ ds)) ++ es) f) h)
     → Living (besideCode a cs b .free) q
+
+-- ---- 7. Marking ends
+-- n collector steps of the present collection have begun in phase 4: how many after the calls, by the control record that each one gets
+abbrev pub codeSpent : {a e : Lent} {cs : List Call} {rs : List Reply} → ℕ → CodeRun a cs rs e → ℕ
+codeSpent n ended = n
+codeSpent n (next {a} {c = c} called rest) = codeSpent (spentBy n (viewed a) c) rest
+
+-- at every moment of every run of the code
+unfoldable pub CodeMarkingEnds : Type 0
+CodeMarkingEnds =
+    (a e : Lent) (cs : List Call) (rs : List Reply) → CodeMade a → (calls : CodeRun a cs rs e)
+    → codeSpent 0 calls ≤ frontier (viewed e .memory) (viewed e .current) + scansAndMove
+
+-- b is what the code holds at some moment, ds are the calls from then on, and e what they leave: on the way from b to e, after some
+-- first n of them, the code holds d, whose phase isn't 4
+unfoldable pub CodeMarkingIsOver : Type 0
+CodeMarkingIsOver =
+    (a b e : Lent) (cs ds : List Call) (rs qs : List Reply) → CodeMade a → CodeRun a cs rs b → CodeRun b ds qs e
+    → b .control .length0 + scansAndMove < steps ds
+    → (n : ℕ) × (n ≤ length ds) × (d : Lent) × CodeRun b (take n ds) (take n qs) d × CodeRun d (drop n ds) (drop n qs) e
+    × (d .control .cursor .phase ≢ atHeapMark)

@@ -10,7 +10,7 @@ pub mod Steps
 pub mod Cursors
 -- What a unit of the collector's work leaves, by what the code hands out of it.
 pub mod Work
--- Marking: white registers, and shading as a step of a walk.
+-- Marking: white registers, the list's end, and shading as a step of a walk.
 pub mod Marking
 -- What making a shell asks for.
 pub mod Shells

@@ -1,4 +1,5 @@
--- Marking: the white records among the registers of a session, and shading as a step of a walk.
+-- Marking: the white records among the registers of a session, the words and the list's end that shading leaves, and shading as a step
+-- of a walk.
 use Prim.Native.Nat.{ℕ}
 use mathlib.Core.Bool.{Bool, false, cond, _||_}
 use mathlib.Core.List.{List, [], _∷_}
@@ -6,8 +7,9 @@ use lib.Dec.{eqb}
 use lib.ListN.{take}
 use Rattle.rules.specs.Refusals.{Tested, refused, passed, _>>=_}
 use Rattle.rules.specs.Memory.{Memory, put, colourAt, grey}
-use Rattle.rules.specs.Control.{Store, withWalk}
+use Rattle.rules.specs.Control.{Store, withMemory, withWalk, withList}
 use Rattle.rules.specs.Barriers.{heapOf, shading, shade}
+use Rattle.heap.specs.View.{memory}
 use Rattle.store.specs.declared.scanning.Whites.{Whites}
 
 -- v is one of the words
@@ -23,6 +25,10 @@ whites w = cond (w .sound) (passed (take (w .count) (w .words))) (refused 12)
 abbrev pub greyed : Memory → List ℕ → Memory
 greyed M [] = M
 greyed M (v ∷ vs) = greyed (put M v colourAt grey) vs
+
+-- the store over the words of half 0, half 1 and the list, its list ending at n
+abbrev pub ending : Store → List ℕ → List ℕ → List ℕ → ℕ → Store
+ending s h0 h1 l n = withList (withMemory s (memory h0 h1 (s .memory .frontier0) (s .memory .frontier1))) l (s .list .head) n
 
 -- the record that q names is shaded, and the walk goes on to place k and field i
 unfoldable pub shadeNext : Store → ℕ → ℕ → ℕ → Tested Store

@@ -7,7 +7,7 @@ ghost use Rattle.rules.specs.Control.{Store};
 ghost use Rattle.rules.specs.Collector.{rootMark, scanRecord, heapMark};
 ghost use Rattle.store.specs.Steps.{stepped};
 ghost use Rattle.store.specs.declared.work.Work.the-variants.{Next};
-ghost use Rattle.store.specs.declared.work.Touch.the-variants.{Nothing, Marks};
+ghost use Rattle.store.specs.declared.work.Touch.the-variants.{Nothing};
 ghost use Rattle.store.specs.Cursors.{having, Ready, atWalk, atList};
 ghost use Rattle.store.specs.Work.{worked};
 ghost use Rattle.store.specs.Marking.{shadeNext};
@@ -37,14 +37,14 @@ impl Cursor {
         Work::Next(self, Touch::Nothing)
     }
 
-    // Records were shaded: the list's end, no scanned mark, and the walk at a place and a field.
-    pub(crate) fn shaded(mut self, tail: usize, place: usize, field: usize) -> Work
-        ensures { λ r. ⌜ r ≡ Next (atWalk (atList self (self .head) tail) place field) Marks ⌝ }
+    // A record was shaded: the list's end, and the walk at a place and a field.
+    fn shaded(mut self, tail: usize, place: usize, field: usize) -> Work
+        ensures { λ r. ⌜ r ≡ Next (atWalk (atList self (self .head) tail) place field) Nothing ⌝ }
     {
         self.tail = tail;
         self.place = place;
         self.field = field;
-        Work::Next(self, Touch::Marks)
+        Work::Next(self, Touch::Nothing)
     }
 
     // The listed record is done: the list's place, and the walk at field 0.

@@ -4,6 +4,7 @@ ghost use Prim.Native.Nat.{ℕ, _≤_};
 ghost use mathlib.Core.List.{List};
 ghost use Rattle.rules.specs.Control.{Store};
 ghost use Rattle.rules.specs.Cycle.{lastPhase, nextPhase};
+ghost use Rattle.rules.specs.Phases.{unmarked};
 ghost use Rattle.rules.specs.Collector.{haveLevel, rest, handshake};
 ghost use Rattle.store.specs.View.{view};
 ghost use Rattle.store.specs.Steps.{stepped};
@@ -35,6 +36,23 @@ impl Control {
         ensures { λ r. ⌜ r ≡ nextPhase phase ⌝ }
     {
         Control::number(Control::FOLLOWERS[phase]) as usize
+    }
+
+    // The sessions with no scanned mark, as moving on leaves them. Only a session that has one is written.
+    pub(crate) fn unmarked(
+        sessions: [rules::Session; Control::SESSIONS],
+    ) -> [rules::Session; Control::SESSIONS]
+        ensures { λ r. ⌜ r ≡ unmarked sessions ⌝ }
+    {
+        let mut next = sessions;
+        let mut i = Control::lowest(next, 0, Wanted::Scanned);
+        while i < Control::SESSIONS {
+            let mut session = next[i];
+            session.scanned = false;
+            next[i] = session;
+            i = Control::lowest(next, i, Wanted::Scanned);
+        }
+        next
     }
 }
 

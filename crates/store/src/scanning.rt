@@ -8,7 +8,8 @@ ghost use lib.Seq.{sets};
 ghost use Rattle.rules.specs.Memory.{null, colourAt};
 ghost use Rattle.rules.specs.Control.{Store, registerCount};
 ghost use Rattle.rules.specs.Phases.{absent};
-ghost use Rattle.rules.specs.Collector.{toShadeAll, scanSession};
+ghost use Rattle.rules.specs.Barriers.{toShadeAll};
+ghost use Rattle.rules.specs.Collector.{scanSession};
 ghost use Rattle.heap.specs.View.{heap, memory, Within, Inside};
 ghost use Rattle.store.specs.Steps.{stepped};
 ghost use Rattle.store.specs.Cursors.{having, Ready};
@@ -106,10 +107,9 @@ fn shade_all(
 }
 
 impl Cursor {
-    // Session n is marked scanned and then the white records among its registers are shaded. Shading clears the mark
-    // again, so it is left where there are none.
+    // The white records among the registers of session n are shaded, and it is marked scanned.
     pub(crate) fn scan_session(
-        self,
+        mut self,
         n: usize,
         registers: [u32; Control::REGISTERS],
         h0: &mut [u32],
@@ -133,11 +133,9 @@ impl Cursor {
         if !(sound & fits) {
             return Work::Refused(12);
         }
-        if count == 0 {
-            let stack = Stack::of(registers);
-            return Work::Next(self, Touch::Session(n, stack));
-        }
         shade_all(h0, h1, list, end, count, words);
-        self.shaded(end + count, self.place, self.field)
+        self.tail = end + count;
+        let stack = Stack::of(registers);
+        Work::Next(self, Touch::Session(n, stack))
     }
 }

@@ -70,7 +70,8 @@ impl Control {
         if attached { 0 } else { 6 }
     }
 
-    // Attach: level becomes the phase's level, registers null, unscanned.
+    // Attach: level becomes the phase's level, registers null; in phase 4 the session counts as scanned, else it does
+    // not.
     pub fn attach(mut self, h0: &[u32], h1: &[u32], list: &[u32], s: u32) -> Reply
         ensures { λ r. ⌜ outcome r (now (h0 .entry)) (now (h1 .entry)) (now (list .entry))
             ≡ apply (view self (now (h0 .entry)) (now (h1 .entry)) (now (list .entry))) (Attach s) ⌝ }
@@ -95,6 +96,7 @@ impl Control {
         let mut session = Control::nobody();
         session.level = level;
         session.attached = true;
+        session.scanned = phase == Control::HEAP_MARK;
         self.sessions[i] = session;
         Reply {
             control: self,

@@ -8,6 +8,7 @@ ghost use Rattle.store.specs.Plans.{storing, putting};
 use crate::Control;
 use crate::Reply;
 use crate::operands::Held;
+use crate::shade::shade_both;
 use heap::HEADER;
 use heap::Planned;
 use heap::following::follow;
@@ -76,10 +77,9 @@ impl Control {
             Storing::Refusal(n) => rules::Answer::Refused(n),
             Storing::Into(v, w) => {
                 let j = HEADER + (field as usize);
-                // with nothing to shade the control record stays where it is
-                if w.shade != 0 {
-                    self = self.shade(h0, h1, list, w.shade);
-                }
+                let end = self.cursor.tail;
+                let tail = shade_both(h0, h1, list, end, w.first, w.second);
+                self.cursor.tail = tail;
                 put_both(h0, h1, v, j, w.own, w.replica, j, w.copy);
                 rules::Answer::Done
             }
@@ -114,11 +114,14 @@ impl Control {
         }
         let i = s as usize;
         let j = from as usize;
+        let g = global as usize;
         let sessions = self.sessions;
         let session = sessions[i];
         let q = session.registers[j];
+        let globals = self.globals;
+        let old = globals[g];
         let b = self.bounds();
-        let Planned::Plan(w) = put_writes(b, h0, h1, session.level, q) else {
+        let Planned::Plan(w) = put_writes(b, h0, h1, session.level, old, q) else {
             return Storing::Refusal(12);
         };
         Storing::Into(0, w)
@@ -142,10 +145,9 @@ impl Control {
             Storing::Refusal(n) => rules::Answer::Refused(n),
             Storing::Into(_, w) => {
                 let g = global as usize;
-                // with nothing to shade the control record stays where it is
-                if w.shade != 0 {
-                    self = self.shade(h0, h1, list, w.shade);
-                }
+                let end = self.cursor.tail;
+                let tail = shade_both(h0, h1, list, end, w.first, w.second);
+                self.cursor.tail = tail;
                 self.globals[g] = w.own;
                 rules::Answer::Done
             }

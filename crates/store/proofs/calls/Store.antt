@@ -1,18 +1,17 @@
 -- Stores and puts by their plans: the arms of the plans, what a plan says of the records that it writes, and the calls by
 -- what their plans answered.
-use Prim.Native.Nat.{ℕ, _≤_, _<_}
-use mathlib.Core.Path.{_≡_, _∙_, sym, refl, ap}
+use Prim.Native.Nat.{ℕ, _+_, _≤_, _<_}
+use mathlib.Core.Path.{_≡_, _∙_, sym, ap}
 use mathlib.Core.Bool.{true}
-use mathlib.Core.List.{List}
 use native.Mathlib.Omega.{arith}
 use lib.Dec.{ltb}
-use lib.ListN.{length, set}
+use lib.ListN.{length, getD, set}
 use borrow.Author.Tests.{leb-true, ltb-true, le-leb, lt-leb}
 use Rattle.rules.specs.Refusals.{refused, passed, done}
 use Rattle.rules.specs.Memory.{Memory, refs, sound, refField, colourAt}
 use Rattle.rules.specs.Control.{Store, withMemory, withGlobals, lastGlobal, lastRegister}
 use Rattle.rules.specs.Phases.{register, sessionAt}
-use Rattle.rules.specs.Barriers.{Heap, heapOf, shade, storeWrites, putWrites, putBoth}
+use Rattle.rules.specs.Barriers.{Heap, heapOf, shade, storeWrites, putWrites, shadeBoth, putBoth}
 use Rattle.rules.specs.Calls.{sessionOf, isRegister, isGlobal, recordOf, StorePlan, storePlan, storeCommit, store, putPlan, putCommit, put}
 use Rattle.rules.specs.declared.Operands.{Operands}
 use Rattle.rules.specs.declared.Writes.{Writes}
@@ -24,13 +23,11 @@ use Rattle.heap.proofs.Answers.{plan-passed, plan-refused}
 use Rattle.heap.proofs.Soundness.{header-inside}
 use Rattle.heap.proofs.Fields.{ref-inside}
 use Rattle.heap.proofs.Passed.{bind-passed, same-passed}
-use Rattle.heap.proofs.Plans.{Shaded, Stored, store-known, put-known}
-use Rattle.store.specs.View.{view}
+use Rattle.heap.proofs.Plans.{Shadable, Shading, Stored, store-known, put-known}
 use Rattle.store.specs.Plans.{storing, putting}
-use Rattle.store.specs.declared.Control.{Control}
 use Rattle.store.specs.declared.stores.Storing.{Storing}
 use Rattle.store.specs.declared.stores.Storing.the-variants.{Refusal, Into}
-use Rattle.store.proofs.shading.Shade.{shade-null, shade-globals}
+use Rattle.store.proofs.shading.Shade.{shade-globals}
 use Rattle.store.proofs.tests.Opening.{Opened, ref-in, recorded}
 
 -- ---- the arms of a store's plan, by what `store_writes` answered on the bounds of the store
@@ -61,36 +58,40 @@ module _ (s : Store) (n o from : ℕ) (a : sessionOf s n ≡ passed (sessionAt s
   put-global l m = rw (a, le-leb from lastRegister l, lt-leb o lastGlobal m)
 
   module _ {z : Heap} {y : Planned} (l : from ≤ lastRegister) (m : o ≤ lastGlobal) (c : z ≡ heapOf s)
-      (u : planned y ≡ putWrites z (sessionAt s n .level) (register (sessionAt s n) from)) where
+      (u : planned y ≡ putWrites z (sessionAt s n .level) (getD (s .globals) o 0) (register (sessionAt s n) from)) where
     pub put-unwritable : y ≡ plan.Damage → refused 12 ≡ putPlan s n o from
     unfolding putPlan
     put-unwritable d =
-        let t : putWrites (heapOf s) (sessionAt s n .level) (register (sessionAt s n) from) ≡ refused 12 = rw (← c) (plan-refused u d) in
+        let t : putWrites (heapOf s) (sessionAt s n .level) (getD (s .globals) o 0) (register (sessionAt s n) from) ≡ refused 12 = rw (← c) (plan-refused u d) in
         rw (a, le-leb from lastRegister l, le-leb o lastGlobal m, t)
 
     pub put-made : {w : Writes} → y ≡ plan.Plan w → passed w ≡ putPlan s n o from
     unfolding putPlan
     put-made {w} d =
-        let t : putWrites (heapOf s) (sessionAt s n .level) (register (sessionAt s n) from) ≡ passed w = rw (← c) (plan-passed u d) in
+        let t : putWrites (heapOf s) (sessionAt s n .level) (getD (s .globals) o 0) (register (sessionAt s n) from) ≡ passed w = rw (← c) (plan-passed u d) in
         rw (a, le-leb from lastRegister l, le-leb o lastGlobal m, t)
 
 -- ---- what a plan says of the records that it writes
 
--- the bounds of the halves and of the list
-pub record Ready (s : Store) (w : ℕ) : Type 0 where
-  pub coloured : Inside (s .memory .half0) (s .memory .half1) w colourAt
-  pub listed : s .list .tail < length (s .list .words)
+-- what shading them asks for: they lie inside, and the list has room
+abbrev pub Listable : Store → Writes → Type 0
+Listable s w =
+    ((w .first ≡ 0 → ⊥) → Inside (s .memory .half0) (s .memory .half1) (w .first) colourAt × (s .list .tail < length (s .list .words)))
+    × ((w .second ≡ 0 → ⊥) → Inside (s .memory .half0) (s .memory .half1) (w .second) colourAt × (s .list .tail + 1 < length (s .list .words)))
 
-pub ready : {w : ℕ} (s : Store) → InRange s → Shaded (heapOf s) w → Ready s w
-ready s k d =
-    record {
-      coloured = header-inside (s .memory .half0) (s .memory .half1) (s .memory .frontier0) (s .memory .frontier1) _ (d .sound) (omega (arith, k)) (omega (arith, k)) 1 (omega arith);
-      listed = d .room;
-    }
+coloured : (s : Store) → InRange s → (v j : ℕ) → Shadable (heapOf s) v j → Inside (s .memory .half0) (s .memory .half1) v colourAt
+coloured s k v j d =
+    header-inside (s .memory .half0) (s .memory .half1) (s .memory .frontier0) (s .memory .frontier1) v (d .sound) (omega (arith, k)) (omega (arith, k)) colourAt (omega arith)
 
--- a store: it shades a record with room in the list, and writes fields of the two copies
+listable : (s : Store) (w : Writes) → InRange s → Shading (heapOf s) (w .first) (w .second) → Listable s w
+listable s w k d = (
+  λ n. let x = d .first n in (coloured s k (w .first) 0 x, omega (arith, x .room)),
+  λ n. let x = d .second n in (coloured s k (w .second) 1 x, x .room),
+)
+
+-- a store: it shades records with room in the list, and writes fields of the two copies
 pub record Storable (s : Store) (i v : ℕ) (w : Writes) : Type 0 where
-  pub shaded : (w .shade ≡ 0 → ⊥) → Ready s (w .shade)
+  pub shaded : Listable s w
   pub own : Inside (s .memory .half0) (s .memory .half1) v (refField i)
   pub copy : (w .replica ≡ 0 → ⊥) → Inside (s .memory .half0) (s .memory .half1) (w .replica) (refField i)
 
@@ -111,35 +112,19 @@ storable {q} s n k i from e =
     let st : Stored (heapOf s) i w = store-known (heapOf s) (x .level) (x .own) i (x .other) w (f .1 ∙ ap (λ (y : StorePlan). passed (y .writes)) p) in
     let v : x .own ≡ q .into = ap (λ (y : StorePlan). y .into) p in
     record {
-      shaded = λ m. ready s (b .0 .known) (st .shaded m);
+      shaded = listable s w (b .0 .known) (st .shaded);
       own = rw (← v) (field-inside s (x .own) i (b .0 .known) (b .1) (ltb-true i (refs (s .memory) (x .own)) (d .0)));
       copy = λ m. field-inside s (w .replica) i (b .0 .known) (st .copied m .sound) (st .copied m .field);
     }
 
-putable : {w : Writes} (s : Store) (n g from : ℕ) → putPlan s n g from ≡ passed w → (g ≤ lastGlobal) × ((w .shade ≡ 0 → ⊥) → Ready s (w .shade))
+putable : {w : Writes} (s : Store) (n g from : ℕ) → putPlan s n g from ≡ passed w → (g ≤ lastGlobal) × Listable s w
 unfolding putPlan
 putable {w} s n g from e =
     let a = bind-passed (sessionOf s n) _ e in
     let x = a .0 in
     let b = after-check (isRegister from) 8 _ (a .2) in
     let c = after-check (isGlobal g) 9 _ (b .1) in
-    (leb-true g 31 (c .0), λ m. ready s (in-session s n (a .1) .known) (put-known (heapOf s) (x .level) (register x from) w (c .1) m))
-
--- ---- the record shaded, where there is one
-
--- what stands before the words are written, with lists as long as they were
-pub record Next (s : Store) (v : ℕ) (c : Control) (h0 h1 l : List ℕ) : Type 0 where
-  pub shaded : view c h0 h1 l ≡ shade s v
-  pub low : length h0 ≡ length (s .memory .half0)
-  pub high : length h1 ≡ length (s .memory .half1)
-  pub listed : length l ≡ length (s .list .words)
-
-pub unshaded : (c : Control) (h0 h1 l : List ℕ) (v : ℕ) → v ≡ 0 → Next (view c h0 h1 l) v c h0 h1 l
-unshaded c h0 h1 l v z = record { shaded = shade-null (view c h0 h1 l) v z; low = refl; high = refl; listed = refl }
-
--- the same by equal values
-pub met : {s : Store} {v : ℕ} {c d : Control} {h0 h1 l k0 k1 m : List ℕ} → Next s v d k0 k1 m → h0 ≡ k0 → h1 ≡ k1 → l ≡ m → c ≡ d → Next s v c h0 h1 l
-met n a b e f = rw (a, b, e, f) n
+    (leb-true g 31 (c .0), listable s w (in-session s n (a .1) .known) (put-known (heapOf s) (x .level) (getD (s .globals) g 0) (register x from) w (c .1)))
 
 -- ---- the calls, by what their plans answered
 
@@ -152,10 +137,10 @@ module _ {y : Storing} (s : Store) (n : ℕ) where
     pub store-known-by : {v : ℕ} {w : Writes} → y ≡ Into v w → Storable s i v w
     store-known-by d = storable s n k i from (sym e ∙ ap storing d)
 
-    pub store-done : {v : ℕ} {w : Writes} {N : Memory} {t : Store} → y ≡ Into v w → t ≡ shade s (w .shade)
+    pub store-done : {v : ℕ} {w : Writes} {N : Memory} {t : Store} → y ≡ Into v w → t ≡ shade (shade s (w .first)) (w .second)
         → N ≡ putBoth (t .memory) v (refField i) (w .own) (w .replica) (refField i) (w .copy)
         → store s n k i from ≡ done (withMemory t N)
-    unfolding store storeCommit
+    unfolding store storeCommit shadeBoth
     store-done d a b = rw (← e, d, b, a)
 
   module _ (g from : ℕ) (e : putting y ≡ putPlan s n g from) where
@@ -163,10 +148,10 @@ module _ {y : Storing} (s : Store) (n : ℕ) where
     unfolding put
     put-away d = rw (← e, d)
 
-    pub put-known-by : {v : ℕ} {w : Writes} → y ≡ Into v w → (g ≤ lastGlobal) × ((w .shade ≡ 0 → ⊥) → Ready s (w .shade))
+    pub put-known-by : {v : ℕ} {w : Writes} → y ≡ Into v w → (g ≤ lastGlobal) × Listable s w
     put-known-by d = putable s n g from (sym e ∙ ap putting d)
 
-    pub put-done : {v : ℕ} {w : Writes} {t : Store} → y ≡ Into v w → t ≡ shade s (w .shade)
+    pub put-done : {v : ℕ} {w : Writes} {t : Store} → y ≡ Into v w → t ≡ shade (shade s (w .first)) (w .second)
         → put s n g from ≡ done (withGlobals t (set (t .globals) g (w .own)))
-    unfolding put putCommit
-    put-done {w = w} d a = rw (← e, d, a, shade-globals s (w .shade))
+    unfolding put putCommit shadeBoth
+    put-done {w = w} d a = rw (← e, d, a, shade-globals (shade s (w .first)) (w .second), shade-globals s (w .first))

@@ -1,17 +1,21 @@
 -- The claims of the rules about runs, of the code.
+use Prim.Native.Nat.{ℕ, zero, suc, _+_, _≤_, _<_}
 use mathlib.Core.Path.{_≡_, refl, sym, ap, ap₂, subst, _∙_}
 use mathlib.Core.Bool.{cond}
 use mathlib.Core.List.{List, [], _∷_, _++_, List·Memᴰ}
+use lib.ListN.{take, drop}
 use Rattle.rules.specs.Refusals.{Reply}
+use Rattle.rules.specs.Memory.{frontier}
 use Rattle.rules.specs.Control.{Store}
-use Rattle.rules.specs.Runs.{Call, Step, apply, run, after, isSession, isAllocation, sessionRun, fedBy, feeds}
+use Rattle.rules.specs.Runs.{Call, Step, apply, run, after, isSession, isAllocation, sessionRun, fedBy, feeds, steps, spentBy, spent}
 use Rattle.rules.specs.Tracking.{Beside, besideCall, beside, newBeside}
 use Rattle.rules.specs.Cycle.{atRest}
-use Rattle.rules.specs.Claims.{Answers, NoDamage, FilledFrom, Filled, TwoRuns, Freed, FreedBetween, leftIn, placesIn, StaysFreed}
+use Rattle.rules.specs.Claims.{Answers, NoDamage, FilledFrom, Filled, TwoRuns, Freed, FreedBetween, leftIn, placesIn, StaysFreed, scansAndMove, MarkingEnds, MarkingIsOver}
 use Rattle.rules.proofs.runs.Runs.{beside-store}
 use Rattle.rules.proofs.runs.Claims.{answers, no-damage, filled, two-runs, freed, stays-freed}
+use Rattle.rules.proofs.runs.MarkingEnds.{marking-ends, marking-is-over}
 use Rattle.store.specs.CodeRuns.{Lent, viewed, CodeRun, ended, next}
-use Rattle.store.specs.CodeClaims.{sessionReplies, fedReplies, CodeAnswers, CodeNoDamage, CodeFilled, CodeTwoRuns, besideCode, CodeFreed, CodeStaysFreed}
+use Rattle.store.specs.CodeClaims.{sessionReplies, fedReplies, CodeAnswers, CodeNoDamage, CodeFilled, CodeTwoRuns, besideCode, CodeFreed, CodeStaysFreed, codeSpent, CodeMarkingEnds, CodeMarkingIsOver}
 use Rattle.store.proofs.runs.Runs.{called-applies, code-made, run-applies}
 
 -- of the replies of a run of the rules, the session answers and what is fed
@@ -96,3 +100,33 @@ code-stays-freed a b e f cs ds es rs qs ps made calls calls′ calls″ begins e
     ∙ sym (beside-more (newBeside (viewed a)) (cs ++ (Step ∷ ds)) es) ∙ beside-code (run-more (run-more calls calls′) calls″) in
     stays-freed (viewed a) (code-made made) cs ds (begins-so calls calls′ begins) (ends-so calls calls′ ends) es h two q
     (subst (λ (x : Beside). List·Memᴰ q (placesIn x h)) (sym z) i)
+
+-- ---- marking
+
+-- the count of the code is that of the run of the rules
+spent-code : {a e : Lent} {cs : List Call} {rs : List Reply} (calls : CodeRun a cs rs e) (n : ℕ) → codeSpent n calls ≡ spent n (viewed a) cs
+spent-code ended n = refl
+spent-code (next {a} {b} {c = c} {cs = cs} called rest) n =
+    spent-code rest (spentBy n (viewed a) c) ∙ ap (λ s. spent (spentBy n (viewed a) c) s cs) (ap (λ o. o .store) (called-applies called))
+
+pub code-marking-ends : CodeMarkingEnds
+unfolding CodeMarkingEnds MarkingEnds
+code-marking-ends a e cs rs made calls =
+    rw (spent-code calls 0) (subst (λ (s : Store). spent 0 (viewed a) cs ≤ frontier (s .memory) (s .current) + scansAndMove)
+    (sym (run-applies calls .1)) (marking-ends (viewed a) (code-made made) cs))
+
+-- a run cut after its first n calls
+run-cut : {a e : Lent} {cs : List Call} {rs : List Reply} → CodeRun a cs rs e → (n : ℕ)
+    → (d : Lent) × CodeRun a (take n cs) (take n rs) d × CodeRun d (drop n cs) (drop n rs) e
+run-cut {a} calls zero = (a, ended, calls)
+run-cut {a} ended (suc n) = (a, ended, ended)
+run-cut (next called calls) (suc n) = let p = run-cut calls n in (p .0, next called (p .1), p .2)
+
+pub code-marking-is-over : CodeMarkingIsOver
+unfolding CodeMarkingIsOver MarkingIsOver
+code-marking-is-over a b e cs ds rs qs made calls calls′ more =
+    let k = run-applies calls .1 in
+    let o = marking-is-over (viewed a) (code-made made) cs ds (subst (λ (s : Store). s .lengths .half0 + scansAndMove < steps ds) k more) in
+    let p = run-cut calls′ (o .0) in
+    let q : viewed (p .0) ≡ after (after (viewed a) cs) (take (o .0) ds) = run-applies (p .1) .1 ∙ ap (λ s. after s (take (o .0) ds)) k in
+    (o .0, o .1, p .0, p .1, p .2, λ z. o .2 (sym (ap (λ s. s .phase) q) ∙ z))

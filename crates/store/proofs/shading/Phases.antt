@@ -1,6 +1,6 @@
 -- The arms of the phases that mark.
 use Prim.Native.Nat.{ℕ, _+_, _-_, _≤_, _<_}
-use mathlib.Core.Path.{_≡_, _∙_, sym, refl, ap}
+use mathlib.Core.Path.{_≡_, _∙_, sym, ap}
 use mathlib.Core.Bool.{Bool, true, false, cond, not, _&&_, false≢true}
 use mathlib.Core.List.{List, map}
 use native.Mathlib.Omega.{arith}
@@ -10,21 +10,20 @@ use lib.Seq.{getD-take, length-take-le, sets}
 use borrow.Author.Tests.{lt-ltb, le-ltb, le-leb, lt-leb, leb-true, leb-false, not-true, not-false}
 use Rattle.rules.specs.Refusals.{Tested, refused, passed}
 use Rattle.rules.specs.Memory.{Memory, word, put, refs, sound, followed, colourAt, grey, black, header}
-use Rattle.rules.specs.Control.{Store, withMemory, withWalk, withList, withSessions, globalCount}
-use Rattle.rules.specs.Phases.{moveOn, lowestUnmarked, absent, sessionAt, withSession, withMark, unmarked}
-use Rattle.rules.specs.Barriers.{heapOf, listRoom, shading, shade}
-use Rattle.rules.specs.Collector.{rootMark, scanRecord, scanSession, heapMark, toShadeAll, shadeAll}
+use Rattle.rules.specs.Control.{Store, withMemory, withWalk, withList, globalCount}
+use Rattle.rules.specs.Phases.{moveOn, lowestUnmarked, absent, sessionAt, withSession, withMark}
+use Rattle.rules.specs.Barriers.{heapOf, listRoom, shading, shade, toShadeAll, listing, shadingAll, shadeAll}
+use Rattle.rules.specs.Collector.{rootMark, scanRecord, scanSession, heapMark}
 use Rattle.heap.specs.View.{memory, checked, Inside}
 use Rattle.heap.specs.declared.Checked.{Checked}
 use Rattle.heap.specs.declared.Checked.the-variants as check
 use Rattle.heap.proofs.Soundness.{Found, header-inside}
 use Rattle.heap.proofs.Fields.{ref-inside}
-use Rattle.heap.proofs.Plans.{shading-known}
+use Rattle.heap.proofs.Plans.{shading-known, whites-sound}
 use Rattle.store.specs.Cursors.{having, Ready}
 use Rattle.store.specs.Marking.{shadeNext, whites, greyed}
 use Rattle.store.specs.declared.Cursor.{Cursor}
 use Rattle.store.specs.declared.scanning.Whites.{Whites}
-use Rattle.store.proofs.shading.Whites.{whites-sound}
 use Rattle.store.proofs.shading.Shade.{shade-null, shade-record}
 use Rattle.store.proofs.shading.ShadeAll.{all-shaded}
 
@@ -50,15 +49,15 @@ module _ {r : Checked} (s : Store) (q : ℕ) (e : checked r ≡ shading (heapOf 
     -- the record shaded, by the words that are written
     pub next-shaded : {N : Memory} {ws : List ℕ} → (w ≡ 0 → ⊥) → N ≡ put (s .memory) w colourAt grey → ws ≡ set (s .list .words) (s .list .tail) w
         → (k i : ℕ) → shadeNext s q k i
-        ≡ passed (withWalk (withSessions (withList (withMemory s N) ws (s .list .head) (s .list .tail + 1)) (unmarked (s .sessions))) k i)
-    next-shaded n m l k i = next-found k i ∙ ap (λ (t : Store). passed (withWalk t k i)) (sym (shade-record s w n m l refl))
+        ≡ passed (withWalk (withList (withMemory s N) ws (s .list .head) (s .list .tail + 1)) k i)
+    next-shaded n m l k i = next-found k i ∙ ap (λ (t : Store). passed (withWalk t k i)) (sym (shade-record s w n m l))
 
     -- what shading asks of its caller
     pub next-allowed : s .memory .frontier0 ≤ length (s .memory .half0) → s .memory .frontier1 ≤ length (s .memory .half1) → (w ≡ 0 → ⊥)
         → Inside (s .memory .half0) (s .memory .half1) w colourAt × (s .list .tail < length (s .list .words))
     next-allowed a b n =
         let f = shading-known (heapOf s) q w (answered (check.Word w) d) n in
-        (header-inside (s .memory .half0) (s .memory .half1) (s .memory .frontier0) (s .memory .frontier1) w (f .sound) a b colourAt (omega arith), f .room)
+        (header-inside (s .memory .half0) (s .memory .half1) (s .memory .frontier0) (s .memory .frontier1) w (f .sound) a b colourAt (omega arith), omega (arith, f .room))
 
 -- ---- RootMark
 
@@ -105,17 +104,17 @@ module _ {c : Cursor} {h0 h1 : List ℕ} {v at r p : ℕ} (k : Ready c h0 h1) (f
 
 module _ (s : Store) (n : ℕ) where
   session-damage : {m : ℕ} → toShadeAll (s .memory) (sessionAt s n .registers) ≡ refused m → scanSession s n ≡ refused m
-  unfolding scanSession
+  unfolding scanSession shadingAll listing
   session-damage e = rw e
 
   module _ (vs : List ℕ) (e : toShadeAll (s .memory) (sessionAt s n .registers) ≡ passed vs) where
     session-full : length (s .list .words) < s .list .tail + length vs → scanSession s n ≡ refused 12
-    unfolding scanSession listRoom
+    unfolding scanSession shadingAll listing listRoom
     session-full h = rw (e, lt-leb (s .list .tail + length vs) (length (s .list .words)) h)
 
     session-scanned : s .list .tail + length vs ≤ length (s .list .words)
         → scanSession s n ≡ passed (shadeAll (withSession s n (withMark (sessionAt s n) true)) vs)
-    unfolding scanSession listRoom
+    unfolding scanSession shadingAll listing listRoom
     session-scanned h = rw (e, le-leb (s .list .tail + length vs) (length (s .list .words)) h)
 
 -- by the code's test: the registers are sound, and c entries fit behind i in a list of m
@@ -174,21 +173,16 @@ module _ {c : Cursor} {h0 h1 l vs : List ℕ} {w : Whites} (k : Scanning c h0 h1
       session-accepted =
           session-scanned (having s c h0 h1 l) n (take (w .count) (w .words)) (sym told ∙ k .answer ∙ accepted t .0) (rw counted (accepted t .1))
 
-      -- no white record: the session is marked
-      pub session-marked : w .count ≡ 0 → scanSession (having s c h0 h1 l) n
-          ≡ passed (withSession (having s c h0 h1 l) n (withMark (sessionAt (having s c h0 h1 l) n) true))
-      session-marked z = session-accepted ∙ rw z
-
-      -- the white records shaded, by the words that are written
-      pub session-shaded : {N : Memory} {ws : List ℕ} → (w .count ≡ 0 → ⊥)
+      -- the white records shaded, by the words that are written, and the session marked
+      pub session-shaded : {N : Memory} {ws : List ℕ}
           → N ≡ greyed (memory h0 h1 (c .frontier0) (c .frontier1)) (take (w .count) (w .words)) → ws ≡ sets l (c .tail) (take (w .count) (w .words))
           → scanSession (having s c h0 h1 l) n
-          ≡ passed (withSessions (withList (withMemory (having s c h0 h1 l) N) ws (c .head) (c .tail + w .count)) (unmarked (s .sessions)))
-      session-shaded z m d =
+          ≡ passed (withSession (withList (withMemory (having s c h0 h1 l) N) ws (c .head) (c .tail + w .count)) n (withMark (sessionAt (having s c h0 h1 l) n) true))
+      session-shaded m d =
           let named : (j : ℕ) → j < length (take (w .count) (w .words)) → getD (take (w .count) (w .words)) j 0 ≡ 0 → ⊥ =
           λ j h e. let h : j < w .count = rw counted at h in let i = session-inside t j h in omega (arith, i .named, getD-take (w .count) (w .words) j 0 h) in
           session-accepted
-          ∙ ap passed (all-shaded (having s c h0 h1 l) n (take (w .count) (w .words)) named (rw counted (omega arith)) m d ∙ rw counted)
+          ∙ ap passed (all-shaded (having s c h0 h1 l) n (withMark (sessionAt (having s c h0 h1 l) n) true) (take (w .count) (w .words)) named m d ∙ rw counted)
 
 -- the length of an array of structs
 pub unmapped : (A B : Type 0) (f : A → B) (l : List A) (n : ℕ) → length (map f l) ≡ n → length l ≡ n

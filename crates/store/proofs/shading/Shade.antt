@@ -1,18 +1,15 @@
 -- Shading as the code does it, and the bounds that the functions over lent halves ask for.
-use Prim.Native.Nat.{ℕ, _+_}
+use Prim.Native.Nat.{ℕ, _+_, _≤_}
 use mathlib.Core.Path.{_≡_, ap, refl}
-use mathlib.Core.Bool.{Bool, true, false, cond}
 use mathlib.Core.List.{List}
 use native.Mathlib.Omega.{arith}
-use lib.Dec.{eqb}
 use lib.ListN.{length, set}
 use borrow.Author.Tests.{eq-eqb, ne-eqb}
 use Rattle.rules.specs.Memory.{Memory, put, colourAt, grey}
-use Rattle.rules.specs.Control.{Store, withMemory, withList, withSessions}
-use Rattle.rules.specs.Phases.{unmarked}
+use Rattle.rules.specs.Control.{Store, withMemory, withList}
 use Rattle.rules.specs.Barriers.{Heap, heapOf, shade}
-use Rattle.rules.specs.declared.Session.{Session}
 use Rattle.rules.proofs.Ranges.{InRange}
+use Rattle.rules.proofs.Shaded.{shade-either}
 use Rattle.heap.specs.View.{heap, Within}
 use Rattle.heap.specs.declared.Bounds.{Bounds}
 
@@ -22,20 +19,19 @@ pub shade-null : (s : Store) (v : ℕ) → v ≡ 0 → s ≡ shade s v
 unfolding shade
 shade-null s v z = rw (eq-eqb v 0 z)
 
-pub shade-record : {N : Memory} {ws : List ℕ} {xs : List Session} (s : Store) (v : ℕ) → (v ≡ 0 → ⊥)
-    → N ≡ put (s .memory) v colourAt grey → ws ≡ set (s .list .words) (s .list .tail) v → xs ≡ unmarked (s .sessions)
-    → withSessions (withList (withMemory s N) ws (s .list .head) (s .list .tail + 1)) xs ≡ shade s v
+pub shade-record : {N : Memory} {ws : List ℕ} (s : Store) (v : ℕ) → (v ≡ 0 → ⊥)
+    → N ≡ put (s .memory) v colourAt grey → ws ≡ set (s .list .words) (s .list .tail) v
+    → withList (withMemory s N) ws (s .list .head) (s .list .tail + 1) ≡ shade s v
 unfolding shade
-shade-record s v n e d u = rw (ne-eqb v 0 n, e, d, u)
+shade-record s v n e d = rw (ne-eqb v 0 n, e, d)
 
 -- the globals stay
-kept-globals : (b : Bool) (s t : Store) → t .globals ≡ s .globals → cond b s t .globals ≡ s .globals
-kept-globals true s t e = refl
-kept-globals false s t e = e
-
 pub shade-globals : (s : Store) (v : ℕ) → shade s v .globals ≡ s .globals
-unfolding shade
-shade-globals s v = kept-globals (eqb v 0) s _ refl
+shade-globals s v = shade-either (λ t. t .globals ≡ s .globals) s v refl refl
+
+-- the list gets one entry at most
+pub shade-end : (s : Store) (v : ℕ) → shade s v .list .tail ≤ s .list .tail + 1
+shade-end s v = shade-either (λ t. t .list .tail ≤ s .list .tail + 1) s v (omega arith) (omega arith)
 
 -- ---- bounds
 

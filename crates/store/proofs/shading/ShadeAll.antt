@@ -1,19 +1,17 @@
 -- Shading one record after another: a turn of the loop that writes the words, and the store that all of them leave.
 use Prim.Native.Nat.{ℕ, suc, _+_, _≤_, _<_}
 use mathlib.Core.Path.{_≡_, _∙_, sym, refl, ap}
-use mathlib.Core.Bool.{true, false}
 use mathlib.Core.List.{List, [], _∷_}
 use native.Mathlib.Omega.{arith}
+use native.Mathlib.Nat.{add-zero}
 use native.Mathlib.Numerals.{add-one}
 use lib.ListN.{length, take, drop, set, getD, length-set, drop-of-length-le}
 use lib.Seq.{drop-cons, getD-take, length-take-le, sets}
 use Rattle.rules.specs.Memory.{Memory, put, colourAt, grey}
-use Rattle.rules.specs.Control.{Store, withMemory, withList, withSessions}
-use Rattle.rules.specs.Phases.{unmarked, sessionAt, withSession, withMark}
-use Rattle.rules.specs.Barriers.{shade}
-use Rattle.rules.specs.Collector.{shadeAll}
+use Rattle.rules.specs.Control.{Store, withMemory, withList}
+use Rattle.rules.specs.Phases.{withSession}
+use Rattle.rules.specs.Barriers.{shade, shadeAll}
 use Rattle.rules.specs.declared.Session.{Session}
-use Rattle.rules.proofs.Scanned.{shade-scanned}
 use Rattle.heap.specs.View.{memory}
 use Rattle.heap.proofs.Fields.{put-long}
 use Rattle.store.specs.Marking.{greyed}
@@ -78,31 +76,23 @@ module _ {a0 a1 a h0 h1 l words : List ℕ} {end n i : ℕ} (k : Turn a0 a1 a h0
 -- the store that shading them leaves
 abbrev shaded : Store → List ℕ → Store
 shaded s vs =
-    withSessions
-    (withList (withMemory s (greyed (s .memory) vs)) (sets (s .list .words) (s .list .tail) vs) (s .list .head) (s .list .tail + length vs))
-    (unmarked (s .sessions))
-
-unmarked-again : (xs : List Session) → unmarked (unmarked xs) ≡ unmarked xs
-unfolding unmarked
-unmarked-again [] = refl
-unmarked-again (x ∷ xs) = ap (λ (ys : List Session). withMark x false ∷ ys) (unmarked-again xs)
+    withList (withMemory s (greyed (s .memory) vs)) (sets (s .list .words) (s .list .tail) vs) (s .list .head) (s .list .tail + length vs)
 
 -- no entry is null
 abbrev Named : List ℕ → Type 0
 Named vs = (j : ℕ) → j < length vs → getD vs j 0 ≡ 0 → ⊥
 
-shade-shaded : (s : Store) (v : ℕ) (vs : List ℕ) → Named (v ∷ vs) → shadeAll (shade s v) vs ≡ shaded s (v ∷ vs)
-shade-shaded s v [] n = sym (shade-record s v (n 0 (omega arith)) refl refl refl)
-shade-shaded s v (w ∷ vs) n =
+shade-shaded : (s : Store) (vs : List ℕ) → Named vs → shadeAll s vs ≡ shaded s vs
+shade-shaded s [] n = rw (add-zero (s .list .tail))
+shade-shaded s (v ∷ vs) n =
     let m : s .list .tail + 1 ≡ suc (s .list .tail) = omega arith in
-    let z : s .list .tail + 1 + length (w ∷ vs) ≡ s .list .tail + length (v ∷ w ∷ vs) = omega arith in
-    let e = shade-record s v (n 0 (omega arith)) refl refl refl in
-    shade-shaded (shade s v) w vs (λ j h. n (suc j) (omega arith)) ∙ rw (← e) (rw (z, m, unmarked-again (s .sessions)))
+    let z : s .list .tail + 1 + length vs ≡ s .list .tail + length (v ∷ vs) = omega arith in
+    let e = shade-record s v (n 0 (omega arith)) refl refl in
+    shade-shaded (shade s v) vs (λ j h. n (suc j) (omega arith)) ∙ rw (← e) (rw (z, m))
 
-module _ {N : Memory} {ws : List ℕ} (s : Store) (n : ℕ) where
-  -- the records shaded after session n is marked, by the words that shading them leaves
-  pub all-shaded : (vs : List ℕ) → Named vs → 0 < length vs → N ≡ greyed (s .memory) vs → ws ≡ sets (s .list .words) (s .list .tail) vs
-      → shadeAll (withSession s n (withMark (sessionAt s n) true)) vs
-      ≡ withSessions (withList (withMemory s N) ws (s .list .head) (s .list .tail + length vs)) (unmarked (s .sessions))
-  all-shaded [] m l e d = absurd (omega arith)
-  all-shaded (v ∷ vs) m l e d = rw (shade-scanned s n v (m 0 (omega arith)), shade-shaded s v vs m, e, d)
+-- the records shaded after session n is marked, by the words that shading them leaves
+pub all-shaded : {N : Memory} {ws : List ℕ} (s : Store) (n : ℕ) (x : Session) (vs : List ℕ) → Named vs → N ≡ greyed (s .memory) vs
+    → ws ≡ sets (s .list .words) (s .list .tail) vs
+    → shadeAll (withSession s n x) vs ≡ withSession (withList (withMemory s N) ws (s .list .head) (s .list .tail + length vs)) n x
+unfolding withSession
+all-shaded s n x vs m e d = rw (shade-shaded (withSession s n x) vs m, e, d)

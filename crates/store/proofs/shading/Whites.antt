@@ -1,23 +1,20 @@
 -- The different white records, collected from the left: a word already met is passed over.
-use Prim.Native.Nat.{ℕ, zero, suc, _+_, _≤_, _<_}
+use Prim.Native.Nat.{ℕ, suc, _+_, _≤_, _<_}
 use mathlib.Core.Path.{_≡_, _∙_, sym, refl, ap}
 use mathlib.Core.Bool.{Bool, true, false, cond, _||_, or-false, or-true, or-assoc}
 use mathlib.Core.List.{List, [], _∷_, _++_, append-assoc, append-nil}
 use native.Mathlib.Omega.{arith}
-use native.Mathlib.Nat.{add-zero, le-of-suc-le-suc, not-suc-le-zero}
+use native.Mathlib.Nat.{add-zero}
 use native.Mathlib.Numerals.{add-one}
 use lib.Dec.{eqb}
 use lib.ListN.{length, take, drop, set, getD, drop-of-length-le}
 use lib.Seq.{drop-cons, take-suc-set, take-set-le, getD-take, length-take-le}
 use borrow.Author.Tests.{eqb-true, eqb-false, eq-eqb, ne-eqb}
 use Rattle.rules.specs.Refusals.{Tested, refused, passed, _>>=_}
-use Rattle.rules.specs.Memory.{Memory, sound}
-use Rattle.rules.specs.Barriers.{toShade}
-use Rattle.rules.specs.Collector.{without, toShadeAll}
+use Rattle.rules.specs.Memory.{Memory}
+use Rattle.rules.specs.Barriers.{toShade, without, toShadeAll}
 use Rattle.heap.specs.declared.Checked.{Checked}
 use Rattle.heap.specs.declared.Checked.the-variants as check
-use Rattle.heap.proofs.Passed.{bind-passed, same-passed}
-use Rattle.heap.proofs.Plans.{to-shade-known}
 use Rattle.store.specs.Marking.{among}
 
 -- ---- words already met
@@ -135,36 +132,3 @@ first-joined M registers = sym (unmet (toShadeAll M registers))
 
 pub last-joined : (M : Memory) (registers xs : List ℕ) (i : ℕ) → length registers ≤ i → joined xs (toShadeAll M (drop i registers)) ≡ passed xs
 last-joined M registers xs i h = rw (drop-of-length-le registers {i = i} h, append-nil)
-
--- ---- the records found are sound
-
-abbrev AllSound : Memory → List ℕ → Type 0
-AllSound M [] = Unit {0}
-AllSound M (w ∷ ws) = (sound M w ≡ true) × AllSound M ws
-
-without-step : (M : Memory) (ws : List ℕ) (u : ℕ) (b : Bool) → sound M u ≡ true → AllSound M ws → AllSound M (cond b ws (u ∷ ws))
-without-step M ws u true e a = a
-without-step M ws u false e a = (e, a)
-
-without-sound : (M : Memory) (w : ℕ) (ws : List ℕ) → AllSound M ws → AllSound M (without w ws)
-without-sound M w [] a = tt
-without-sound M w (u ∷ ws) a = without-step M (without w ws) u (eqb w u) (a .0) (without-sound M w ws (a .1))
-
-found-step : (M : Memory) (v w : ℕ) (ws : List ℕ) (b : Bool) → eqb w 0 ≡ b → toShade M v ≡ passed w → AllSound M ws → AllSound M (cond b ws (w ∷ without w ws))
-found-step M v w ws true q e a = a
-found-step M v w ws false q e a = (to-shade-known M v w e (eqb-false w 0 q) .1, without-sound M w ws a)
-
-found-sound : (M : Memory) (vs ws : List ℕ) → toShadeAll M vs ≡ passed ws → AllSound M ws
-found-sound M [] ws e = rw (← same-passed e) tt
-found-sound M (v ∷ vs) ws e =
-    let a = bind-passed (toShade M v) (λ (w : ℕ). toShadeAll M vs >>= (λ (us : List ℕ). passed (cond (eqb w 0) us (w ∷ without w us)))) e in
-    let b = bind-passed (toShadeAll M vs) (λ (us : List ℕ). passed (cond (eqb (a .0) 0) us (a .0 ∷ without (a .0) us))) (a .2) in
-    rw (← same-passed (b .2)) (found-step M v (a .0) (b .0) (eqb (a .0) 0) refl (a .1) (found-sound M vs (b .0) (b .1)))
-
-each : (M : Memory) (ws : List ℕ) → AllSound M ws → (j : ℕ) → j < length ws → sound M (getD ws j 0) ≡ true
-each M [] a j h = absurd (not-suc-le-zero h)
-each M (w ∷ ws) a zero h = a .0
-each M (w ∷ ws) a (suc j) h = each M ws (a .1) j (le-of-suc-le-suc h)
-
-pub whites-sound : (M : Memory) (vs ws : List ℕ) → toShadeAll M vs ≡ passed ws → (j : ℕ) → j < length ws → sound M (getD ws j 0) ≡ true
-whites-sound M vs ws e = each M ws (found-sound M vs ws e)

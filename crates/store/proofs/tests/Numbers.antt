@@ -3,11 +3,12 @@ use Prim.Native.Nat.{ℕ, suc, _≤_}
 use mathlib.Core.Path.{_≡_, _∙_, sym, refl}
 use mathlib.Core.Bool.{Bool, true, false, not, _&&_}
 use native.Mathlib.Omega.{arith}
-use lib.Dec.{leb}
+use lib.Dec.{leb, eqb}
 use lib.ListN.{getD}
 use borrow.Author.Tests.{leb-true, not-true, not-false}
 use Rattle.rules.specs.Refusals.{Tested, refused, passed, check, refusalOf, _>>=_, _>>_, done}
 use Rattle.rules.specs.Memory.{null}
+use Rattle.rules.specs.Cycle.{atHeapMark}
 use Rattle.rules.specs.Control.{Store, inRange, lastGlobal, lastRegister, lastSession}
 use Rattle.rules.specs.Phases.{sessionAt, withSession, register, attachedAt, levelOf}
 use Rattle.rules.specs.Calls.{sessionOf, isRegister, isGlobal, withRegister, attach, move, clear, get}
@@ -145,7 +146,7 @@ module _ {A B : Type 0} (x : A) (r : Tested B) where
 -- the store with session n newly attached
 abbrev attached : Store → ℕ → Store
 attached s n =
-    withSession s n (attachedAt (levelOf (s .phase)))
+    withSession s n (attachedAt (levelOf (s .phase)) (eqb (s .phase) atHeapMark))
 
 module _ {g : ℕ} (s : Store) (n : ℕ) (e : g ≡ refusalOf (sessionOf s n)) where
   pub attached-already : g ≡ 0 → attach s n ≡ refused 7

@@ -19,13 +19,13 @@ use Rattle.store.proofs.Control.put_plan.Tie as tie
 -- past the tests of numbers: the session is there, the ranges hold, and the bounds are the store's
 module _ (c : tie.After-bounds) where
   abbrev lent : tie.Start
-  lent = c .before .before .before .before .before .before .before .before .before .before .before
+  lent = c .before .before .before .before .before .before .before .before .before .before .before .before
 
   abbrev entered : Store
   entered = view (lent .args .self) (lent .args .h0 .now) (lent .args .h1 .now) (lent .args .list .now)
 
   session : sessionOf entered (lent .args .s) ≡ passed (sessionAt entered (lent .args .s))
-  session = let-in _ _ (c .before .before .before .before .before .before .before .session-tests .ensures) (c .before .before .before .before .before .before .if1 .left)
+  session = let-in _ _ (c .before .before .before .before .before .before .before .before .session-tests .ensures) (c .before .before .before .before .before .before .before .if1 .left)
 
   ranges : InRange entered
   ranges = in-session _ _ session .known
@@ -62,6 +62,12 @@ mul-q c = search needs
 element-copy-out-q : tie.Need-element-copy-out-q
 element-copy-out-q c = search needs
 
+mul-old : tie.Need-mul-old
+mul-old c = search needs
+
+array-read-old : tie.Need-array-read-old
+array-read-old c = search needs
+
 bounds-requires : tie.Need-bounds-requires
 bounds-requires c κs = search needs
 
@@ -78,13 +84,13 @@ returns-4 : tie.Need-returns-4
 unfolding register sessionAt
 returns-4 c =
     let b = c .before .before .before in
-    put-unwritable _ _ _ _ (session b) (b .before .before .before .before .before .if2 .left) (b .before .before .before .before .if3 .left) (bounded b) (c .before .before .put-writes .ensures) (c .enum-told .given .1)
+    put-unwritable _ _ _ _ (session b) (b .before .before .before .before .before .before .if2 .left) (b .before .before .before .before .before .if3 .left) (bounded b) (c .before .before .put-writes .ensures) (c .enum-told .given .1)
 
 returns-5 : tie.Need-returns-5
 unfolding register sessionAt
 returns-5 c =
     let b = c .before .before .before .before in
-    put-made _ _ _ _ (session b) (b .before .before .before .before .before .if2 .left) (b .before .before .before .before .if3 .left) (bounded b) (c .before .before .before .put-writes .ensures) (c .before .w .given .1)
+    put-made _ _ _ _ (session b) (b .before .before .before .before .before .before .if2 .left) (b .before .before .before .before .before .if3 .left) (bounded b) (c .before .before .before .put-writes .ensures) (c .before .w .given .1)
 
 pub put-plan-spec : {M : Type 1} → statement M
 put-plan-spec =
@@ -98,6 +104,8 @@ put-plan-spec =
     array-copy-out-session
     mul-q
     element-copy-out-q
+    mul-old
+    array-read-old
     bounds-requires
     put-writes-requires
     enum-known-w

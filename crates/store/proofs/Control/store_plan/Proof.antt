@@ -60,7 +60,7 @@ bounds-requires c κs = search needs
 store-writes-requires : tie.Need-store-writes-requires
 store-writes-requires c κs =
     let d = opening (c .before .before .before) in
-    (within _ _ (c .bounds .ensures _ _ _ (d .known .lent2)) (d .known), d .head replicaAt (omega arith))
+    (within _ _ (c .bounds .ensures _ _ _ (d .known .lent2)) (d .known), d .head replicaAt (omega arith), d .ref _ (c .before .if1 .left))
 
 enum-known-w : tie.Need-enum-known-w
 enum-known-w c = search needs

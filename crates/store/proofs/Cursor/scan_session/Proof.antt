@@ -1,14 +1,12 @@
--- The registers are damage or the list is full: refused; no white record among them: the session is marked; else they are
--- shaded.
+-- The registers are damage or the list is full: refused; else the white records among them are shaded, and the session is marked.
 use mathlib.Core.Path.{_≡_, _∙_, ap, refl}
 use native.Mathlib.Omega.{arith}
 use lib.ListN.{length}
 use Rattle.rules.specs.Control.{registerCount}
-use Rattle.rules.specs.Phases.{sessionAt}
-use Rattle.rules.specs.Barriers.{Heap}
-use Rattle.rules.specs.Collector.{toShadeAll}
+use Rattle.rules.specs.Phases.{sessionAt, withSession}
+use Rattle.rules.specs.Barriers.{Heap, toShadeAll}
 use Rattle.store.proofs.collector.Numbers.{some, bounds-within}
-use Rattle.store.proofs.shading.Phases.{Scanning, session-refused, session-marked, session-shaded, session-room, session-inside}
+use Rattle.store.proofs.shading.Phases.{Scanning, session-refused, session-shaded, session-room, session-inside}
 use borrow.Author.Needs.{needs}
 use Rattle.store.proofs.Cursor.scan_session.Statement.{statement}
 use Rattle.store.proofs.Cursor.scan_session.Tie as tie
@@ -52,6 +50,19 @@ same-length-2 c = search needs
 returns : tie.Need-returns
 returns c = λ s e. rw (session-refused (known (c .before)) s _ e (c .if1 .taken))
 
+shade-all-requires : tie.Need-shade-all-requires
+shade-all-requires c κs =
+    let t = c .before .before .before in
+    let k = known (t .before) in
+    (t .before .before .white-registers .ensures .0, session-room k (t .if1 .left), session-inside k (t .if1 .left))
+
+add-self : tie.Need-add-self
+add-self c =
+    let t = c .before .before .before .before .before .before .before .before .before .before in
+    let start = entry (t .before .before) in
+    let room = session-room (known (t .before)) (t .if1 .left) in
+    omega arith
+
 of-requires : tie.Need-of-requires
 of-requires c κs = search needs
 
@@ -61,41 +72,15 @@ same-length-3 c = search needs
 same-length-4 : tie.Need-same-length-4
 same-length-4 c = search needs
 
-returns-2 : tie.Need-returns-2
-unfolding sessionAt
-returns-2 c = λ s e. rw (session-marked (known (c .before .before .before)) s _ e (c .before .before .if1 .left) (c .before .if2 .taken), c .of .ensures, e)
-
-shade-all-requires : tie.Need-shade-all-requires
-shade-all-requires c κs =
-    let t = c .before .before .before .before in
-    let k = known (t .before) in
-    (t .before .before .white-registers .ensures .0, session-room k (t .if1 .left), session-inside k (t .if1 .left))
-
-add-shaded : tie.Need-add-shaded
-add-shaded c =
-    let t = c .before .before .before .before .before .before .before .before .before .before .before in
-    let start = entry (t .before .before) in
-    let room = session-room (known (t .before)) (t .if1 .left) in
-    omega arith
-
-shaded-requires : tie.Need-shaded-requires
-shaded-requires c κs = search needs
-
 same-length-5 : tie.Need-same-length-5
 same-length-5 c = search needs
 
-same-length-6 : tie.Need-same-length-6
-same-length-6 c = search needs
-
-same-length-7 : tie.Need-same-length-7
-same-length-7 c = search needs
-
-returns-3 : tie.Need-returns-3
-returns-3 c =
-    let w = c .before .before .before .before .before .before .before .before .before .before .before in
-    let t = w .before in
-    let e = c .before .before .before .before .before .before .before .shade-all .ensures in
-    λ s g. rw (session-shaded (known (t .before)) s _ g (t .if1 .left) (w .if2 .left) (e .0 _ _) (e .1), c .shaded .ensures)
+returns-2 : tie.Need-returns-2
+unfolding sessionAt withSession
+returns-2 c =
+    let t = c .before .before .before .before .before .before .before .before .before .before .before in
+    let w = c .before .before .before .before .before .before .before .shade-all .ensures in
+    λ s e. rw (session-shaded (known (t .before)) s _ e (t .if1 .left) (w .0 _ _) (w .1), c .of .ensures, e)
 
 pub scan-session-spec : {M : Type 1} → statement M
 scan-session-spec =
@@ -107,14 +92,10 @@ scan-session-spec =
     same-length
     same-length-2
     returns
+    shade-all-requires
+    add-self
     of-requires
     same-length-3
     same-length-4
-    returns-2
-    shade-all-requires
-    add-shaded
-    shaded-requires
     same-length-5
-    same-length-6
-    same-length-7
-    returns-3)
+    returns-2)

@@ -4,7 +4,7 @@ use mathlib.Core.Path.{_≡_, sym, _∙_, ap}
 use native.Mathlib.Omega.{arith}
 use lib.ListN.{length, take, drop, length-set}
 use Rattle.rules.specs.Control.{registerCount}
-use Rattle.rules.specs.Collector.{toShadeAll}
+use Rattle.rules.specs.Barriers.{toShadeAll}
 use Rattle.heap.specs.View.{heap, checked}
 use Rattle.store.proofs.shading.Whites.{joined, first-joined, last-joined, few-more, register-damage, register-met}
 use borrow.Author.Needs.{needs}

@@ -1,0 +1,17 @@
+-- Null without a replica, else the replica's word.
+use borrow.Author.Tests.{eq-eqb, ne-eqb}
+use borrow.Author.Needs.{needs}
+use Rattle.heap.proofs.stores.copy_word.Statement.{statement}
+use Rattle.heap.proofs.stores.copy_word.Tie as tie
+
+returns : tie.Need-returns
+returns c = rw (eq-eqb _ _ (c .if1 .taken))
+
+replica-word-requires : tie.Need-replica-word-requires
+replica-word-requires c κs = search needs
+
+returns-2 : tie.Need-returns-2
+returns-2 c = rw (ne-eqb _ _ (c .before .if1 .left)) (c .replica-word .ensures)
+
+pub copy-word-spec : {M : Type 1} → statement M
+copy-word-spec = tie.close (tie.spec returns replica-word-requires returns-2)
