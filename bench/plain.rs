@@ -132,8 +132,22 @@ impl Store {
             self.put(v, 1, GREY);
             self.list[self.tail] = v;
             self.tail += 1;
-            self.unmark();
         }
+    }
+
+    // what a store or a put of q over old shades: at most two records, each once
+    fn barrier(&self, level: u32, old: u32, q: u32) -> Tested<(u32, u32)> {
+        if !(1..=3).contains(&level) {
+            return Ok((0, 0));
+        }
+        let first = if level >= 2 { self.to_shade(old)? } else { 0 };
+        let mut second = self.to_shade(q)?;
+        if second == first {
+            second = 0;
+        }
+        let count = (first != 0) as usize + (second != 0) as usize;
+        test(self.tail + count <= self.list.len(), 12)?;
+        Ok((first, second))
     }
 
     // ---- session calls
@@ -179,7 +193,7 @@ impl Store {
                 test(a[0] <= 15, 5)?;
                 test(!self.sessions[a[0] as usize].attached, 7)?;
                 self.sessions[a[0] as usize] =
-                    Session { registers: [0; 8], level: LEVELS[self.phase], attached: true, scanned: false };
+                    Session { registers: [0; 8], level: LEVELS[self.phase], attached: true, scanned: self.phase == 4 };
             }
             2 => {
                 let s = self.session(a[0])?;
@@ -234,9 +248,10 @@ impl Store {
                 test(a[2] <= 7, 8)?;
                 test(a[1] <= 31, 9)?;
                 let (level, q) = (self.sessions[s].level, self.sessions[s].registers[a[2] as usize]);
-                let w = if (1..=3).contains(&level) { self.shading(q)? } else { 0 };
+                let (first, second) = self.barrier(level, self.globals[a[1] as usize], q)?;
                 let own = self.own_word(level, 0, q)?;
-                self.shade(w);
+                self.shade(first);
+                self.shade(second);
                 self.globals[a[1] as usize] = own;
             }
             _ => {
@@ -286,7 +301,7 @@ impl Store {
         let i = a[2] as usize;
         test(i < r, 13)?;
         let (level, q) = (self.sessions[s].level, self.sessions[s].registers[a[3] as usize]);
-        let w = if (1..=3).contains(&level) { self.shading(q)? } else { 0 };
+        let (first, second) = self.barrier(level, self.at(v, 3 + i), q)?;
         let t = if level >= 4 { self.at(v, 2) } else { 0 };
         if t != 0 {
             test(i < self.follow(t)?.0, 12)?;
@@ -299,7 +314,8 @@ impl Store {
         } else {
             self.forward(q)?
         };
-        self.shade(w);
+        self.shade(first);
+        self.shade(second);
         self.put(v, 3 + i, own);
         if t != 0 {
             self.put(t, 3 + i, copy);

@@ -79,7 +79,7 @@ def ask_directory(store, kind, args, slip=None):
 
 
 def expected(case, slip=None):
-    """What document 01 gives for a case, and for a case of the directory document 02, as the bytes of the reply."""
+    """What documents 01 and 02 give for a case, by the store and the directory in Python, as the bytes of the reply."""
     store, kind, args = decode(case, slip)
     answer, part = (0, 0), []
     if kind == MAKE:

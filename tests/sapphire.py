@@ -1,21 +1,19 @@
-"""The whole store of document 01 in Python, words and all, written from the paper alone.
+"""The whole store of documents 01 and 02 in Python, words and all, written from the papers alone.
 
 It is the second opinion on what the script program must print, collector steps and allocations without room included, and on what
 a call does to any control record and any words: a store may be set up with numbers out of range, other lengths than those that are
-lent, and damaged memory. `slip` builds in a mistake, so that the tests can show that they would see it: one of the four that the
-paper warns of, or one that only damage shows.
+lent, and damaged memory. `slip` builds in a mistake of tests/slips.py, or several together, so that the tests can show that they would
+see it.
 """
 from model import ATTACH, DETACH, SAFE, ALLOCATE, LOAD, STORE, READ, WRITE, MOVE, CLEAR, SAME, GET, PUT, STEP
+from slips import (ALLOCATE_ENDS_EARLY, ATTACHED_SCANNED, ATTACHED_UNSCANNED, BLACK_EARLY, COLOUR_THREE, COMPANION_BLIND, COUNTED_TWICE,
+                   DETACH_UNMARKS, FIELD_UNTESTED, LEVELS_ATTACHED, LISTED_TWICE, MARK_OF_BEFORE, MARKS_CLEARED, OLD_AT_1, OLD_IN_4_ALONE,
+                   OLD_LEFT, OLD_LEFT_AT_3, OLD_LEFT_BY_PUT, OLD_LEFT_IN_4, OLD_READ_LATE, OTHER_ORDER, PLACE_IN_HALF, STORED_LEFT,
+                   STRETCH_EARLY, WORDS_COMPARED)
 
 LEVELS = [0, 1, 2, 2, 2, 3, 4, 4, 5, 6, 6, 6, 0]
 WHITE, GREY, BLACK = 0, 1, 2
-BLACK_EARLY, MARKS_KEPT, WORDS_COMPARED, ALLOCATE_ENDS_EARLY = "black early", "marks kept", "words compared", "allocate ends early"
-SLIPS = [BLACK_EARLY, MARKS_KEPT, WORDS_COMPARED, ALLOCATE_ENDS_EARLY]
 STRETCH, COMPANION = 15, 16  # after the kinds of the script, which has neither
-STRETCH_EARLY, COMPANION_BLIND, COLOUR_THREE = "stretch from the reference fields", "companion without 12", "colour 3 sound"
-PLACE_IN_HALF, LEVELS_ATTACHED = "32 globals bound by the half", "levels of attached sessions alone"
-FIELD_UNTESTED, LISTED_TWICE = "replica without the field passed over", "equal references listed twice"
-DAMAGE_SLIPS = [STRETCH_EARLY, COMPANION_BLIND, COLOUR_THREE, PLACE_IN_HALF, LEVELS_ATTACHED, FIELD_UNTESTED, LISTED_TWICE]
 
 
 class Refused(Exception):
@@ -41,7 +39,7 @@ class Sapphire:
         self.globals = [0] * 32
         self.attached, self.scanned, self.level = [False] * 16, [False] * 16, [0] * 16
         self.registers = [[0] * 8 for _ in range(16)]
-        self.slip = slip
+        self.slips = frozenset([slip] if isinstance(slip, str) else slip or [])
         self.collections = 0
         self.first_frontier = 0
 
@@ -61,7 +59,7 @@ class Sapphire:
             raise Refused(12)
         shape, colour = self.half[h][k], self.half[h][k + 1]
         r, p = shape // 256, shape % 256
-        if shape > 65535 or colour > (3 if self.slip == COLOUR_THREE else 2) or k + 3 + r + p > self.frontier[h]:
+        if shape > 65535 or colour > (3 if COLOUR_THREE in self.slips else 2) or k + 3 + r + p > self.frontier[h]:
             raise Refused(12)
         return r, p
 
@@ -95,16 +93,44 @@ class Sapphire:
         self.put(v, 1, GREY)
         self.list[self.tail] = v
         self.tail += 1
-        if self.slip != MARKS_KEPT:
+        if MARKS_CLEARED in self.slips:
             self.scanned = [False] * 16
 
     def shade_all(self, vs):
         whites = []
         for v in vs:
-            if self.white(v) and (v not in whites or self.slip == LISTED_TWICE):
+            if self.white(v) and (v not in whites or LISTED_TWICE in self.slips):
                 whites.append(v)
         self.room_for(len(whites))
         return whites
+
+    def barrier(self, level, old, stored, by_put=False):
+        """What a store or a put of one reference over another shades, in order: at levels 2 and 3 the overwritten one, at levels 1 to 3
+        the stored one. All that it can be refused for comes here, before anything is written."""
+        whites = self.shade_all([old] * self.shades_old(level, by_put) + [stored] * self.shades_stored(level))
+        if OLD_READ_LATE in self.slips and level in (2, 3):
+            whites = self.shade_all([stored]) * 2
+            self.room_for(len(whites))
+        if COUNTED_TWICE in self.slips and whites and old == stored and level >= 2:
+            self.room_for(2)
+        return whites[::-1] if OTHER_ORDER in self.slips else whites
+
+    def shades_old(self, level, by_put):
+        if self.slips:
+            left = {OLD_LEFT: level == 2, OLD_LEFT_AT_3: level == 3, OLD_LEFT_BY_PUT: by_put,
+                    OLD_LEFT_IN_4: level == 2 and self.phase == 4, OLD_IN_4_ALONE: level == 2 and self.phase != 4}
+            if any(left[slip] for slip in self.slips & left.keys()):
+                return False
+        return 2 <= level <= 3 or level == 1 and OLD_AT_1 in self.slips
+
+    def shades_stored(self, level):
+        return 1 <= level <= 3 and not (level == 2 and STORED_LEFT in self.slips)
+
+    def marked_when_attached(self, s):
+        """Attached in phase 4 a session counts as scanned, in any other phase it does not."""
+        if MARK_OF_BEFORE in self.slips and self.phase == 4:
+            return self.scanned[s]
+        return self.phase == 4 and ATTACHED_UNSCANNED not in self.slips or ATTACHED_SCANNED in self.slips
 
     # ---- session calls
     def session(self, s):
@@ -121,7 +147,7 @@ class Sapphire:
         """Making over the lent words: its refusal number or 0, and the new store."""
         lengths = [len(self.half[0]), len(self.half[1]), len(self.list)]
         number = refused_lengths(*lengths)
-        made = Sapphire(0, 0, self.slip)
+        made = Sapphire(0, 0, self.slips)
         made.half, made.list = self.half, self.list
         if not number:
             made.length, made.capacity = lengths[:2], lengths[2]
@@ -135,9 +161,9 @@ class Sapphire:
         if refused_lengths(*self.length, self.capacity):
             return False
         levels = self.level
-        if self.slip == LEVELS_ATTACHED:
+        if LEVELS_ATTACHED in self.slips:
             levels = [l * a for l, a in zip(levels, self.attached)]
-        most = 32 if self.phase in (3, 10) and not (self.slip == PLACE_IN_HALF and n < 32) else n
+        most = 32 if self.phase in (3, 10) and not (PLACE_IN_HALF in self.slips and n < 32) else n
         return (self.current <= 1 and max(self.frontier) <= n and self.phase <= 12 and max(levels) <= 6 and self.place <= most
                 and self.field <= 510 and self.head <= self.tail <= self.capacity)
 
@@ -166,13 +192,14 @@ class Sapphire:
         if kind == ATTACH:
             self.need(s <= 15, 5)
             self.need(not self.attached[s], 7)
-            self.attached[s], self.scanned[s] = True, False
+            self.attached[s], self.scanned[s] = True, self.marked_when_attached(s)
             self.level[s], self.registers[s] = LEVELS[self.phase], [0] * 8
             return 0
         self.session(s)
         regs, level = self.registers[s], self.level[s]
         if kind == DETACH:
             self.attached[s], self.level[s], self.registers[s] = False, 0, [0] * 8
+            self.scanned[s] = self.scanned[s] and DETACH_UNMARKS not in self.slips
         elif kind == SAFE:
             self.level[s] = LEVELS[self.phase]
         elif kind == ALLOCATE:
@@ -222,14 +249,14 @@ class Sapphire:
         v = regs[k]
         self.need(v, 11)
         r, p = self.follow(v)
-        first = 3 if self.slip == STRETCH_EARLY else 3 + r
+        first = 3 if STRETCH_EARLY in self.slips else 3 + r
         return [self.at(v, first + i) for i in range(p)]
 
     def _companion(self, regs, k):
         try:
             self._plain_fields(regs, k)
         except Refused as refusal:
-            if self.slip != COMPANION_BLIND or refusal.args[0] != 12:
+            if COMPANION_BLIND not in self.slips or refusal.args[0] != 12:
                 raise
 
     def _allocate(self, regs, level, k, r, p):
@@ -240,7 +267,7 @@ class Sapphire:
         for h in halves:
             self.need(self.frontier[h] + size <= len(self.half[h]), 14)
         refs = [2 * self.frontier[h] + 2 + h for h in (0, 1)]
-        black_from = 1 if self.slip == BLACK_EARLY else 2
+        black_from = 1 if BLACK_EARLY in self.slips else 2
         if level <= 2:
             self._append(self.current, r, p, BLACK if level >= black_from else WHITE, 0)
             regs[k] = refs[self.current]
@@ -261,9 +288,7 @@ class Sapphire:
         self.need(v, 11)
         r, _ = self.follow(v)
         self.need(i < r, 13)
-        shades = 1 <= level <= 3 and self.white(q)
-        if shades:
-            self.room_for(1)
+        shaded = self.barrier(level, self.at(v, 3 + i), q)
         replica = self.at(v, 2) if level >= 4 else 0
         if replica:
             self.need(i < self.follow(replica)[0], 12)
@@ -274,8 +299,8 @@ class Sapphire:
                 copy = self.copy_of(q) if self.is_in(v % 2, q) else q
             else:
                 copy = self.forward(q)
-        if shades:
-            self.shade(q)
+        for w in shaded:
+            self.shade(w)
         self.put(v, 3 + i, own)
         if replica:
             self.put(replica, 3 + i, copy)
@@ -296,7 +321,7 @@ class Sapphire:
         replica = self.at(v, 2) if level >= 4 else 0
         if replica:
             rr, rp = self.follow(replica)
-            if self.slip == FIELD_UNTESTED and i >= rp:
+            if FIELD_UNTESTED in self.slips and i >= rp:
                 replica = 0
             else:
                 self.need(i < rp, 12)
@@ -305,7 +330,7 @@ class Sapphire:
             self.put(replica, 3 + rr + i, value)
 
     def _same(self, level, a, b):
-        if level <= 4 or a == b or self.slip == WORDS_COMPARED:
+        if level <= 4 or a == b or WORDS_COMPARED in self.slips:
             return a == b
         for p, q in ((a, b), (b, a)):
             if self.is_in(self.fromspace(), p):
@@ -317,12 +342,10 @@ class Sapphire:
         self.need(source <= 7, 8)
         self.need(g <= 31, 9)
         q = regs[source]
-        shades = 1 <= level <= 3 and self.white(q)
-        if shades:
-            self.room_for(1)
+        shaded = self.barrier(level, self.globals[g], q, by_put=True)
         own = self._own_word(level, 0, q)
-        if shades:
-            self.shade(q)
+        for v in shaded:
+            self.shade(v)
         self.globals[g] = own
 
     # ---- the collector step
@@ -390,7 +413,7 @@ class Sapphire:
 
     def _shells(self):
         end = self.frontier[self.current]
-        if self.slip == ALLOCATE_ENDS_EARLY:
+        if ALLOCATE_ENDS_EARLY in self.slips:
             end = min(end, self.first_frontier)
         if self.place >= end:
             return self._handshake()

@@ -146,6 +146,12 @@ def look(s, g):
             (READ, [s, 6, 0])]
 
 
+def to_marking(sessions, steps=0):
+    """From Rest to HeapMark, and so many steps in it."""
+    meeting = [(SAFE, [s]) for s in sessions] + [(STEP, [])]
+    return [(STEP, [])] + meeting * 2 + [(STEP, [])] * (33 + steps)
+
+
 def new_record_gets_a_white_one(waits):
     """PreMark1 and PreMark2: the session ahead makes a record, the one behind stores a record into it that nothing else names."""
     entries = [(ATTACH, [AHEAD]), (ATTACH, [BEHIND]), (ALLOCATE, [BEHIND, 1, 2, 1]), (WRITE, [BEHIND, 1, 0, 77]), (STEP, [])]
@@ -159,10 +165,34 @@ def scanned_session_loads_late(steps):
     """HeapMark: session 0 has been scanned; session 1 stores a record that session 0 then empties of its link, keeping what it named."""
     entries = [(ATTACH, [0]), (ATTACH, [1])] + kept(0, 0, 0, 1)
     entries += [(ALLOCATE, [1, 1, 2, 1]), (ALLOCATE, [1, 2, 2, 1]), (WRITE, [1, 2, 0, 99]), (STORE, [1, 1, 0, 2]), (CLEAR, [1, 2])]
-    entries += [(STEP, []), (SAFE, [0]), (SAFE, [1]), (STEP, []), (SAFE, [0]), (SAFE, [1]), (STEP, [])] + [(STEP, [])] * 33
-    entries += [(STEP, [])] * steps
+    entries += to_marking([0, 1], steps)
     entries += [(GET, [0, 0, 0]), (STORE, [1, 1, 1, 1]), (PUT, [1, 1, 1]), (GET, [0, 1, 1]), (LOAD, [0, 2, 1, 0]), (STORE, [0, 1, 0, 7])]
     return entries + finish([1, 0]) + [(READ, [0, 2, 0]), (SAME, [0, 2, 1])] + look(0, 1)
+
+
+def scanned_session_drops_a_link(steps):
+    """HeapMark: a session loads what its record names and overwrites the link before the walk comes to it. Nothing else names that one."""
+    entries = [(ATTACH, [0]), (ALLOCATE, [0, 0, 2, 1]), (ALLOCATE, [0, 1, 2, 1]), (WRITE, [0, 1, 0, 55]), (STORE, [0, 0, 1, 1]),
+               (CLEAR, [0, 1])]
+    entries += to_marking([0], steps) + [(LOAD, [0, 1, 0, 1]), (STORE, [0, 0, 1, 7])]
+    return entries + finish([0]) + [(READ, [0, 1, 0]), (LOAD, [0, 2, 1, 0]), (SAME, [0, 1, 0])]
+
+
+def unscanned_session_stores_and_leaves(steps):
+    """HeapMark: the walk is done with a record; a session that has not been scanned stores in it what it alone holds, and detaches."""
+    entries = [(ATTACH, [0]), (ATTACH, [1])] + kept(0, 0, 0, 1) + [(ALLOCATE, [1, 1, 2, 1]), (WRITE, [1, 1, 0, 66])]
+    entries += to_marking([0, 1], steps) + [(GET, [1, 0, 0]), (STORE, [1, 0, 0, 1]), (DETACH, [1])]
+    return entries + finish([0]) + look(0, 0)
+
+
+def sessions_come_and_go(others):
+    """HeapMark: between the steps one session after the other detaches and attaches again, and new ones come; some have been scanned."""
+    sessions = range(others + 1)
+    entries = [(ATTACH, [s]) for s in sessions] + kept(0, 0, 0, 1) + [(ALLOCATE, [others, 1, 2, 1]), (STORE, [others, 1, 0, 1])]
+    entries += to_marking(sessions, others // 2)
+    for n in range(24):
+        entries += [(DETACH, [n % 16]), (ATTACH, [n % 16]), (GET, [n % 16, 0, 0]), (STORE, [n % 16, 0, 0, 0]), (STEP, [])]
+    return entries + finish(range(16)) + look(0, 0)
 
 
 def both_copies_compared(steps):
@@ -176,6 +206,18 @@ def both_copies_compared(steps):
     return entries + finish([0]) + look(0, 0)
 
 
+def sessions_come_in_the_flip(steps):
+    """StackFlip: so many of twelve sessions have been flipped; the first and the last detach and attach again, and a new one comes."""
+    sessions = range(12)
+    entries = [(ATTACH, [s]) for s in sessions] + kept(0, 0, 0, 5) + [(GET, [s, 1, 0]) for s in sessions]
+    for _ in range(6):
+        entries += [(STEP, [])] * 120 + [(SAFE, [s]) for s in sessions]
+    entries += [(STEP, [])] * (34 + steps) + [(DETACH, [0]), (DETACH, [11]), (ATTACH, [0]), (ATTACH, [11]), (ATTACH, [15])]
+    for s in (0, 5, 11, 15):
+        entries += [(GET, [s, 2, 0]), (SAME, [s, 1, 2]), (STORE, [s, 2, 0, 2]), (STEP, [])]
+    return entries + finish([*sessions, 15]) + look(0, 0)
+
+
 def allocates_behind_the_walk(steps):
     """Allocate: a session at the level before makes a record after the walk has begun."""
     entries = [(ATTACH, [AHEAD]), (ATTACH, [BEHIND])] + kept(BEHIND, 0, 0, 8)
@@ -185,7 +227,8 @@ def allocates_behind_the_walk(steps):
     return entries + finish([BEHIND, AHEAD]) + look(AHEAD, 0) + look(BEHIND, 1)
 
 
-RECIPES = [new_record_gets_a_white_one, scanned_session_loads_late, both_copies_compared, allocates_behind_the_walk]
+RECIPES = [new_record_gets_a_white_one, scanned_session_loads_late, scanned_session_drops_a_link, unscanned_session_stores_and_leaves,
+           sessions_come_and_go, both_copies_compared, sessions_come_in_the_flip, allocates_behind_the_walk]
 
 
 def long_scripts():

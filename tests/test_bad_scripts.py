@@ -1,7 +1,7 @@
 #!/usr/bin/env python3
 """The script program on damaged scripts: cut at every byte and at the edges of the input buffer, every kind with every wrong length,
-unknown kinds, random bytes. What it must print is worked out here from document 01: 15 at the first bad entry, and nothing after
-it."""
+unknown kinds, random bytes. What it must print is worked out here from documents 01 and 02: the lines of the store in Python, 15 at the
+first bad entry, and nothing after it."""
 import random
 import sys
 
@@ -14,7 +14,7 @@ SIZES = {kind: 1 + n + (3 if kind == WRITE else 0) for kind, n in ARGUMENTS.item
 
 
 def expected(data):
-    """The text that document 01 gives for these bytes."""
+    """The text that documents 01 and 02 give for these bytes."""
     if not data or data[0] != 1:
         return b"0 15 0\n"
     store, out, at, n = sapphire.Sapphire(), [], 1, 1
@@ -77,7 +77,7 @@ def main():
     for name, data in inputs():
         got, want = program.output(data), expected(data)
         if got != want:
-            sys.exit(f"test_bad_scripts: {name}: wrote {got[-80:]!r}, document 01 gives {want[-80:]!r}")
+            sys.exit(f"test_bad_scripts: {name}: wrote {got[-80:]!r}, documents 01 and 02 give {want[-80:]!r}")
         count, refused = count + 1, refused + want.rstrip().endswith(b" 15 0")
     print(f"test_bad_scripts: {count} inputs, {refused} of them refused with 15")
     if refused < 500:

@@ -1,7 +1,8 @@
 #!/usr/bin/env python3
 """Every call of the store, the stretch and its companion too, on any control record and any memory: the probe program writes, word for
-word, what document 01 gives, by the store in Python. Directed cases (edges of every range, every way to meet damage, both halves, both
-copies) and random damaged stores. Mistakes built into the store in Python are seen.
+word, what documents 01 and 02 give, by the store in Python. Directed cases (edges of every range, every way to meet damage, both halves,
+both copies; every reference stored over every other, and all that shades or marks) and random damaged stores. Mistakes built into the
+store in Python are seen.
 
     python3 tests/test_probe.py write    writes crates/probe/stdin and stdout anew, both from documents 01 and 02 alone
 """
@@ -9,12 +10,14 @@ import os
 import sys
 import time
 
+import barriers
 import chance
 import damage
 import directory_cases
 import probe
-import sapphire
 from model import ATTACH, DETACH, SAFE, ALLOCATE, LOAD, STORE, READ, WRITE, MOVE, CLEAR, SAME, GET, PUT, STEP
+from sapphire import COMPANION, STRETCH
+from slips import DAMAGE_SLIPS, MARKING_SLIPS, PLACE_IN_HALF
 
 CRATE = os.path.join(os.path.dirname(os.path.abspath(__file__)), "..", "crates", "probe")
 RANDOM = 60000
@@ -23,8 +26,7 @@ SESSION = {4, 5, 6}
 RECORD = SESSION | {8, 11, 12}
 REFUSALS = {probe.MAKE: {1, 2, 3}, ATTACH: {4, 5, 7}, DETACH: SESSION, SAFE: SESSION, ALLOCATE: SESSION | {8, 10, 14},
             LOAD: RECORD | {13}, STORE: RECORD | {13}, READ: RECORD | {13}, WRITE: RECORD | {13}, MOVE: SESSION | {8}, CLEAR: SESSION | {8},
-            SAME: SESSION | {8, 12}, GET: SESSION | {8, 9}, PUT: SESSION | {8, 9, 12}, STEP: {4, 12}, sapphire.STRETCH: RECORD,
-            sapphire.COMPANION: RECORD}
+            SAME: SESSION | {8, 12}, GET: SESSION | {8, 9}, PUT: SESSION | {8, 9, 12}, STEP: {4, 12}, STRETCH: RECORD, COMPANION: RECORD}
 
 
 def files():
@@ -39,12 +41,12 @@ def held(name):
 
 
 def compare(cases):
-    """Runs the program on the cases; its whole output must be what document 01 gives. Answers how often each kind had each number."""
+    """Runs the program on the cases; its whole output must be what documents 01 and 02 give. How often each kind had each number."""
     seen = {}
     for case, want in probe.answered(cases):
         kind, number = probe.CALL.unpack_from(case)[0], probe.ANSWER.unpack_from(want)[0]
-        if kind == sapphire.STRETCH:  # why it was refused only its companion says
-            number, = probe.ANSWER.unpack_from(probe.expected(sapphire.COMPANION.to_bytes(4, "big") + case[4:]))[:1]
+        if kind == STRETCH:  # why it was refused only its companion says
+            number, = probe.ANSWER.unpack_from(probe.expected(COMPANION.to_bytes(4, "big") + case[4:]))[:1]
         seen[kind, number] = seen.get((kind, number), 0) + 1
     return seen
 
@@ -65,10 +67,11 @@ def check_bad_cases():
             sys.exit(f"test_probe: kind {kind} is not answered with 15")
 
 
-def check_slips(cases):
-    """Each mistake built into the store in Python must show in some case."""
-    for slip in sapphire.DAMAGE_SLIPS:
-        seen = next((name for name, case in cases if probe.expected(case, slip) != probe.expected(case)), None)
+def check_slips(slips, cases):
+    """Each of these mistakes built into the store in Python must show in some case."""
+    replies = [probe.expected(case) for _, case in cases]
+    for slip in slips:
+        seen = next((name for (name, case), reply in zip(cases, replies) if probe.expected(case, slip) != reply), None)
         if seen is None:
             sys.exit(f"test_probe: the slip '{slip}' is not seen")
         print(f"test_probe: '{slip}' is seen by: {seen}")
@@ -79,8 +82,8 @@ def main():
     if (held("stdin"), held("stdout")) != files():
         sys.exit("test_probe: crates/probe/stdin and stdout are not those that this test writes")
     check_bad_cases()
-    directed, by_chance = list(damage.directed()), list(chance.random_cases(RANDOM))
-    for name, cases in [("directed", directed), ("random", by_chance)]:
+    directed, marking, by_chance = list(damage.directed()), list(barriers.directed()), list(chance.random_cases(RANDOM))
+    for name, cases in [("directed", directed + marking), ("random", by_chance)]:
         seen = compare(cases)
         numbers = {}
         for (_, number), count in seen.items():
@@ -89,7 +92,8 @@ def main():
         lacking = [kind for kind, refusals in REFUSALS.items() if {number for k, number in seen if k == kind} != refusals | {0}]
         if lacking:
             sys.exit(f"test_probe: the {name} cases of the kinds {lacking} do not have just the refusals of document 01's table")
-    check_slips(by_chance[:4000] + directed)
+    check_slips([PLACE_IN_HALF, *DAMAGE_SLIPS], by_chance[:4000] + directed)
+    check_slips(MARKING_SLIPS, marking)
     print(f"test_probe: {time.time() - began:.0f} s")
 
 

@@ -1,8 +1,8 @@
 #!/usr/bin/env python3
-"""The programs in a small stack, which no proof bounds. With 96 KB of it the script program writes, byte
-for byte, what document 01 gives for long random scripts with every kind of call and for one that fills the store and collects it while
-it is full; with 112 KB the directory program writes what the directory in Python gives, and with 32 KB the load program writes the
-longest loads. With no more stack than their arrays take they must fail, which shows that the limit is kept."""
+"""The programs in a small stack, which no proof bounds. With 96 KB of it the script program writes, byte for byte, what documents 01
+and 02 give for long random scripts with every kind of call and for one that fills the store and collects it while it is full; with
+112 KB the directory program writes what the directory in Python gives, and with 32 KB the load program writes the longest loads. With
+no more stack than their arrays take they must fail, which shows that the limit is kept."""
 import sys
 
 import directory_scripts
