@@ -1,14 +1,14 @@
--- The arms of the functions that follow a reference and read its replica or its colour.
+-- The arms of the functions that follow a reference and read its replica word or its colour.
 use Prim.Native.Nat.{ℕ}
 use mathlib.Core.Path.{_≡_}
 use lib.Dec.{eqb}
 use borrow.Author.Tests.{eq-eqb, ne-eqb}
 use Rattle.rules.specs.Refusals.{refused, passed}
-use Rattle.rules.specs.Memory.{Memory, word, colour, replica, follow, followed, copyOf, otherCopy, colourAt, replicaAt}
+use Rattle.rules.specs.Memory.{Memory, word, replica, follow, followed, copyOf, otherCopy, replicaAt}
 use Rattle.rules.specs.Barriers.{toShade}
 use Rattle.rules.specs.declared.Followed.{Followed}
 use Rattle.rules.specs.declared.Followed.the-variants.{Sound, Damage}
-use Rattle.heap.specs.View.{replicaIs}
+use Rattle.heap.specs.View.{ifWhite, replicaIs}
 use Rattle.heap.proofs.Soundness.{found, lost}
 
 module _ {x : Followed} (M : Memory) (v : ℕ) (e : x ≡ follow M v) where
@@ -26,23 +26,21 @@ module _ {x : Followed} (M : Memory) (v : ℕ) (e : x ≡ follow M v) where
   replica-damage q d = rw (lost M v e d)
 
   -- a sound record
-  module _ {at r p t : ℕ} (s : x ≡ Sound at r p) where
-    pub copy-own : t ≡ word M v replicaAt → t ≡ 0 → passed v ≡ otherCopy M v
-    unfolding otherCopy followed copyOf replica
-    copy-own w z = rw (found M v e s .sound, ← w, eq-eqb t 0 z)
+  module _ {at r p : ℕ} (s : x ≡ Sound at r p) where
+    pub shade-sound : (v ≡ 0 → ⊥) → passed (ifWhite M v) ≡ toShade M v
+    unfolding toShade followed
+    shade-sound n = rw (ne-eqb v 0 n, found M v e s .sound)
 
-    pub copy-other : t ≡ word M v replicaAt → (t ≡ 0 → ⊥) → passed t ≡ otherCopy M v
-    unfolding otherCopy followed copyOf replica
-    copy-other w z = rw (found M v e s .sound, ← w, ne-eqb t 0 z)
+    -- by its replica word
+    module _ {t : ℕ} (w : t ≡ word M v replicaAt) where
+      pub copy-own : t ≡ 0 → passed v ≡ otherCopy M v
+      unfolding otherCopy followed copyOf replica
+      copy-own z = rw (found M v e s .sound, ← w, eq-eqb t 0 z)
 
-    pub shade-white : (v ≡ 0 → ⊥) → t ≡ word M v colourAt → t ≡ 0 → passed v ≡ toShade M v
-    unfolding toShade followed colour
-    shade-white n w z = rw (ne-eqb v 0 n, found M v e s .sound, ← w, eq-eqb t 0 z)
+      pub copy-other : (t ≡ 0 → ⊥) → passed t ≡ otherCopy M v
+      unfolding otherCopy followed copyOf replica
+      copy-other z = rw (found M v e s .sound, ← w, ne-eqb t 0 z)
 
-    pub shade-other : (v ≡ 0 → ⊥) → t ≡ word M v colourAt → (t ≡ 0 → ⊥) → passed 0 ≡ toShade M v
-    unfolding toShade followed colour
-    shade-other n w z = rw (ne-eqb v 0 n, found M v e s .sound, ← w, ne-eqb t 0 z)
-
-    pub replica-compared : (q : ℕ) → t ≡ word M v replicaAt → passed (eqb t q) ≡ replicaIs M v q
-    unfolding replicaIs followed replica
-    replica-compared q w = rw (found M v e s .sound, ← w)
+      pub replica-compared : (q : ℕ) → passed (eqb t q) ≡ replicaIs M v q
+      unfolding replicaIs followed replica
+      replica-compared q = rw (found M v e s .sound, ← w)

@@ -1,12 +1,11 @@
--- The fields of a sound record are words of its half; and the lengths of the halves stay.
+-- The fields of a sound record are words of its half.
 use Prim.Native.Nat.{ℕ, _+_, _≤_, _<_}
 use mathlib.Core.Path.{_≡_, refl}
-use mathlib.Core.Bool.{Bool, true, false, cond}
+use mathlib.Core.Bool.{true}
 use mathlib.Core.List.{List}
 use native.Mathlib.Omega.{arith}
-use lib.Dec.{eqb}
-use lib.ListN.{length, length-set}
-use Rattle.rules.specs.Memory.{Memory, half, halfOf, wordOf, withHalf, word, put, refs, plains, size, sound, header, shapeAt}
+use lib.ListN.{length}
+use Rattle.rules.specs.Memory.{half, word, refs, plains, size, sound, header, shapeAt}
 use Rattle.heap.specs.View.{memory, Inside, HasPlain}
 use Rattle.heap.proofs.Soundness.{Found, sound-inside, header-inside}
 
@@ -46,23 +45,3 @@ module _ (h0 h1 : List ℕ) (f0 f1 v : ℕ) {at r p : ℕ} (f : Found (memory h0
 
   pub found-plain : (i : ℕ) → i < p → Inside h0 h1 v (header + r + i)
   found-plain i l = rw (f .refs) (plain-inside h0 h1 f0 f1 v (f .sound) a b i (rw (f .plains) at l))
-
--- ---- lengths
-
--- a memory as long as another
-pub record Long (N M : Memory) : Type 0 where
-  pub low : length (N .half0) ≡ length (M .half0)
-  pub high : length (N .half1) ≡ length (M .half1)
-
-placed-long : (b : Bool) (h0 h1 ws : List ℕ) → length ws ≡ length (cond b h0 h1)
-    → (length (cond b ws h0) ≡ length h0) × (length (cond b h1 ws) ≡ length h1)
-placed-long true h0 h1 ws e = (e, refl)
-placed-long false h0 h1 ws e = (refl, e)
-
-with-half-long : (M : Memory) (h : ℕ) (ws : List ℕ) → length ws ≡ length (half M h) → Long (withHalf M h ws) M
-unfolding withHalf half
-with-half-long M h ws e = let k = placed-long (eqb h 0) (M .half0) (M .half1) ws e in record { low = k .0; high = k .1 }
-
-pub put-long : (M : Memory) (v j x : ℕ) → Long (put M v j x) M
-unfolding put
-put-long M v j x = with-half-long M (halfOf v) _ (length-set (half M (halfOf v)) (wordOf v + j) x)

@@ -1,6 +1,6 @@
 -- What is known of the records that a plan writes: they are sound, and the list has room.
 use Prim.Native.Nat.{ℕ, zero, suc, _+_, _≤_, _<_}
-use mathlib.Core.Path.{_≡_, _∙_, sym, refl, ap}
+use mathlib.Core.Path.{_≡_, _∙_, refl, ap}
 use mathlib.Core.Bool.{Bool, true, false, cond, not, _||_}
 use mathlib.Core.List.{List, [], _∷_}
 use native.Mathlib.Omega.{arith}
@@ -9,50 +9,37 @@ use lib.Dec.{leb, ltb, eqb}
 use lib.ListN.{length, getD, List·getD-eq-default}
 use borrow.Author.Tests.{leb-true, ltb-true, eqb-false, ne-eqb}
 use Rattle.rules.specs.Refusals.{Tested, passed, check, _>>=_, _>>_}
-use Rattle.rules.specs.Memory.{Memory, word, colour, replica, refs, refField, sound, followed}
+use Rattle.rules.specs.Memory.{Memory, word, replica, refs, refField, sound, followed}
 use Rattle.rules.specs.Barriers.{Heap, toShade, listRoom, shading, without, toShadeAll, listing, shadingAll, shadesAt, shadesOldAt, barrierShades, copiesAt, replicaFor, ownWord, replicaWord, storeWrites, putWrites}
 use Rattle.rules.specs.declared.Writes.{Writes}
 use Rattle.rules.proofs.Ranges.{after-check}
 use Rattle.rules.proofs.memory.Cases.{lt-or, bool-or}
 use Rattle.rules.proofs.marking.Whites.{All, all-none, all-more, without-all}
 use Rattle.heap.proofs.Passed.{bind-passed, second-passed, same-passed}
+use Rattle.heap.proofs.ToShade.{to-shade-sound, split}
 
--- ---- shading
+-- ---- shading several references
 
-chosen : (b : Bool) (v : ℕ) {w : ℕ} → cond b v 0 ≡ w → (w ≡ 0 → ⊥) → w ≡ v
-chosen true v e n = sym e
-chosen false v e n = absurd (n (sym e))
-
-to-shade-known : (M : Memory) (v w : ℕ) → toShade M v ≡ passed w → (w ≡ 0 → ⊥) → (w ≡ v) × (sound M w ≡ true)
-unfolding toShade followed
-to-shade-known M v w e n =
-    let a = second-passed (eqb v 0) (check (sound M v) 12 >> passed (cond (eqb (colour M v) 0) v 0)) e n in
-    let b = after-check (sound M v) 12 (passed (cond (eqb (colour M v) 0) v 0)) (a .1) in
-    let c = chosen (eqb (colour M v) 0) v (same-passed (b .1)) n in
-    (c, rw c (b .0))
-
--- ---- shading several references: the records found are sound
-
+-- the records found are sound
 abbrev AllSound : Memory → List ℕ → Type 0
 AllSound M ws = All (λ u. sound M u ≡ true) ws
 
 found-step : (M : Memory) (v w : ℕ) (ws : List ℕ) (b : Bool) → eqb w 0 ≡ b → toShade M v ≡ passed w → AllSound M ws → AllSound M (cond b ws (w ∷ without w ws))
 found-step M v w ws true q e a = a
-found-step M v w ws false q e a = all-more {v = w} (to-shade-known M v w e (eqb-false w 0 q) .1) (without-all w a)
+found-step M v w ws false q e a = all-more {v = w} (to-shade-sound M v w e (eqb-false w 0 q)) (without-all w a)
 
 found-sound : (M : Memory) (vs ws : List ℕ) → toShadeAll M vs ≡ passed ws → AllSound M ws
 found-sound M [] ws e = rw (← same-passed e) all-none
 found-sound M (v ∷ vs) ws e =
-    let a = bind-passed (toShade M v) (λ (w : ℕ). toShadeAll M vs >>= (λ (us : List ℕ). passed (cond (eqb w 0) us (w ∷ without w us)))) e in
-    let b = bind-passed (toShadeAll M vs) (λ (us : List ℕ). passed (cond (eqb (a .0) 0) us (a .0 ∷ without (a .0) us))) (a .2) in
-    rw (← same-passed (b .2)) (found-step M v (a .0) (b .0) (eqb (a .0) 0) refl (a .1) (found-sound M vs (b .0) (b .1)))
+    let k = split M v vs ws e in
+    rw (← k .joined) (found-step M v (k .one) (k .others) (eqb (k .one) 0) refl (k .tested) (found-sound M vs (k .others) (k .rest)))
 
 each : (M : Memory) {ws : List ℕ} → AllSound M ws → (j : ℕ) → j < length ws → sound M (getD ws j 0) ≡ true
 each M all-none j h = absurd (not-suc-le-zero h)
 each M (all-more e a) zero h = e
 each M (all-more e a) (suc j) h = each M a j (le-of-suc-le-suc h)
 
-pub whites-sound : (M : Memory) (vs ws : List ℕ) → toShadeAll M vs ≡ passed ws → (j : ℕ) → j < length ws → sound M (getD ws j 0) ≡ true
+whites-sound : (M : Memory) (vs ws : List ℕ) → toShadeAll M vs ≡ passed ws → (j : ℕ) → j < length ws → sound M (getD ws j 0) ≡ true
 whites-sound M vs ws e = each M (found-sound M vs ws e)
 
 -- ---- room in the list
@@ -69,7 +56,7 @@ shading-known z v w e n =
     let b = after-check (leb (z .tail + cond (eqb (a .0) 0) 0 1) (z .capacity)) 12 (passed (a .0)) (a .2) in
     let c : a .0 ≡ w = same-passed (b .1) in
     let d : z .tail + 1 ≤ z .capacity = leb-true (z .tail + 1) (z .capacity) (rw (c, ne-eqb w 0 n) at (b .0)) in
-    record { sound = to-shade-known (z .memory) v w (rw c at (a .1)) n .1; room = omega arith }
+    record { sound = to-shade-sound (z .memory) v w (rw c at (a .1)) n; room = omega arith }
 
 -- an entry that isn't null is one of the list
 entered : (ws : List ℕ) (j : ℕ) → (getD ws j 0 ≡ 0 → ⊥) → j < length ws

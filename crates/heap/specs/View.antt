@@ -5,7 +5,7 @@ use mathlib.Core.List.{List, [], _∷_}
 use lib.Dec.{eqb}
 use lib.ListN.{length}
 use Rattle.rules.specs.Refusals.{Tested, refused, passed, _>>_}
-use Rattle.rules.specs.Memory.{Memory, null, half, halfOf, wordOf, shapeAt, refs, replica, plainField, followed}
+use Rattle.rules.specs.Memory.{Memory, null, half, halfOf, wordOf, shapeAt, white, colour, refs, replica, plainField, followed}
 use Rattle.rules.specs.Barriers.{Heap}
 use Rattle.rules.specs.declared.Writes.{Writes}
 use Rattle.heap.specs.declared.Bounds.{Bounds}
@@ -56,6 +56,10 @@ checked check.Damage = refused 12
 abbrev pub compared : Compared → Tested Bool
 compared (compare.Equal b) = passed b
 compared compare.Damage = refused 12
+
+-- v where the record that it names is white, else null: what there is to shade of a reference that passes its test
+abbrev pub ifWhite : Memory → ℕ → ℕ
+ifWhite M v = cond (eqb (colour M v) white) v null
 
 -- the records v and w, one after the other, as a list: null for none, w null where v is
 abbrev pub records : ℕ → ℕ → List ℕ

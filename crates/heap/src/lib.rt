@@ -1,6 +1,7 @@
 // Code over the two lent halves, without the control record: following, reading and writing words, writing records,
 // forwarding, shading, comparing, and planning what a store or a put writes.
-// The contract of each function that another crate calls is one equation with a definition of the crate rules.
+// The contract of each function that another crate calls is one equation with a definition of the crate rules, or with a
+// part of one that `View.antt` names.
 
 pub mod following;
 pub mod forwarding;

@@ -3,9 +3,9 @@ ghost use mathlib.Core.Path.{_≡_};
 ghost use mathlib.Core.Bool.{true, cond};
 ghost use mathlib.Core.List.{List, [], _∷_};
 ghost use Prim.Native.Nat.{ℕ, _≤_};
-ghost use Rattle.rules.specs.Memory.{null};
+ghost use Rattle.rules.specs.Memory.{null, colourAt};
 ghost use Rattle.rules.specs.Barriers.{toShade, shading, listing, shadingAll, shadesAt, shadesOldAt, barrierShades};
-ghost use Rattle.heap.specs.View.{heap, checked, records, shaded, Within};
+ghost use Rattle.heap.specs.View.{heap, memory, checked, ifWhite, records, shaded, Within, Inside};
 use crate::Bounds;
 use crate::COLOUR_AT;
 use crate::Checked;
@@ -20,6 +20,21 @@ pub enum Shaded {
     Damage,
 }
 
+// v where the record that it names is white, else null.
+pub fn if_white<'a>(h0: &'a [u32], h1: &'a [u32], v: u32) -> u32
+    requires { ⌜ ((v ≡ null → ⊥) → Inside (now h0) (now h1) v colourAt) ⌝ }
+    ensures { λ r. ⌜ ((f0 f1 : ℕ) → r ≡ ifWhite (memory (now (h0 .entry)) (now (h1 .entry)) f0 f1) v) ⌝ }
+{
+    if v == 0 {
+        return 0;
+    }
+    let colour = get_word(h0, h1, v, COLOUR_AT);
+    if colour == WHITE {
+        return v;
+    }
+    0
+}
+
 // The reference to shade, or null where there is nothing to do.
 pub fn to_shade<'a>(b: Bounds, h0: &'a [u32], h1: &'a [u32], v: u32) -> Checked
     requires { ⌜ Within b (now h0) (now h1) ⌝ }
@@ -31,12 +46,8 @@ pub fn to_shade<'a>(b: Bounds, h0: &'a [u32], h1: &'a [u32], v: u32) -> Checked
     let Followed::Sound(_, _, _) = follow(h0, h1, b.frontier0, b.frontier1, v) else {
         return Checked::Damage;
     };
-    let colour = get_word(h0, h1, v, COLOUR_AT);
-    if colour == WHITE {
-        Checked::Word(v)
-    } else {
-        Checked::Word(0)
-    }
+    let w = if_white(h0, h1, v);
+    Checked::Word(w)
 }
 
 // The same, with room for it in the grey list.

@@ -1,30 +1,41 @@
--- Marking: the white records among the registers of a session, the words and the list's end that shading leaves, and shading as a step
--- of a walk.
+-- Marking: the white records among the registers of a session, the list's end that shading leaves, and shading as a step of a walk.
 use Prim.Native.Nat.{ℕ}
 use mathlib.Core.Bool.{Bool, false, cond, _||_}
 use mathlib.Core.List.{List, [], _∷_}
 use lib.Dec.{eqb}
-use lib.ListN.{take}
+use lib.ListN.{length}
 use Rattle.rules.specs.Refusals.{Tested, refused, passed, _>>=_}
-use Rattle.rules.specs.Memory.{Memory, put, colourAt, grey}
+use Rattle.rules.specs.Memory.{Memory, null}
 use Rattle.rules.specs.Control.{Store, withMemory, withWalk, withList}
-use Rattle.rules.specs.Barriers.{heapOf, shading, shade}
-use Rattle.heap.specs.View.{memory}
-use Rattle.store.specs.declared.scanning.Whites.{Whites}
+use Rattle.rules.specs.Barriers.{heapOf, shading, shade, without, toShadeAll}
+use Rattle.heap.specs.View.{memory, ifWhite}
+use Rattle.store.specs.declared.scanning.Counted.{Counted}
+use Rattle.store.specs.declared.scanning.Counted.the-variants.{Whites, Damage}
 
 -- v is one of the words
 abbrev pub among : ℕ → List ℕ → Bool
 among v [] = false
 among v (w ∷ ws) = eqb v w || among v ws
 
--- the code's answer as the rules' answer
-abbrev pub whites : Whites → Tested (List ℕ)
-whites w = cond (w .sound) (passed (take (w .count) (w .words))) (refused 12)
+-- ---- the white records among references
 
--- the records that vs name coloured grey
-abbrev pub greyed : Memory → List ℕ → Memory
-greyed M [] = M
-greyed M (v ∷ vs) = greyed (put M v colourAt grey) vs
+-- each once, in the order met: what toShadeAll gives where it passes
+abbrev pub whitesAmong : Memory → List ℕ → List ℕ
+whitesAmong M [] = []
+whitesAmong M (v ∷ vs) = cond (eqb (ifWhite M v) null) (whitesAmong M vs) (ifWhite M v ∷ without (ifWhite M v) (whitesAmong M vs))
+
+-- how many there are, each reference tested
+abbrev pub whiteCount : Memory → List ℕ → Tested ℕ
+whiteCount M vs = do
+  ws ← toShadeAll M vs
+  passed (length ws)
+
+-- the code's count as a tested number: the one refusal is 12, damage
+abbrev pub counted : Counted → Tested ℕ
+counted (Whites n) = passed n
+counted Damage = refused 12
+
+-- ---- shading
 
 -- the store over the words of half 0, half 1 and the list, its list ending at n
 abbrev pub ending : Store → List ℕ → List ℕ → List ℕ → ℕ → Store

@@ -7,9 +7,12 @@ use Rattle.rules.specs.Refusals.{Outcome, answer}
 use Rattle.rules.specs.Control.{Store, withGlobals, withSessions}
 use Rattle.rules.specs.Phases.{sessionAt, withSession, withRegisters, withMark, unmarked}
 use Rattle.rules.specs.declared.Answer.the-variants as answers
+use Rattle.rules.specs.declared.Session as rules
 use Rattle.store.specs.Steps.{went}
 use Rattle.store.specs.Cursors.{numbered}
 use Rattle.store.specs.declared.work.Stack.{Stack}
+use Rattle.store.specs.declared.work.Forwarded.{Forwarded}
+use Rattle.store.specs.declared.work.Forwarded.the-variants as forward
 use Rattle.store.specs.declared.work.Touch.{Touch}
 use Rattle.store.specs.declared.work.Touch.the-variants.{Nothing, Marks, Global, Session}
 use Rattle.store.specs.declared.work.Work.{Work}
@@ -19,12 +22,17 @@ use Rattle.store.specs.declared.work.Work.the-variants.{Refused, Next}
 abbrev pub registers : Stack → List ℕ
 registers x = x .r0 ∷ x .r1 ∷ x .r2 ∷ x .r3 ∷ x .r4 ∷ x .r5 ∷ x .r6 ∷ x .r7 ∷ []
 
+-- a session with the registers that were forwarded
+abbrev pub withForwarded : rules.Session → Forwarded → rules.Session
+withForwarded x forward.Nothing = x
+withForwarded x (forward.Registers stack) = withRegisters x (registers stack)
+
 -- what is touched beside the collector's numbers
 abbrev pub touched : Store → Touch → Store
 touched s Nothing = s
 touched s Marks = withSessions s (unmarked (s .sessions))
 touched s (Global k word) = withGlobals s (set (s .globals) k word)
-touched s (Session n stack) = withSession s n (withMark (withRegisters (sessionAt s n) (registers stack)) true)
+touched s (Session n f) = withSession s n (withMark (withForwarded (sessionAt s n) f) true)
 
 -- what the step leaves and answers: refused, it has changed nothing
 abbrev pub worked : Store → Work → Outcome Store

@@ -16,6 +16,7 @@ ghost use Rattle.store.specs.Flips.{forwarded};
 use crate::Control;
 use crate::Cursor;
 use crate::searching::Wanted;
+use crate::work::Forwarded;
 use crate::work::Stack;
 use crate::work::Touch;
 use crate::work::Work;
@@ -124,6 +125,6 @@ impl Cursor {
         }
         let words = moved.words;
         let stack = Stack::of(words);
-        Work::Next(self, Touch::Session(n, stack))
+        Work::Next(self, Touch::Session(n, Forwarded::Registers(stack)))
     }
 }

@@ -149,8 +149,7 @@ impl Cursor {
         let n = Control::lowest(sessions, 0, Wanted::Unscanned);
         if n < Control::SESSIONS {
             let session = sessions[n];
-            let registers = session.registers;
-            return self.scan_session(n, registers, h0, h1, list);
+            return self.scan_session(n, session, h0, h1, list);
         }
         self.move_on()
     }

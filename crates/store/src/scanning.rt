@@ -1,107 +1,104 @@
-// Scanning the registers of a session: the white records among them, and shading them.
+// Scanning the registers of a session, in two passes over the registers themselves: the first tests each of them and
+// counts the different white records, the second shades these.
 ghost use mathlib.Core.Path.{_≡_};
 ghost use Prim.Native.Nat.{ℕ, _+_, _≤_, _<_};
 ghost use mathlib.Core.Bool.{cond, _||_};
 ghost use lib.Dec.{eqb};
 ghost use lib.ListN.{length, getD, take};
-ghost use lib.Seq.{sets};
 ghost use Rattle.rules.specs.Memory.{null, colourAt};
 ghost use Rattle.rules.specs.Control.{Store, registerCount};
 ghost use Rattle.rules.specs.Phases.{absent};
-ghost use Rattle.rules.specs.Barriers.{toShadeAll};
+ghost use Rattle.rules.specs.Barriers.{shadeAll};
 ghost use Rattle.rules.specs.Collector.{scanSession};
 ghost use Rattle.heap.specs.View.{heap, memory, Within, Inside};
 ghost use Rattle.store.specs.Steps.{stepped};
 ghost use Rattle.store.specs.Cursors.{having, Ready};
 ghost use Rattle.store.specs.Work.{worked};
-ghost use Rattle.store.specs.Marking.{among, whites, greyed};
+ghost use Rattle.store.specs.Marking.{among, whitesAmong, counted, whiteCount, ending};
 use crate::Control;
 use crate::Cursor;
-use crate::shade::put_grey;
-use crate::work::Stack;
+use crate::shade::shade_one;
+use crate::work::Forwarded;
 use crate::work::Touch;
 use crate::work::Work;
 use heap::Bounds;
 use heap::Checked;
+use heap::shades::if_white;
 use heap::shades::to_shade;
 
-// The different white records among the registers of a session, in the order met: the first `count` words. Not
-// sound: one of the registers is damage.
-pub struct Whites {
-    pub sound: bool,
-    pub count: usize,
-    pub words: [u32; Control::REGISTERS],
+// How many different white records the registers of a session name, or damage.
+pub enum Counted {
+    Whites(usize),
+    Damage,
 }
 
-// 1 where v is to shade and isn't among the first `count` words, else 0.
-fn new_white(words: [u32; Control::REGISTERS], count: usize, v: u32) -> usize
-    requires { ⌜ count ≤ registerCount ⌝ }
-    ensures { λ r. ⌜ r ≡ cond (eqb v null || among v (take count words)) 0 1 ⌝ }
+// 1 where v isn't null and isn't one of the registers before register i, else 0.
+fn new_white(registers: &[u32; Control::REGISTERS], i: usize, v: u32) -> usize
+    requires { ⌜ (length (now registers) ≡ registerCount) × (i ≤ registerCount) ⌝ }
+    ensures { λ r. ⌜ r ≡ cond (eqb v null || among v (take i (now (registers .entry)))) 0 1 ⌝ }
 {
     if v == 0 {
         return 0;
     }
-    let mut i: usize = 0;
-    while i < count {
-        if words[i] == v {
+    let mut j: usize = 0;
+    while j < i {
+        if registers[j] == v {
             return 0;
         }
-        i += 1;
+        j += 1;
     }
     1
 }
 
-// What the registers give to shade: each word met is put behind the others, and counted where it is a new white one.
-fn white_registers<'a>(
+// The first pass: each register tested, and the different white records among them counted.
+fn count_whites<'a>(
     b: Bounds,
     h0: &'a [u32],
     h1: &'a [u32],
-    registers: [u32; Control::REGISTERS],
-) -> Whites
-    requires { ⌜ Within b (now h0) (now h1) ⌝ }
-    ensures { λ r. ⌜ (r .count ≤ registerCount) × (whites r ≡ toShadeAll (heap b (now (h0 .entry)) (now (h1 .entry)) .memory) registers) ⌝ }
+    registers: &[u32; Control::REGISTERS],
+) -> Counted
+    requires { ⌜ (length (now registers) ≡ registerCount) × Within b (now h0) (now h1) ⌝ }
+    ensures { λ r. ⌜ counted r ≡ whiteCount (heap b (now (h0 .entry)) (now (h1 .entry)) .memory) (now (registers .entry)) ⌝ }
 {
-    let mut words: [u32; Control::REGISTERS] = [0; Control::REGISTERS];
     let mut count: usize = 0;
     let mut i: usize = 0;
     while i < Control::REGISTERS {
-        let Checked::Word(w) = to_shade(b, h0, h1, registers[i]) else {
-            return Whites {
-                sound: false,
-                count: 0,
-                words,
-            };
+        let v = registers[i];
+        let Checked::Word(w) = to_shade(b, h0, h1, v) else {
+            return Counted::Damage;
         };
-        let more = new_white(words, count, w);
-        words[count] = w;
+        let more = new_white(registers, i, w);
         count += more;
         i += 1;
     }
-    Whites {
-        sound: true,
-        count,
-        words,
-    }
+    Counted::Whites(count)
 }
 
-// The first `count` words coloured grey and put on the list from `end` on.
-fn shade_all(
+// The second pass, on tested registers: each record that is white at its turn is shaded. The list ends at `tail` before it
+// and at `last` after it, as the first pass counted. While it ends before `last` a white record is still to come, so there
+// is a register i.
+fn shade_registers(
     h0: &mut [u32],
     h1: &mut [u32],
     list: &mut [u32],
-    end: usize,
-    count: usize,
-    words: [u32; Control::REGISTERS],
+    tail: usize,
+    last: usize,
+    registers: &[u32; Control::REGISTERS],
 )
-    requires { ⌜ (count ≤ registerCount) × (end + count ≤ length (now list))
-        × ((j : ℕ) → j < count → Inside (now h0) (now h1) (getD words j 0) colourAt) ⌝ }
-    ensures { λ _. ⌜ ((f0 f1 : ℕ) → memory (now (h0 .exit)) (now (h1 .exit)) f0 f1
-        ≡ greyed (memory (now (h0 .entry)) (now (h1 .entry)) f0 f1) (take count words))
-        × (now (list .exit) ≡ sets (now (list .entry)) end (take count words)) ⌝ }
+    // a colour doesn't depend on the frontiers: 0 stands for any
+    requires { ⌜ (length (now registers) ≡ registerCount)
+        × ((j : ℕ) → j < registerCount → (getD (now registers) j 0 ≡ null → ⊥) → Inside (now h0) (now h1) (getD (now registers) j 0) colourAt)
+        × (last ≡ tail + length (whitesAmong (memory (now h0) (now h1) 0 0) (now registers))) × (last ≤ length (now list)) ⌝ }
+    ensures { λ _. ⌜ ((s : Store) → ending s (now (h0 .exit)) (now (h1 .exit)) (now (list .exit)) last
+        ≡ shadeAll (ending s (now (h0 .entry)) (now (h1 .entry)) (now (list .entry)) tail)
+        (whitesAmong (memory (now (h0 .entry)) (now (h1 .entry)) 0 0) (now (registers .entry)))) ⌝ }
 {
+    let mut end: usize = tail;
     let mut i: usize = 0;
-    while i < count {
-        put_grey(h0, h1, list, end + i, words[i]);
+    while end < last {
+        let v = registers[i];
+        let w = if_white(h0, h1, v);
+        end = shade_one(h0, h1, list, end, w);
         i += 1;
     }
 }
@@ -111,31 +108,29 @@ impl Cursor {
     pub(crate) fn scan_session(
         mut self,
         n: usize,
-        registers: [u32; Control::REGISTERS],
+        session: rules::Session,
         h0: &mut [u32],
         h1: &mut [u32],
         list: &mut [u32],
     ) -> Work
         requires { ⌜ Ready self (now h0) (now h1) × (self .tail ≤ length (now list)) ⌝ }
-        ensures { λ r. ⌜ ((s : Store) → registers ≡ getD (s .sessions) n absent .registers
+        ensures { λ r. ⌜ ((s : Store) → session .registers ≡ getD (s .sessions) n absent .registers
             → worked (having s self (now (h0 .exit)) (now (h1 .exit)) (now (list .exit))) r
             ≡ stepped (having s self (now (h0 .entry)) (now (h1 .entry)) (now (list .entry)))
             (scanSession (having s self (now (h0 .entry)) (now (h1 .entry)) (now (list .entry))) n)) ⌝ }
     {
         let capacity = list.len();
         let b = self.bounds(capacity);
-        let found = white_registers(b, h0, h1, registers);
-        let count = found.count;
-        let words = found.words;
-        let sound = found.sound;
-        let end = self.tail;
-        let fits = count <= capacity - end;
-        if !(sound & fits) {
+        let Counted::Whites(count) = count_whites(b, h0, h1, &session.registers) else {
+            return Work::Refused(12);
+        };
+        let tail = self.tail;
+        if capacity - tail < count {
             return Work::Refused(12);
         }
-        shade_all(h0, h1, list, end, count, words);
-        self.tail = end + count;
-        let stack = Stack::of(registers);
-        Work::Next(self, Touch::Session(n, stack))
+        let last = tail + count;
+        shade_registers(h0, h1, list, tail, last, &session.registers);
+        self.tail = last;
+        Work::Next(self, Touch::Session(n, Forwarded::Nothing))
     }
 }

@@ -23,7 +23,13 @@ pub(crate) fn put_grey(h0: &mut [u32], h1: &mut [u32], list: &mut [u32], end: us
 }
 
 // The record v shaded, or nothing where v is null: the list's end after it.
-fn shade_one(h0: &mut [u32], h1: &mut [u32], list: &mut [u32], end: usize, v: u32) -> usize
+pub(crate) fn shade_one(
+    h0: &mut [u32],
+    h1: &mut [u32],
+    list: &mut [u32],
+    end: usize,
+    v: u32,
+) -> usize
     requires { ⌜ ((v ≡ 0 → ⊥) → Inside (now h0) (now h1) v colourAt × (end < length (now list))) ⌝ }
     ensures { λ r. ⌜ ((s : Store) → ending s (now (h0 .exit)) (now (h1 .exit)) (now (list .exit)) r
         ≡ shade (ending s (now (h0 .entry)) (now (h1 .entry)) (now (list .entry)) end) v) ⌝ }

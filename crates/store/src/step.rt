@@ -79,10 +79,13 @@ impl Control {
                             self.globals[place] = word;
                         }
                     }
-                    Touch::Session(n, stack) => {
-                        let sessions = self.sessions;
-                        let marked = stack.marked(sessions, n);
-                        self.sessions = marked;
+                    Touch::Session(n, forwarded) => {
+                        // past the last session nothing
+                        if n < Control::SESSIONS {
+                            let session = self.sessions[n];
+                            let marked = forwarded.marked(session);
+                            self.sessions[n] = marked;
+                        }
                     }
                 }
                 rules::Answer::Phase(cursor.phase)

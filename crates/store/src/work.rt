@@ -2,9 +2,8 @@
 // hands out a refusal, or the next numbers and the one thing beside them that it touches; the step writes them down.
 ghost use mathlib.Core.Path.{_≡_};
 ghost use mathlib.Core.Bool.{true};
-ghost use lib.ListN.{getD, set};
-ghost use Rattle.rules.specs.Phases.{absent, withRegisters, withMark};
-ghost use Rattle.store.specs.Work.{registers};
+ghost use Rattle.rules.specs.Phases.{withMark};
+ghost use Rattle.store.specs.Work.{registers, withForwarded};
 use crate::Control;
 use crate::Cursor;
 
@@ -52,22 +51,28 @@ impl Stack {
             self.r7,
         ]
     }
-    // The sessions, session n with these registers and a scanned mark; past the last session nothing.
-    pub(crate) fn marked(
-        self,
-        sessions: [rules::Session; Control::SESSIONS],
-        n: usize,
-    ) -> [rules::Session; Control::SESSIONS]
-        ensures { λ r. ⌜ r ≡ set sessions n (withMark (withRegisters (getD sessions n absent) (registers self)) true) ⌝ }
+}
+
+// What of a session was forwarded: nothing, or its registers.
+pub enum Forwarded {
+    Nothing,
+    Registers(Stack),
+}
+
+impl Forwarded {
+    // A session with what was forwarded and a scanned mark.
+    pub(crate) fn marked(self, session: rules::Session) -> rules::Session
+        ensures { λ r. ⌜ r ≡ withMark (withForwarded session self) true ⌝ }
     {
-        let mut next = sessions;
-        if n < Control::SESSIONS {
-            let mut session = next[n];
-            let words = self.registers();
-            session.registers = words;
-            session.scanned = true;
-            next[n] = session;
+        let mut next = session;
+        match self {
+            Forwarded::Nothing => {}
+            Forwarded::Registers(stack) => {
+                let words = stack.registers();
+                next.registers = words;
+            }
         }
+        next.scanned = true;
         next
     }
 }
@@ -79,8 +84,8 @@ pub enum Touch {
     Marks,
     // a global, and its word
     Global(usize, u32),
-    // a session, marked as scanned, and its registers
-    Session(usize, Stack),
+    // a session, marked as scanned, and what of it was forwarded
+    Session(usize, Forwarded),
 }
 
 // What a unit of work hands out, its words being written already: the number of the refusal, or the collector's next

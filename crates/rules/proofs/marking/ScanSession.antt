@@ -1,20 +1,17 @@
 -- HeapMark, the list done: the white records among the registers of an unscanned session are shaded, and the session is scanned.
 use Prim.Native.Nat.{ℕ, _≤_}
 use mathlib.Core.Path.{_≡_, refl}
-use mathlib.Core.Bool.{Bool, true, false, cond}
-use mathlib.Core.List.{List, [], _∷_}
+use mathlib.Core.Bool.{true, false}
 use native.Mathlib.Omega.{arith}
-use lib.Dec.{eqb}
 use lib.ListN.{getD}
 use Rattle.rules.specs.Memory.{null}
-use Rattle.rules.specs.Control.{Store, withSessions, lastSession}
+use Rattle.rules.specs.Control.{Store, lastSession}
 use Rattle.rules.specs.Cycle.{stage}
 use Rattle.rules.specs.Phases.{absent, sessionAt, withMark, withSession}
-use Rattle.rules.specs.Barriers.{shade, shadeAll}
+use Rattle.rules.specs.Barriers.{shadeAll}
 use Rattle.rules.specs.Collector.{scanSession}
 use Rattle.rules.specs.Free.{Free, freeSession}
-use Rattle.rules.specs.declared.Session.{Session}
-use Rattle.rules.proofs.Shaded.{shaded}
+use Rattle.rules.proofs.Shaded.{shade-all-sessions}
 use Rattle.rules.proofs.invariant.Stages.{stHeapMark}
 use Rattle.rules.proofs.invariant.Words.{Clean}
 use Rattle.rules.proofs.invariant.Protected.{clean-covered}
@@ -30,20 +27,6 @@ use Rattle.rules.proofs.marking.ShadeAll.{ShadedAll, shading-all-marks}
 -- session n marked scanned
 abbrev scanned : Store → ℕ → Store
 scanned s n = withSession s n (withMark (sessionAt s n) true)
-
--- ---- marked before shading or after it, that is the same
-
-shade-sessions : (s : Store) (xs : List Session) (v : ℕ) → shade (withSessions s xs) v ≡ withSessions (shade s v) xs
-unfolding shade
-shade-sessions s xs v = pick (eqb v null)
-  where
-    pick : (b : Bool) → cond b (withSessions s xs) (shaded (withSessions s xs) v) ≡ withSessions (cond b s (shaded s v)) xs
-    pick true = refl
-    pick false = refl
-
-shade-all-sessions : (vs : List ℕ) (s : Store) (xs : List Session) → shadeAll (withSessions s xs) vs ≡ withSessions (shadeAll s vs) xs
-shade-all-sessions [] s xs = refl
-shade-all-sessions (v ∷ vs) s xs = rw (shade-sessions s xs v) (shade-all-sessions vs (shade s v) xs)
 
 -- ---- a session whose registers are clean may be marked
 scanned-sim : {K : ℕ → Type 0} {m : ℕ → ℕ} {s : Store} {f : Free} → Sim K m s f → stage (s .phase) ≡ stHeapMark → (n : ℕ) → n ≤ lastSession

@@ -1,31 +1,32 @@
 -- The arms of the phases that mark.
 use Prim.Native.Nat.{ℕ, _+_, _-_, _≤_, _<_}
-use mathlib.Core.Path.{_≡_, _∙_, sym, ap}
-use mathlib.Core.Bool.{Bool, true, false, cond, not, _&&_, false≢true}
-use mathlib.Core.List.{List, map}
+use mathlib.Core.Path.{_≡_, _∙_, sym, refl, ap}
+use mathlib.Core.Bool.{true, false}
+use mathlib.Core.List.{List, [], _∷_, map}
 use native.Mathlib.Omega.{arith}
-use lib.Dec.{leb}
-use lib.ListN.{length, length-map, getD, set, take}
-use lib.Seq.{getD-take, length-take-le, sets}
-use borrow.Author.Tests.{lt-ltb, le-ltb, le-leb, lt-leb, leb-true, leb-false, not-true, not-false}
-use Rattle.rules.specs.Refusals.{Tested, refused, passed}
-use Rattle.rules.specs.Memory.{Memory, word, put, refs, sound, followed, colourAt, grey, black, header}
-use Rattle.rules.specs.Control.{Store, withMemory, withWalk, withList, globalCount}
+use lib.ListN.{length, length-map, getD, set}
+use borrow.Author.Tests.{lt-ltb, le-ltb, le-leb, lt-leb}
+use Rattle.rules.specs.Refusals.{Tested, refused, passed, _>>=_}
+use Rattle.rules.specs.Memory.{Memory, half, word, put, colour, refs, sound, followed, colourAt, grey, black, header}
+use Rattle.rules.specs.Control.{Store, withMemory, withWalk, withList, withSessions, globalCount}
 use Rattle.rules.specs.Phases.{moveOn, lowestUnmarked, absent, sessionAt, withSession, withMark}
 use Rattle.rules.specs.Barriers.{heapOf, listRoom, shading, shade, toShadeAll, listing, shadingAll, shadeAll}
 use Rattle.rules.specs.Collector.{rootMark, scanRecord, scanSession, heapMark}
+use Rattle.rules.proofs.Shaded.{shade-all-sessions}
 use Rattle.heap.specs.View.{memory, checked, Inside}
 use Rattle.heap.specs.declared.Checked.{Checked}
 use Rattle.heap.specs.declared.Checked.the-variants as check
 use Rattle.heap.proofs.Soundness.{Found, header-inside}
 use Rattle.heap.proofs.Fields.{ref-inside}
-use Rattle.heap.proofs.Plans.{shading-known, whites-sound}
+use Rattle.heap.proofs.Passed.{bind-passed, same-passed}
+use Rattle.heap.proofs.Plans.{shading-known}
 use Rattle.store.specs.Cursors.{having, Ready}
-use Rattle.store.specs.Marking.{shadeNext, whites, greyed}
+use Rattle.store.specs.Marking.{shadeNext, counted, whiteCount, whitesAmong, ending}
 use Rattle.store.specs.declared.Cursor.{Cursor}
-use Rattle.store.specs.declared.scanning.Whites.{Whites}
+use Rattle.store.specs.declared.scanning.Counted.{Counted}
+use Rattle.store.specs.declared.scanning.Counted.the-variants as count
 use Rattle.store.proofs.shading.Shade.{shade-null, shade-record}
-use Rattle.store.proofs.shading.ShadeAll.{all-shaded}
+use Rattle.store.proofs.shading.Counting.{tested-whites, tested-sound}
 
 -- ---- shading as a step of a walk, by what the test of its reference answered
 
@@ -117,72 +118,70 @@ module _ (s : Store) (n : ℕ) where
     unfolding scanSession shadingAll listing listRoom
     session-scanned h = rw (e, le-leb (s .list .tail + length vs) (length (s .list .words)) h)
 
--- by the code's test: the registers are sound, and c entries fit behind i in a list of m
-accepted-whites : {x : Tested (List ℕ)} (i m c : ℕ) (vs : List ℕ) (a : Bool) → i ≤ m → cond a (passed vs) (refused 12) ≡ x
-    → not (a && leb c (m - i)) ≡ false → (x ≡ passed vs) × (i + c ≤ m)
-accepted-whites i m c vs true k e t =
-    let f = leb-true c (m - i) (not-false _ t) in
-    (sym e, omega arith)
-accepted-whites i m c vs false k e t = absurd (false≢true (sym t))
+uncounted : (t : Tested (List ℕ)) → (t >>= λ ws. passed (length ws)) ≡ refused 12 → t ≡ refused 12
+uncounted (refused n) e = ap (λ (t : Tested ℕ). t >>= λ m. passed []) e
+uncounted (passed ws) e = absurd (let z : _≡_ {A = ℕ} 0 1 = cc in omega arith)
 
-refused-whites : (s : Store) (n c : ℕ) (vs : List ℕ) (a : Bool) → s .list .tail ≤ length (s .list .words) → length vs ≡ c
-    → cond a (passed vs) (refused 12) ≡ toShadeAll (s .memory) (sessionAt s n .registers)
-    → not (a && leb c (length (s .list .words) - s .list .tail)) ≡ true → scanSession s n ≡ refused 12
-refused-whites s n c vs true k l e t =
-    let f = leb-false c (length (s .list .words) - s .list .tail) (not-true _ t) in
-    session-full s n vs (sym e) (omega arith)
-refused-whites s n c vs false k l e t = session-damage s n (sym e)
+-- a record's colour doesn't depend on the frontiers
+whites-any : (h0 h1 : List ℕ) (f0 f1 : ℕ) (vs : List ℕ) → whitesAmong (memory h0 h1 0 0) vs ≡ whitesAmong (memory h0 h1 f0 f1) vs
+unfolding colour word half
+whites-any h0 h1 f0 f1 [] = refl
+whites-any h0 h1 f0 f1 (v ∷ vs) = rw (whites-any h0 h1 f0 f1 vs)
 
--- what is known where the registers vs gave w
-pub record Scanning (c : Cursor) (h0 h1 l vs : List ℕ) (w : Whites) : Type 0 where
+-- what is known where the registers vs were tested and counted with the answer w
+pub record Scanning (c : Cursor) (h0 h1 l vs : List ℕ) (w : Counted) : Type 0 where
   pub ranges : Ready c h0 h1
   pub ends : c .tail ≤ length l
-  pub few : w .count ≤ length (w .words)
-  pub answer : whites w ≡ toShadeAll (memory h0 h1 (c .frontier0) (c .frontier1)) vs
+  pub answer : counted w ≡ whiteCount (memory h0 h1 (c .frontier0) (c .frontier1)) vs
 
-module _ {c : Cursor} {h0 h1 l vs : List ℕ} {w : Whites} (k : Scanning c h0 h1 l vs w) where
-  counted : length (take (w .count) (w .words)) ≡ w .count
-  counted = length-take-le (w .count) (w .words) (k .few)
+module _ {c : Cursor} {h0 h1 l vs : List ℕ} {w : Counted} (k : Scanning c h0 h1 l vs w) where
+  abbrev M : Memory
+  M = memory h0 h1 (c .frontier0) (c .frontier1)
 
-  module _ (t : not (w .sound && leb (w .count) (length l - c .tail)) ≡ false) where
-    accepted : (toShadeAll (memory h0 h1 (c .frontier0) (c .frontier1)) vs ≡ passed (take (w .count) (w .words))) × (c .tail + w .count ≤ length l)
-    accepted = accepted-whites (c .tail) (length l) (w .count) (take (w .count) (w .words)) (w .sound) (k .ends) (k .answer) t
+  abbrev S : Store → Store
+  S s = having s c h0 h1 l
 
-    pub session-room : c .tail + w .count ≤ length l
-    session-room = accepted .1
+  -- the registers are those of session n of the store
+  registers-of : (s : Store) (n : ℕ) → vs ≡ getD (s .sessions) n absent .registers → sessionAt (S s) n .registers ≡ vs
+  unfolding sessionAt
+  registers-of s n g = sym g
 
-    pub session-inside : (j : ℕ) → j < w .count → Inside h0 h1 (getD (w .words) j 0) colourAt
-    session-inside j h =
-        let r : j < length (take (w .count) (w .words)) = rw counted h in
-        let f = whites-sound (memory h0 h1 (c .frontier0) (c .frontier1)) vs (take (w .count) (w .words)) (accepted .0) j r in
-        header-inside h0 h1 (c .frontier0) (c .frontier1) (getD (w .words) j 0)
-        (rw (getD-take (w .count) (w .words) j 0 h) at f) (k .ranges .low) (k .ranges .high) 1 (omega arith)
+  pub scan-damage : (s : Store) (n : ℕ) → vs ≡ getD (s .sessions) n absent .registers → w ≡ count.Damage → scanSession (S s) n ≡ refused 12
+  scan-damage s n g d = session-damage (S s) n (rw (registers-of s n g) (uncounted (toShadeAll M vs) (sym (k .answer) ∙ ap counted d)))
 
-  -- of a store whose session n has these registers
-  module _ (s : Store) (n : ℕ) (g : vs ≡ getD (s .sessions) n absent .registers) where
-    told : whites w ≡ toShadeAll (memory h0 h1 (c .frontier0) (c .frontier1)) (sessionAt (having s c h0 h1 l) n .registers)
-    unfolding sessionAt
-    told = k .answer ∙ ap (toShadeAll (memory h0 h1 (c .frontier0) (c .frontier1))) g
+  module _ {m : ℕ} (d : w ≡ count.Whites m) where
+    tested : (toShadeAll M vs ≡ passed (whitesAmong M vs)) × (length (whitesAmong M vs) ≡ m)
+    tested =
+        let a = bind-passed (toShadeAll M vs) (λ (ws : List ℕ). passed (length ws)) (sym (k .answer) ∙ ap counted d) in
+        let e = tested-whites M vs (a .0) (a .1) in
+        (a .1 ∙ ap passed e, rw (← e) (same-passed (a .2)))
 
-    pub session-refused : not (w .sound && leb (w .count) (length l - c .tail)) ≡ true → scanSession (having s c h0 h1 l) n ≡ refused 12
-    session-refused = refused-whites (having s c h0 h1 l) n (w .count) (take (w .count) (w .words)) (w .sound) (k .ends) counted told
+    -- what the second pass asks
+    pub scan-inside : (j : ℕ) → j < length vs → (getD vs j 0 ≡ 0 → ⊥) → Inside h0 h1 (getD vs j 0) colourAt
+    scan-inside j h n =
+        header-inside h0 h1 (c .frontier0) (c .frontier1) (getD vs j 0) (tested-sound M vs (whitesAmong M vs) (tested .0) j h n)
+        (k .ranges .low) (k .ranges .high) colourAt (omega arith)
 
-    module _ (t : not (w .sound && leb (w .count) (length l - c .tail)) ≡ false) where
-      session-accepted : scanSession (having s c h0 h1 l) n
-          ≡ passed (shadeAll (withSession (having s c h0 h1 l) n (withMark (sessionAt (having s c h0 h1 l) n) true)) (take (w .count) (w .words)))
-      session-accepted =
-          session-scanned (having s c h0 h1 l) n (take (w .count) (w .words)) (sym told ∙ k .answer ∙ accepted t .0) (rw counted (accepted t .1))
+    pub scan-last : c .tail + m ≡ c .tail + length (whitesAmong (memory h0 h1 0 0) vs)
+    scan-last = rw (whites-any h0 h1 (c .frontier0) (c .frontier1) vs) (ap (λ (n : ℕ). c .tail + n) (sym (tested .1)))
 
-      -- the white records shaded, by the words that are written, and the session marked
-      pub session-shaded : {N : Memory} {ws : List ℕ}
-          → N ≡ greyed (memory h0 h1 (c .frontier0) (c .frontier1)) (take (w .count) (w .words)) → ws ≡ sets l (c .tail) (take (w .count) (w .words))
-          → scanSession (having s c h0 h1 l) n
-          ≡ passed (withSession (withList (withMemory (having s c h0 h1 l) N) ws (c .head) (c .tail + w .count)) n (withMark (sessionAt (having s c h0 h1 l) n) true))
-      session-shaded m d =
-          let named : (j : ℕ) → j < length (take (w .count) (w .words)) → getD (take (w .count) (w .words)) j 0 ≡ 0 → ⊥ =
-          λ j h e. let h : j < w .count = rw counted at h in let i = session-inside t j h in omega (arith, i .named, getD-take (w .count) (w .words) j 0 h) in
-          session-accepted
-          ∙ ap passed (all-shaded (having s c h0 h1 l) n (withMark (sessionAt (having s c h0 h1 l) n) true) (take (w .count) (w .words)) named m d ∙ rw counted)
+    module _ (s : Store) (n : ℕ) (g : vs ≡ getD (s .sessions) n absent .registers) where
+      tested-of : toShadeAll M (sessionAt (S s) n .registers) ≡ passed (whitesAmong M vs)
+      tested-of = rw (registers-of s n g) (tested .0)
+
+      pub scan-full : length l - c .tail < m → scanSession (S s) n ≡ refused 12
+      scan-full h = session-full (S s) n (whitesAmong M vs) tested-of (omega (arith, tested .1, k .ends))
+
+      -- the records shaded, by the words and the list that are written, and the session marked
+      pub scan-shaded : {g0 g1 ws : List ℕ} → m ≤ length l - c .tail
+          → ((s : Store) → ending s g0 g1 ws (c .tail + m) ≡ shadeAll (ending s h0 h1 l (c .tail)) (whitesAmong (memory h0 h1 0 0) vs))
+          → scanSession (S s) n ≡ passed (withSession (ending (S s) g0 g1 ws (c .tail + m)) n (withMark (sessionAt (S s) n) true))
+      unfolding withSession
+      scan-shaded h f =
+          let xs = set (s .sessions) n (withMark (sessionAt (S s) n) true) in
+          let e = f (S s) ∙ ap (shadeAll (S s)) (whites-any h0 h1 (c .frontier0) (c .frontier1) vs) in
+          session-scanned (S s) n (whitesAmong M vs) tested-of (omega (arith, tested .1, k .ends))
+          ∙ ap passed (shade-all-sessions (whitesAmong M vs) (S s) xs ∙ ap (λ (t : Store). withSessions t xs) (sym e))
 
 -- the length of an array of structs
 pub unmapped : (A B : Type 0) (f : A → B) (l : List A) (n : ℕ) → length (map f l) ≡ n → length l ≡ n

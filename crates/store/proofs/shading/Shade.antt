@@ -1,14 +1,18 @@
 -- Shading as the code does it, and the bounds that the functions over lent halves ask for.
 use Prim.Native.Nat.{ℕ, _+_, _≤_}
 use mathlib.Core.Path.{_≡_, ap, refl}
+use mathlib.Core.Bool.{cond}
 use mathlib.Core.List.{List}
 use native.Mathlib.Omega.{arith}
+use native.Mathlib.Nat.{add-zero}
+use lib.Dec.{eqb}
 use lib.ListN.{length, set}
 use borrow.Author.Tests.{eq-eqb, ne-eqb}
 use Rattle.rules.specs.Memory.{Memory, put, colourAt, grey}
 use Rattle.rules.specs.Control.{Store, withMemory, withList}
 use Rattle.rules.specs.Barriers.{Heap, heapOf, shade}
 use Rattle.rules.proofs.Ranges.{InRange}
+use Rattle.rules.proofs.memory.Cases.{bool-or, chosen-below}
 use Rattle.rules.proofs.Shaded.{shade-either}
 use Rattle.heap.specs.View.{heap, Within}
 use Rattle.heap.specs.declared.Bounds.{Bounds}
@@ -29,9 +33,14 @@ shade-record s v n e d = rw (ne-eqb v 0 n, e, d)
 pub shade-globals : (s : Store) (v : ℕ) → shade s v .globals ≡ s .globals
 shade-globals s v = shade-either (λ t. t .globals ≡ s .globals) s v refl refl
 
--- the list gets one entry at most
-pub shade-end : (s : Store) (v : ℕ) → shade s v .list .tail ≤ s .list .tail + 1
-shade-end s v = shade-either (λ t. t .list .tail ≤ s .list .tail + 1) s v (omega arith) (omega arith)
+-- the list gets an entry where there is a record to shade, so one at most
+module _ (s : Store) (v : ℕ) where
+  pub shade-tail : shade s v .list .tail ≡ s .list .tail + cond (eqb v 0) 0 1
+  unfolding shade
+  shade-tail = bool-or (eqb v 0) (λ t. rw (t, add-zero)) (λ f. rw f)
+
+  pub shade-end : shade s v .list .tail ≤ s .list .tail + 1
+  shade-end = omega (arith, shade-tail, chosen-below (eqb v 0) 0 1 1 (omega arith) (omega arith))
 
 -- ---- bounds
 

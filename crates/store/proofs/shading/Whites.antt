@@ -1,134 +1,123 @@
--- The different white records, collected from the left: a word already met is passed over.
-use Prim.Native.Nat.{ℕ, suc, _+_, _≤_, _<_}
+-- The white records among references, each once: what one reference more adds, and when none is left to add.
+use Prim.Native.Nat.{ℕ, zero, suc, _+_, _-_, _≤_, _<_}
 use mathlib.Core.Path.{_≡_, _∙_, sym, refl, ap}
-use mathlib.Core.Bool.{Bool, true, false, cond, _||_, or-false, or-true, or-assoc}
-use mathlib.Core.List.{List, [], _∷_, _++_, append-assoc, append-nil}
+use mathlib.Core.Logic.{_⊎_, inl, inr}
+use mathlib.Core.Bool.{Bool, true, false, cond, _||_, or-false, or-assoc}
+use mathlib.Core.List.{List, [], _∷_, _++_}
 use native.Mathlib.Omega.{arith}
 use native.Mathlib.Nat.{add-zero}
 use native.Mathlib.Numerals.{add-one}
 use lib.Dec.{eqb}
-use lib.ListN.{length, take, drop, set, getD, drop-of-length-le}
-use lib.Seq.{drop-cons, take-suc-set, take-set-le, getD-take, length-take-le}
-use borrow.Author.Tests.{eqb-true, eqb-false, eq-eqb, ne-eqb}
-use Rattle.rules.specs.Refusals.{Tested, refused, passed, _>>=_}
-use Rattle.rules.specs.Memory.{Memory}
-use Rattle.rules.specs.Barriers.{toShade, without, toShadeAll}
-use Rattle.heap.specs.declared.Checked.{Checked}
-use Rattle.heap.specs.declared.Checked.the-variants as check
-use Rattle.store.specs.Marking.{among}
+use lib.ListN.{length, take, getD, length-append}
+use lib.Seq.{take-suc, take-all}
+use borrow.Author.Tests.{eqb-true, eq-eqb, ne-eqb}
+use Rattle.rules.specs.Memory.{Memory, colour, white}
+use Rattle.rules.specs.Barriers.{without}
+use Rattle.rules.proofs.memory.Cases.{bool-or, either, eqb-swap}
+use Rattle.heap.specs.View.{ifWhite}
+use Rattle.store.specs.Marking.{among, whitesAmong}
 
--- ---- words already met
+-- ---- words, one more at their end
 
-among-more : (v w : ℕ) (xs : List ℕ) → among v (xs ++ (w ∷ [])) ≡ (among v xs || eqb v w)
+pub among-more : (v w : ℕ) (xs : List ℕ) → among v (xs ++ (w ∷ [])) ≡ (among v xs || eqb v w)
 among-more v w [] = or-false (eqb v w)
 among-more v w (x ∷ xs) = ap (λ (b : Bool). eqb v x || b) (among-more v w xs) ∙ sym (or-assoc (eqb v x) (among v xs) (eqb v w))
 
--- a search for v along the first n words, at word i
-module _ (v : ℕ) (words : List ℕ) (n i : ℕ) (m : n ≤ length words) (e : among v (take n words) ≡ among v (drop i (take n words))) where
-  pub search-found : i < n → getD words i 0 ≡ v → _≡_ {A = ℕ} 0 (cond (eqb v 0 || among v (take n words)) 0 1)
-  search-found h g =
-      let l : i < length (take n words) = rw (length-take-le n words m) h in
-      let f : among v (take n words) ≡ true = e ∙ rw (drop-cons (take n words) i 0 l, getD-take n words i 0 h, eq-eqb v (getD words i 0) (sym g)) in
-      rw (f, or-true (eqb v 0))
+without-more : (w u : ℕ) (xs : List ℕ) → without w (xs ++ (u ∷ [])) ≡ cond (eqb w u) (without w xs) (without w xs ++ (u ∷ []))
+without-more w u [] = refl
+without-more w u (x ∷ xs) = bool-or (eqb w x)
+    (λ t. rw t (without-more w u xs))
+    (λ f. bool-or (eqb w u) (λ a. rw (f, without-more w u xs, a)) (λ a. rw (f, without-more w u xs, a)))
 
-  pub search-on : i < n → (getD words i 0 ≡ v → ⊥) → among v (take n words) ≡ among v (drop (i + 1) (take n words))
-  search-on h g =
-      let l : i < length (take n words) = rw (length-take-le n words m) h in
-      e ∙ rw (drop-cons (take n words) i 0 l, getD-take n words i 0 h, add-one i, ne-eqb v (getD words i 0) (λ z. g (sym z)))
+-- taking out another word leaves v among them
+among-without : (v w : ℕ) (xs : List ℕ) → eqb v w ≡ false → among v (without w xs) ≡ among v xs
+among-without v w [] d = refl
+among-without v w (x ∷ xs) d = bool-or (eqb w x)
+    (λ t. let e : eqb v x ≡ false = rw (eqb-true w x t) at d in rw (t, e) (among-without v w xs d))
+    (λ f. rw f (ap (λ (b : Bool). eqb v x || b) (among-without v w xs d)))
 
-  pub search-ended : (v ≡ 0 → ⊥) → n ≤ i → _≡_ {A = ℕ} 1 (cond (eqb v 0 || among v (take n words)) 0 1)
-  search-ended z h =
-      let l : length (take n words) ≤ i = rw (length-take-le n words m) h in
-      let f : among v (take n words) ≡ false = e ∙ rw (drop-of-length-le (take n words) {i = i} l) in
-      rw (f, ne-eqb v 0 z)
+-- ---- one reference more
 
--- ---- the rest of the words, without those met
+-- the records found, and w behind them where it is a new one
+abbrev pub added : ℕ → List ℕ → List ℕ
+added w ws = cond (eqb w 0 || among w ws) ws (ws ++ (w ∷ []))
 
-abbrev others : List ℕ → List ℕ → List ℕ
-others xs [] = []
-others xs (w ∷ ws) = cond (among w xs) (others xs ws) (w ∷ others xs ws)
+pub one-counted : (b : Bool) (w : ℕ) (ws : List ℕ) → length (cond b ws (ws ++ (w ∷ []))) ≡ length ws + cond b 0 1
+one-counted true w ws = sym (add-zero (length ws))
+one-counted false w ws = length-append ws (w ∷ [])
 
-others-nil : (ws : List ℕ) → others [] ws ≡ ws
-others-nil [] = refl
-others-nil (w ∷ ws) = ap (λ (t : List ℕ). w ∷ t) (others-nil ws)
+-- a record found before all others makes no difference to what is added behind them
+abbrev Behind : ℕ → ℕ → List ℕ → Type 0
+Behind y w ws = cond (eqb y 0) (added w ws) (y ∷ without y (added w ws)) ≡ added w (cond (eqb y 0) ws (y ∷ without y ws))
 
--- a word met needs no taking out
-known-at : (xs ws : List ℕ) (w u : ℕ) (b : Bool) → eqb w u ≡ b → among w xs ≡ true → others xs (without w ws) ≡ others xs ws
-    → others xs (cond b (without w ws) (u ∷ without w ws)) ≡ others xs (u ∷ ws)
-known-at xs ws w u true q e h = let k : among u xs ≡ true = rw (eqb-true w u q) at e in rw (k, h)
-known-at xs ws w u false q e h = rw h
+added-behind : (y w : ℕ) (ws : List ℕ) → Behind y w ws
+added-behind y w ws = bool-or (eqb y 0) (λ a. rw a) (λ a. bool-or (eqb w 0) (λ b. rw (a, b)) (λ b. bool-or (eqb w y) (same a b) (other a b)))
+  where
+    same : eqb y 0 ≡ false → eqb w 0 ≡ false → eqb w y ≡ true → Behind y w ws
+    same a b c =
+        let d : eqb y w ≡ true = eqb-swap y w ∙ c in
+        bool-or (among w ws) (λ e. rw (a, b, c, e)) (λ e. rw (a, b, c, e, without-more y w ws, d))
 
-others-known : (xs : List ℕ) (w : ℕ) (ws : List ℕ) → among w xs ≡ true → others xs (without w ws) ≡ others xs ws
-others-known xs w [] e = refl
-others-known xs w (u ∷ ws) e = known-at xs ws w u (eqb w u) refl e (others-known xs w ws e)
+    other : eqb y 0 ≡ false → eqb w 0 ≡ false → eqb w y ≡ false → Behind y w ws
+    other a b c =
+        let d : eqb y w ≡ false = eqb-swap y w ∙ c in
+        bool-or (among w ws) (λ e. rw (a, b, c, among-without w y ws c, e)) (λ e. rw (a, b, c, among-without w y ws c, e, without-more y w ws, d))
 
--- a word taken out is one more word met
-more-at : (xs ws : List ℕ) (w u : ℕ) (b : Bool) → eqb w u ≡ b → others xs (without w ws) ≡ others (xs ++ (w ∷ [])) ws
-    → others xs (cond b (without w ws) (u ∷ without w ws)) ≡ others (xs ++ (w ∷ [])) (u ∷ ws)
-more-at xs ws w u true q h =
-    let k : among u (xs ++ (w ∷ [])) ≡ true = rw (among-more u w xs, eq-eqb u w (sym (eqb-true w u q))) (or-true (among u xs)) in
-    rw (k, h)
-more-at xs ws w u false q h =
-    let k : among u (xs ++ (w ∷ [])) ≡ among u xs = rw (among-more u w xs, ne-eqb u w (λ z. eqb-false w u q (sym z))) (or-false (among u xs)) in
-    rw (k, h)
+one-more : (M : Memory) (vs : List ℕ) (v : ℕ) → whitesAmong M (vs ++ (v ∷ [])) ≡ added (ifWhite M v) (whitesAmong M vs)
+one-more M [] v = rw or-false
+one-more M (x ∷ vs) v = rw (one-more M vs v) (added-behind (ifWhite M x) (ifWhite M v) (whitesAmong M vs))
 
-others-more : (xs : List ℕ) (w : ℕ) (ws : List ℕ) → others xs (without w ws) ≡ others (xs ++ (w ∷ [])) ws
-others-more xs w [] = refl
-others-more xs w (u ∷ ws) = more-at xs ws w u (eqb w u) refl (others-more xs w ws)
+-- a white record is among those found exactly where its reference is among the references
+module _ (M : Memory) (v : ℕ) (n : v ≡ 0 → ⊥) (c : colour M v ≡ white) where
+  white-next : (x : ℕ) (vs : List ℕ) → among v (whitesAmong M vs) ≡ among v vs → among v (whitesAmong M (x ∷ vs)) ≡ among v (x ∷ vs)
+  white-next x vs e = bool-or (eqb v x) same other
+    where
+      same : eqb v x ≡ true → among v (whitesAmong M (x ∷ vs)) ≡ among v (x ∷ vs)
+      same t = rw (← eqb-true v x t, c, ne-eqb v 0 n, eq-eqb v v refl)
 
--- ---- one more register
+      other : eqb v x ≡ false → among v (whitesAmong M (x ∷ vs)) ≡ among v (x ∷ vs)
+      other f = bool-or (eqb (colour M x) 0)
+          (λ t. bool-or (eqb x 0) (λ z. rw (t, z, f) e) (λ z. rw (t, z, f, among-without v x (whitesAmong M vs) f) e))
+          (λ t. rw (t, f) e)
 
--- the words met with w, where it is a new white one
-abbrev added : ℕ → List ℕ → List ℕ
-added w xs = cond (eqb w 0 || among w xs) xs (xs ++ (w ∷ []))
+  pub white-among : (vs : List ℕ) → among v (whitesAmong M vs) ≡ among v vs
+  white-among [] = refl
+  white-among (x ∷ vs) = white-next x vs (white-among vs)
 
-next-at : (xs ws : List ℕ) (w : ℕ) (a b : Bool) → among w xs ≡ b
-    → xs ++ others xs (cond a ws (w ∷ without w ws)) ≡ cond (a || b) xs (xs ++ (w ∷ [])) ++ others (cond (a || b) xs (xs ++ (w ∷ []))) ws
-next-at xs ws w true b e = refl
-next-at xs ws w false true e = rw (e, others-known xs w ws e)
-next-at xs ws w false false e = rw (e, others-more xs w ws, append-assoc xs (w ∷ []) (others (xs ++ (w ∷ [])) ws))
+module _ (M : Memory) (vs : List ℕ) where
+  -- those among the first i references
+  abbrev pub up-to : ℕ → List ℕ
+  up-to i = whitesAmong M (take i vs)
 
--- the words met, and then what the other registers give
-abbrev pub joined : List ℕ → Tested (List ℕ) → Tested (List ℕ)
-joined xs t = t >>= λ ws. passed (xs ++ others xs ws)
+  pub up-to-next : (i : ℕ) → i < length vs → up-to (i + 1) ≡ added (ifWhite M (getD vs i 0)) (up-to i)
+  up-to-next i h = rw (add-one i, take-suc vs i 0 h) (one-more M (take i vs) (getD vs i 0))
 
-next-joined : (xs : List ℕ) (w : ℕ) (t : Tested (List ℕ))
-    → joined xs (t >>= λ ws. passed (cond (eqb w 0) ws (w ∷ without w ws))) ≡ joined (added w xs) t
-next-joined xs w (refused n) = refl
-next-joined xs w (passed ws) = ap passed (next-at xs ws w (eqb w 0) (among w xs) refl)
+  pub up-to-all : (i : ℕ) → length vs ≤ i → up-to i ≡ whitesAmong M vs
+  up-to-all i h = ap (whitesAmong M) (take-all i vs h)
 
--- the code's words: w is put behind those met, and counted where it is new
-counted : (words : List ℕ) (n w : ℕ) (b : Bool) → n < length words
-    → take (n + cond b 0 1) (set words n w) ≡ cond b (take n words) (take n words ++ (w ∷ []))
-counted words n w true h = let l : n ≤ n = omega arith in rw (add-zero, take-set-le n words n w)
-counted words n w false h = rw (add-one n, take-suc-set words n w)
+  -- the first i references give all of them, or fewer
+  abbrev AllOrFewer : ℕ → Type 0
+  AllOrFewer i = (up-to i ≡ whitesAmong M vs) ⊎ (length (up-to i) < length (whitesAmong M vs))
 
-module _ (M : Memory) (registers words : List ℕ) (n i : ℕ) (h : i < length registers) where
-  pub register-damage : toShade M (getD registers i 0) ≡ refused 12 → joined (take n words) (toShadeAll M (drop i registers)) ≡ refused 12
-  register-damage e = rw (drop-cons registers i 0, e)
+  -- register i adds nothing
+  abbrev nothing : ℕ → Bool
+  nothing i = eqb (ifWhite M (getD vs i 0)) 0 || among (ifWhite M (getD vs i 0)) (up-to i)
 
-  pub register-met : {w k : ℕ} → n < length words → toShade M (getD registers i 0) ≡ passed w
-      → k ≡ cond (eqb w 0 || among w (take n words)) 0 1
-      → joined (take n words) (toShadeAll M (drop i registers)) ≡ joined (take (n + k) (set words n w)) (toShadeAll M (drop (i + 1) registers))
-  register-met {w} l e c =
-      rw (c, drop-cons registers i 0, e, add-one i, counted words n w (eqb w 0 || among w (take n words)) l)
-      (next-joined (take n words) w (toShadeAll M (drop (suc i) registers)))
+  one-fewer : (i : ℕ) → i < length vs → AllOrFewer (i + 1) → AllOrFewer i
+  one-fewer i h o = bool-or (nothing i) known new
+    where
+      known : nothing i ≡ true → AllOrFewer i
+      known t = let d : up-to (i + 1) ≡ up-to i = rw t at (up-to-next i h) in rw d at o
 
--- one more word at most
-one-at-most : (b : Bool) {k : ℕ} → k ≡ cond b 0 1 → k ≤ 1
-one-at-most true e = omega arith
-one-at-most false e = omega arith
+      new : nothing i ≡ false → AllOrFewer i
+      new f =
+          let m : length (up-to (i + 1)) ≡ length (up-to i) + 1 = rw (up-to-next i h, f) (length-append (up-to i) (ifWhite M (getD vs i 0) ∷ [])) in
+          either o (λ a. let l = ap length a in inr (omega arith)) (λ l. inr (omega arith))
 
-pub few-more : {r : Checked} {w k : ℕ} (xs : List ℕ) → r ≡ check.Word w → k ≡ cond (eqb w 0 || among w xs) 0 1 → k ≤ 1
-few-more {w = w} xs d e = one-at-most (eqb w 0 || among w xs) e
+  all-or-fewer : (k i : ℕ) → i + k ≡ length vs → AllOrFewer i
+  all-or-fewer zero i e = inl (up-to-all i (omega arith))
+  all-or-fewer (suc k) i e = one-fewer i (omega arith) (all-or-fewer k (i + 1) (omega arith))
 
--- before the first register, and after the last
-unmet : (t : Tested (List ℕ)) → joined [] t ≡ t
-unmet (refused n) = refl
-unmet (passed ws) = ap passed (others-nil ws)
-
-pub first-joined : (M : Memory) (registers : List ℕ) → toShadeAll M registers ≡ joined [] (toShadeAll M (drop 0 registers))
-first-joined M registers = sym (unmet (toShadeAll M registers))
-
-pub last-joined : (M : Memory) (registers xs : List ℕ) (i : ℕ) → length registers ≤ i → joined xs (toShadeAll M (drop i registers)) ≡ passed xs
-last-joined M registers xs i h = rw (drop-of-length-le registers {i = i} h, append-nil)
+  -- where the first i references give as many, they give all
+  pub none-left : (i : ℕ) → i ≤ length vs → length (whitesAmong M vs) ≤ length (up-to i) → up-to i ≡ whitesAmong M vs
+  none-left i h l = either (all-or-fewer (length vs - i) i (omega arith)) (λ a. a) (λ b. absurd (omega arith))

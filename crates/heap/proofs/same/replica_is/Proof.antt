@@ -24,7 +24,7 @@ get-word-requires c κs =
     header-inside _ _ _ _ _ (found _ _ (c .before .before .follow .ensures) (c .enum-told .given .1) .sound) (k .low) (k .high) replicaAt (search needs)
 
 returns-2 : tie.Need-returns-2
-returns-2 c = replica-compared _ _ (c .before .before .before .follow .ensures) (c .before .enum-told .given .1) _ (c .get-word .ensures _ _)
+returns-2 c = replica-compared _ _ (c .before .before .before .follow .ensures) (c .before .enum-told .given .1) (c .get-word .ensures _ _) _
 
 pub replica-is-spec : {M : Type 1} → statement M
 replica-is-spec =

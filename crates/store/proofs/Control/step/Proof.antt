@@ -3,15 +3,23 @@ use mathlib.Core.Path.{_≡_}
 use native.Mathlib.Omega.{arith}
 use lib.ListN.{length}
 use lib.Seq.{set-out}
-use Rattle.rules.specs.Control.{globalCount}
+use Rattle.rules.specs.Control.{globalCount, sessionCount}
 use Rattle.rules.specs.Phases.{sessionAt, withSession}
+use Rattle.store.proofs.shading.Phases.{unmapped}
 use borrow.Author.Needs.{needs}
 use Rattle.store.proofs.Control.step.Statement.{statement}
 use Rattle.store.proofs.Control.step.Tie as tie
 
--- the number of globals
-count : (c : tie.Start) → length (c .args .t1 .globals) ≡ globalCount
-count c = search needs
+-- the numbers of globals and sessions
+globals : (c : tie.Start) → length (c .args .t1 .globals) ≡ globalCount
+globals c = search needs
+
+sessions : (c : tie.Start) → length (c .args .t1 .sessions) ≡ sessionCount
+sessions c = search (needs, unmapped)
+
+-- the entry, from where the work has handed out the next numbers
+abbrev entry : tie.After-work3 → tie.Start
+entry w = w .before .before .before .before .before .before .before .before .before .before .before .before .before .before .before
 
 work-requires : tie.Need-work-requires
 work-requires c κs = search needs
@@ -43,8 +51,20 @@ element-write-self c = search needs
 enum-known-touch-2 : tie.Need-enum-known-touch-2
 enum-known-touch-2 c = search needs
 
+mul-session : tie.Need-mul-session
+mul-session c = search needs
+
+element-copy-out-session : tie.Need-element-copy-out-session
+element-copy-out-session c = search needs
+
 marked-requires : tie.Need-marked-requires
 marked-requires c κs = search needs
+
+mul-marked : tie.Need-mul-marked
+mul-marked c = search needs
+
+element-set-from-marked : tie.Need-element-set-from-marked
+element-set-from-marked c = search needs
 
 same-length : tie.Need-same-length
 same-length c = search needs
@@ -113,9 +133,8 @@ returns-5 : tie.Need-returns-5
 returns-5 c =
     let w = c .before .before .before .before .before in
     let t = c .before .before .touch .given in
-    let start = w .before .before .before .before .before .before .before .before .before .before .before .before .before .before .before in
-    let k = count start in
-    rw (w .work3 .given .1, t .1, set-out (start .args .t1 .globals) (t .0 .0) (t .0 .1 .0) (omega arith)) at (w .before .before .before .before .before .before .before .before .work .ensures)
+    let start = entry w in
+    rw (w .work3 .given .1, t .1, set-out (start .args .t1 .globals) (t .0 .0) (t .0 .1 .0) (omega (arith, globals start))) at (w .before .before .before .before .before .before .before .before .work .ensures)
 
 same-length-16 : tie.Need-same-length-16
 same-length-16 c = search needs
@@ -129,8 +148,25 @@ same-length-18 c = search needs
 returns-6 : tie.Need-returns-6
 unfolding sessionAt withSession
 returns-6 c =
-    let w = c .before .before .before .before .before .before in
-    rw (c .marked .ensures) (rw (w .work3 .given .1, c .before .before .before .touch2 .given .1) at (w .before .before .before .before .before .before .before .before .work .ensures))
+    let w = c .before .before .before .before .before .before .before in
+    rw (c .marked .ensures) (rw (w .work3 .given .1, c .before .before .before .before .touch2 .given .1) at (w .before .before .before .before .before .before .before .before .work .ensures))
+
+same-length-19 : tie.Need-same-length-19
+same-length-19 c = search needs
+
+same-length-20 : tie.Need-same-length-20
+same-length-20 c = search needs
+
+same-length-21 : tie.Need-same-length-21
+same-length-21 c = search needs
+
+returns-7 : tie.Need-returns-7
+unfolding sessionAt withSession
+returns-7 c =
+    let w = c .before .before .before .before .before in
+    let t = c .before .before .touch2 .given in
+    let start = entry w in
+    rw (w .work3 .given .1, t .1, set-out (start .args .t1 .sessions) (t .0 .0) _ (omega (arith, sessions start))) at (w .before .before .before .before .before .before .before .before .work .ensures)
 
 pub step-spec : {M : Type 1} → statement M
 step-spec =
@@ -146,7 +182,11 @@ step-spec =
     mul-self
     element-write-self
     enum-known-touch-2
+    mul-session
+    element-copy-out-session
     marked-requires
+    mul-marked
+    element-set-from-marked
     same-length
     same-length-2
     same-length-3
@@ -170,4 +210,8 @@ step-spec =
     same-length-16
     same-length-17
     same-length-18
-    returns-6)
+    returns-6
+    same-length-19
+    same-length-20
+    same-length-21
+    returns-7)
