@@ -6,10 +6,11 @@ lent, and damaged memory. `slip` builds in a mistake of tests/slips.py, or sever
 see it.
 """
 from model import ATTACH, DETACH, SAFE, ALLOCATE, LOAD, STORE, READ, WRITE, MOVE, CLEAR, SAME, GET, PUT, STEP
-from slips import (ALLOCATE_ENDS_EARLY, ATTACHED_SCANNED, ATTACHED_UNSCANNED, BLACK_EARLY, COLOUR_THREE, COMPANION_BLIND, COUNTED_TWICE,
-                   DETACH_UNMARKS, FIELD_UNTESTED, LEVELS_ATTACHED, LISTED_TWICE, MARK_OF_BEFORE, MARKS_CLEARED, OLD_AT_1, OLD_IN_4_ALONE,
-                   OLD_LEFT, OLD_LEFT_AT_3, OLD_LEFT_BY_PUT, OLD_LEFT_IN_4, OLD_READ_LATE, OTHER_ORDER, PLACE_IN_HALF, STORED_LEFT,
-                   STRETCH_EARLY, WORDS_COMPARED)
+from slips import (ALLOCATE_ENDS_EARLY, ATTACHED_SCANNED, ATTACHED_UNSCANNED, BLACK_EARLY, COLOUR_THREE, COMPANION_BLIND, DETACH_UNMARKS,
+                   FIELD_UNTESTED, FIRST_LEFT, FULL_LIST_SLIPS, IN_TURN, LAST_FIRST, LEVELS_ATTACHED, LISTED_TWICE, MARK_OF_BEFORE,
+                   MARKS_CLEARED, OLD_AT_1, OLD_IN_4_ALONE, OLD_LEFT, OLD_LEFT_AT_3, OLD_LEFT_BY_PUT, OLD_LEFT_IN_4, OLD_READ_LATE,
+                   OTHER_ORDER, PASSED_OVER, PLACE_IN_HALF, ROOM_FOR_EIGHT, SCAN_ALONE, STORED_LEFT, STRETCH_EARLY, TESTED_LATE, UNMARKED,
+                   WORDS_COMPARED)
 
 LEVELS = [0, 1, 2, 2, 2, 3, 4, 4, 5, 6, 6, 6, 0]
 WHITE, GREY, BLACK = 0, 1, 2
@@ -97,12 +98,11 @@ class Sapphire:
             self.scanned = [False] * 16
 
     def shade_all(self, vs):
-        whites = []
-        for v in vs:
-            if self.white(v) and (v not in whites or LISTED_TWICE in self.slips):
-                whites.append(v)
-        self.room_for(len(whites))
-        return whites
+        """What there is to shade of references: the white ones, each once, in the order met, with room in the list for them."""
+        met = [v for v in vs if self.white(v)]
+        whites = list(dict.fromkeys(met))
+        self.room_for(len(met if self.slips.intersection(FULL_LIST_SLIPS) else whites))
+        return met if LISTED_TWICE in self.slips else whites
 
     def barrier(self, level, old, stored, by_put=False):
         """What a store or a put of one reference over another shades, in order: at levels 2 and 3 the overwritten one, at levels 1 to 3
@@ -111,8 +111,6 @@ class Sapphire:
         if OLD_READ_LATE in self.slips and level in (2, 3):
             whites = self.shade_all([stored]) * 2
             self.room_for(len(whites))
-        if COUNTED_TWICE in self.slips and whites and old == stored and level >= 2:
-            self.room_for(2)
         return whites[::-1] if OTHER_ORDER in self.slips else whites
 
     def shades_old(self, level, by_put):
@@ -406,10 +404,45 @@ class Sapphire:
         n = self.unmarked()
         if n is None:
             return self.move_on()
+        self._scan(n)
+
+    def _scan(self, n):
+        if self.slips & SCAN_ALONE:
+            return self._scan_wrongly(n)
         whites = self.shade_all(self.registers[n])
         self.scanned[n] = True
         for v in whites:
             self.shade(v)
+
+    def _scan_wrongly(self, n):
+        """The scan with a mistake of its own."""
+        registers = self.registers[n]
+        if FIRST_LEFT in self.slips:
+            registers = registers[1:]
+        if LAST_FIRST in self.slips:
+            registers = registers[::-1]
+        whites = [] if IN_TURN in self.slips else self.shade_all(registers)
+        if ROOM_FOR_EIGHT in self.slips:
+            self.room_for(8)
+        if self.slips & TESTED_LATE:
+            whites = self._shade_in_turn(registers)
+        self.scanned[n] = UNMARKED not in self.slips
+        for v in whites:
+            self.shade(v)
+
+    def _shade_in_turn(self, registers):
+        """Each register is tested in the memory as those before it have left it, and shaded. What is left to shade after that: nothing."""
+        tail = self.tail
+        for v in registers:
+            try:
+                if self.white(v):
+                    self.room_for(1)
+                    self.shade(v)
+            except Refused:
+                if PASSED_OVER not in self.slips:
+                    self.tail = tail  # the control record comes back as it was: only the words show the mistake
+                    raise
+        return []
 
     def _shells(self):
         end = self.frontier[self.current]

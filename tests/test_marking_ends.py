@@ -177,11 +177,11 @@ def twice_held():
     run.judged("held twice")
     need(not refused and run.lines[-1] == (0, 1) and run.store.tail == len(run.store.list),
          f"held twice: refused {refused}, same {run.lines[-1]}, {run.store.tail} listed")
-    for slip, want in ((LISTED_TWICE, (MARKING, 12)), (PLACE_IN_HALF, (3, 4))):
+    for slip, want in ((LISTED_TWICE, (MARKING, 12)), (COUNTED_TWICE, (MARKING, 12)), (PLACE_IN_HALF, (3, 4))):
         _, refused = held_twice(slip)
         need(refused == want, f"held twice: '{slip}': phase and number {refused}, not {want}")
     print(f"test_marking_ends: a record in two registers, 15 words of 16 used, room for one in the list: never refused; '{LISTED_TWICE}' "
-          f"refuses the scan, '{PLACE_IN_HALF}' a step in phase 3")
+          f"and '{COUNTED_TWICE}' refuse the scan, '{PLACE_IN_HALF}' a step in phase 3")
 
 
 def extremes():

@@ -1,26 +1,28 @@
 #!/usr/bin/env python3
 """Every call of the store, the stretch and its companion too, on any control record and any memory: the probe program writes, word for
 word, what documents 01 and 02 give, by the store in Python. Directed cases (edges of every range, every way to meet damage, both halves,
-both copies; every reference stored over every other, and all that shades or marks) and random damaged stores. Mistakes built into the
-store in Python are seen.
+both copies; every reference stored over every other, and all that shades or marks; the session scan over any registers) and random ones,
+damaged stores and scans. Mistakes built into the store in Python are seen.
 
     python3 tests/test_probe.py write    writes crates/probe/stdin and stdout anew, both from documents 01 and 02 alone
 """
 import os
 import sys
 import time
+from collections import Counter
 
 import barriers
 import chance
 import damage
 import directory_cases
 import probe
+import scanning
 from model import ATTACH, DETACH, SAFE, ALLOCATE, LOAD, STORE, READ, WRITE, MOVE, CLEAR, SAME, GET, PUT, STEP
 from sapphire import COMPANION, STRETCH
-from slips import DAMAGE_SLIPS, MARKING_SLIPS, PLACE_IN_HALF
+from slips import DAMAGE_SLIPS, MARKING_SLIPS, PLACE_IN_HALF, SCAN_SLIPS
 
 CRATE = os.path.join(os.path.dirname(os.path.abspath(__file__)), "..", "crates", "probe")
-RANDOM = 60000
+RANDOM, RANDOM_SCANS = 60000, 10000
 # the refusals that each call has, by document 01's table
 SESSION = {4, 5, 6}
 RECORD = SESSION | {8, 11, 12}
@@ -49,6 +51,23 @@ def compare(cases):
             number, = probe.ANSWER.unpack_from(probe.expected(COMPANION.to_bytes(4, "big") + case[4:]))[:1]
         seen[kind, number] = seen.get((kind, number), 0) + 1
     return seen
+
+
+def check_scans(kind, cases):
+    """Runs the program on cases of the session scan. And the model: it refuses none but with 12, and then changes nothing."""
+    names, seen = {case: name for name, case in cases}, Counter()
+    for case, reply in probe.answered(cases):
+        number, _ = probe.ANSWER.unpack_from(reply)
+        if number not in (0, 12):
+            sys.exit(f"test_probe: refused with {number}: {names[case]}")
+        if number and reply[probe.ANSWER.size:] != case[probe.CALL.size:] + probe.words([0]):
+            sys.exit(f"test_probe: refused, and has changed something: {names[case]}")
+        seen.update(scanning.traits(case, reply))
+    print(f"test_probe: {len(cases)} {kind} cases of the session scan, {seen['beside']} of them other steps, {seen['refused']} scans "
+          f"refused, {seen['scanned']} done: {seen['equal']} with equal white registers, {seen['shared']} with records that share words, "
+          f"{seen['written']} with a colour written in another one's record")
+    if min(seen["refused"], seen["scanned"], seen["equal"], seen["shared"]) < 2000 or seen["written"] < 1000:
+        sys.exit(f"test_probe: the {kind} cases of the session scan do not show enough")
 
 
 def check_bad_cases():
@@ -92,8 +111,12 @@ def main():
         lacking = [kind for kind, refusals in REFUSALS.items() if {number for k, number in seen if k == kind} != refusals | {0}]
         if lacking:
             sys.exit(f"test_probe: the {name} cases of the kinds {lacking} do not have just the refusals of document 01's table")
+    scans = scanning.directed()
+    check_scans("directed", scans)
+    check_scans("random", list(scanning.random_cases(RANDOM_SCANS)))
     check_slips([PLACE_IN_HALF, *DAMAGE_SLIPS], by_chance[:4000] + directed)
     check_slips(MARKING_SLIPS, marking)
+    check_slips(SCAN_SLIPS, scans)
     print(f"test_probe: {time.time() - began:.0f} s")
 
 
