@@ -5,10 +5,10 @@
 
 Needs the program built (`rt check`), rustc, valgrind and GNU time; it says which are missing and how to get them. Both programs must
 write the same bytes. For each script it prints, side by side, the best of five times (start of the program included), instructions
-per entry (callgrind: the program's own, not the kernel's), peak memory and the share of the Rust program's speed; then, for each
-script, how the instructions of an entry grow with live records and with the halves' length. For longer halves it proves and builds
-the script program once more, in a copy of the repository under target/ where the two arrays and the list of its `main` are longer
-and nothing else differs (about a minute).
+per entry (callgrind: the program's own, not the kernel's), peak memory and the share of the Rust program's speed; then the instructions
+of a step that scans a session; then, for each script, how the instructions of an entry grow with live records and with the halves'
+length. For longer halves it proves and builds the script program once more, in a copy of the repository under target/ where the two
+arrays and the list of its `main` are longer and nothing else differs (about a minute).
 """
 import os
 import re
@@ -18,7 +18,7 @@ import sys
 import tempfile
 import time
 
-from workloads import WORKLOADS, encode
+from workloads import SCANS, STEP, WORKLOADS, encode, scan_is_next
 
 ROOT = os.path.join(os.path.dirname(os.path.abspath(__file__)), "..")
 OURS = os.path.join(ROOT, "target", "bin", "script_main")
@@ -112,12 +112,25 @@ def growth(title, ours, plain, counts):
         print(f"{name:28} " + "   ".join(cells))
 
 
+def scans():
+    """Instructions of one step that scans a session: those of a script with it, less those of the script that ends before it."""
+    print("\ninstructions of a step that scans a session, ours / plain, by its registers")
+    for name, before in SCANS.items():
+        if not scan_is_next(before):
+            sys.exit(f"{name}: the step after the script is no scan")
+        data, up_to = encode([*before, (STEP, [])]), encode(before)
+        if run([OURS], data)[0] != run([PLAIN], data)[0]:
+            sys.exit(f"{name}: the two programs write different lines")
+        print(f"{name:28} " + " / ".join(str(instructions([p], data) - instructions([p], up_to)) for p in (OURS, PLAIN)))
+
+
 def main():
     missing("bench/run.py", NEEDS)
     build()
     print(f"{'script':28} {'entries':>7} {'ms ours':>8} {'ms plain':>8} {'instr':>8} {'plain':>8} {'ratio':>6} {'KB ours':>7} {'KB':>7} {'speed':>7}")
     for name, make in WORKLOADS.items():
         compare(name, make(ENTRIES))
+    scans()
     growth("halves of 4,096 words", [OURS], [PLAIN], (10, 100, 250))
     build_longer()
     growth("halves of 65,536 words", [LONGER], [PLAIN, str(LONG)], (10, 100, 250, 4000))

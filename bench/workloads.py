@@ -1,12 +1,13 @@
 """The scripts of the benchmark, the same in every run: mostly reads and writes; allocation and collection; stores under a running
 collection; collector steps alone. The first has no step, the last next to nothing else. `live` fills the store with that many linked
-records first, so that cost can be held against the number of live records."""
+records first, so that cost can be held against the number of live records. And scripts that end before the scan of a session."""
 import os
 import random
 import sys
 
 sys.path.insert(0, os.path.join(os.path.dirname(os.path.abspath(__file__)), "..", "tests"))
-from model import ATTACH, SAFE, ALLOCATE, LOAD, STORE, READ, WRITE, CLEAR, SAME, GET, PUT, STEP  # noqa: E402
+from model import ATTACH, SAFE, ALLOCATE, LOAD, STORE, READ, WRITE, MOVE, CLEAR, SAME, GET, PUT, STEP  # noqa: E402
+from sapphire import Sapphire  # noqa: E402
 from scripts import encode  # noqa: E402,F401
 
 
@@ -72,3 +73,26 @@ def steps_alone(length, live=100):
 
 WORKLOADS = {"reads and writes": reads_and_writes, "allocation and collection": allocation_and_collection,
              "stores under a collection": stores_under_collection, "steps alone": steps_alone}
+
+
+def before_scan(held, marked=0):
+    """Up to the step that scans session 0, whose registers hold so many different records, one after another and then again; the first
+    ones of them are held by globals too, and so are marked by then."""
+    entries = [(ATTACH, [0])]
+    for r in range(8 if held else 0):
+        entries.append((ALLOCATE, [0, r, 0, 0]) if r < held else (MOVE, [0, r, r % held]))
+    entries += [(PUT, [0, r, r]) for r in range(marked)]
+    entries += [(STEP, []), (SAFE, [0])] * 2 + [(STEP, [])] * (1 + 33)  # up to RootMark, 32 globals, on to HeapMark
+    return entries + [(STEP, [])] * marked                              # they are listed, and have no field
+
+
+SCANS = {"eight nulls": before_scan(0), "one white record eight times": before_scan(1), "eight white records": before_scan(8),
+         "eight marked records": before_scan(8, 8), "seven marked, then one white": before_scan(8, 7)}
+
+
+def scan_is_next(entries):
+    """Whether the step after these entries scans session 0, by the store in Python."""
+    store = Sapphire(4096, 1365)
+    for kind, arguments in entries:
+        store.call(kind, arguments)
+    return store.phase == 4 and store.head == store.tail and store.unmarked() == 0
