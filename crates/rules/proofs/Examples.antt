@@ -4,7 +4,7 @@ use Prim.Native.Nat.{ℕ, zero, suc, _+_}
 use mathlib.Core.Path.{_≡_, refl}
 use mathlib.Core.List.{List, [], _∷_, _++_}
 use lib.ListN.{replicate, drop}
-use Rattle.rules.specs.Memory.{half, frontier, withHalf, withFrontier, reference, halfOf, wordOf, inHalf, shapeWord, refsOf, plainsOf, newRecord, word, put, colour, replica, refs, plains, size, append, nextReference, sound, followed, copyOf, otherCopy, forward}
+use Rattle.rules.specs.Memory.{half, frontier, withHalf, withFrontier, reference, halfOf, wordOf, inHalf, shapeWord, refsOf, plainsOf, newRecord, word, put, colour, replica, refs, plains, size, append, nextReference, sound, pointsBack, followable, followed, copyOf, otherCopy, forward}
 use Rattle.rules.specs.Control.{sessionCount, globalCount, halfAllowed, listAllowed, lengthsAllowed, sameLengths, walkLimit, inRange, making, Store}
 use Rattle.rules.specs.Cycle.{atRest, atAllocate, atReclaim}
 use Rattle.rules.specs.Phases.{levelOf, nextPhase, otherHalf, fromspace, tospace, sessionAt, withSession, register, unmarked, moveOn}
@@ -17,7 +17,7 @@ use Rattle.rules.specs.Claims.{Starred}
 
 -- opens every definition that a closed run computes with
 unfoldable pub rules : Unit {0}
-unfolding small numbers values halfAllowed listAllowed lengthsAllowed sameLengths walkLimit inRange half frontier withHalf withFrontier reference halfOf wordOf inHalf shapeWord refsOf plainsOf newRecord word put colour replica refs plains size append nextReference sound followed copyOf otherCopy forward levelOf nextPhase otherHalf fromspace tospace sessionAt withSession register unmarked moveOn toShade listRoom shading shade listing shadingAll shadesAt shadesOldAt copiesAt barrierShades shadeBoth replicaFor ownWord replicaWord storeWrites putBoth roomIn allocationRoom placed allocated allocatedReference calls.sessionOf calls.operandsOf calls.recordOf calls.withRegister calls.attach calls.safePoint calls.allocate calls.loadPlan calls.load calls.storePlan calls.storeCommit calls.store calls.read calls.writePlan calls.writeCommit calls.write calls.clear collector.walked collector.below collector.pastRecord collector.haveLevel collector.rest collector.handshake collector.rootMark collector.scanRecord collector.scanSession collector.heapMark collector.needsShell collector.shellOf collector.withShell collector.allocateShells collector.copyRef collector.copyPlain collector.copyField collector.copy collector.rootFlip collector.stackFlip collector.reclaim collector.step calls.same making makingOf sameAt
+unfolding small numbers values halfAllowed listAllowed lengthsAllowed sameLengths walkLimit inRange half frontier withHalf withFrontier reference halfOf wordOf inHalf shapeWord refsOf plainsOf newRecord word put colour replica refs plains size append nextReference sound pointsBack followable followed copyOf otherCopy forward levelOf nextPhase otherHalf fromspace tospace sessionAt withSession register unmarked moveOn toShade listRoom shading shade listing shadingAll shadesAt shadesOldAt copiesAt barrierShades shadeBoth replicaFor ownWord replicaWord storeWrites putBoth roomIn allocationRoom placed allocated allocatedReference calls.sessionOf calls.operandsOf calls.recordOf calls.withRegister calls.attach calls.safePoint calls.allocate calls.loadPlan calls.load calls.storePlan calls.storeCommit calls.store calls.read calls.writePlan calls.writeCommit calls.write calls.clear collector.walked collector.below collector.pastRecord collector.haveLevel collector.rest collector.handshake collector.rootMark collector.scanRecord collector.scanSession collector.heapMark collector.needsShell collector.shellOf collector.withShell collector.allocateShells collector.copyRef collector.copyPlain collector.copyField collector.copy collector.rootFlip collector.stackFlip collector.reclaim collector.step calls.same making makingOf sameAt
 rules = tt
 
 pub starred-hold : Starred

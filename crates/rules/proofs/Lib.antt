@@ -1,11 +1,11 @@
 -- The claims of specs/Claims.antt: claim 5 by computation; claim 1, the numbers of section 6 and, of claim 7, that marks stay from each rule
--- by itself; the others from the run theorem.
+-- by itself; of claim 8 what following tests from its definition; the others from the run theorem.
 
 -- claim 5, and closed runs that the checker computes
 pub mod Examples
 -- the script example of document 01, from bytes to bytes
 pub mod Script
--- claim 1, claim 3 from claim 2, and of section 6 the numbers of refusals
+-- claim 1, claim 3 from claim 2, of section 6 the numbers of refusals, and of claim 8 what following tests
 pub mod claims
 -- what the tests 4, 5 and 6 say: the ranges of the control record, the session of a call
 pub mod Ranges

@@ -6,3 +6,5 @@ pub mod Refusals
 pub mod TwoRuns
 -- of section 6: the numbers of refusals
 pub mod Numbers
+-- of claim 8: what following tests
+pub mod Following

@@ -15,6 +15,8 @@ pub mod Halves
 pub mod Records
 pub mod Decided
 pub mod Next
+-- the test of following, of any reference
+pub mod Followed
 -- a walk over the records of a half
 pub mod Walk
 -- halves whose records stay where they are

@@ -1,12 +1,12 @@
--- The claims about the rules. Together with the contracts of the code they say points 1, 2 and 3, and request [3].
+-- The claims about the rules. Together with the contracts of the code they say points 1, 2 and 3, and requests [3] and [5].
 use Prim.Native.Nat.{ℕ, _+_, _≤_, _<_}
 use mathlib.Core.Path.{_≡_}
 use mathlib.Core.Logic.{_≢_, _⊎_}
 use mathlib.Core.Bool.{true}
 use mathlib.Core.List.{List, [], _∷_, map, List·Memᴰ}
 use lib.ListN.{getD, length, take}
-use Rattle.rules.specs.Refusals.{answer, doneOr}
-use Rattle.rules.specs.Memory.{Memory, frontier, null, reference, refs, size, sound}
+use Rattle.rules.specs.Refusals.{passed, answer, doneOr}
+use Rattle.rules.specs.Memory.{Memory, frontier, null, reference, halfOf, shapeAt, word, replica, refs, plains, size, sound, followed}
 use Rattle.rules.specs.Cycle.{atRest, atHeapMark, atReclaim}
 use Rattle.rules.specs.Control.{Store, make, inRange, sessionCount}
 use Rattle.rules.specs.Phases.{otherHalf, sessionAt}
@@ -189,3 +189,35 @@ unfoldable pub AttachedScanned : Type 0
 AttachedScanned =
     (s : Store) → Made s → (cs : List Call) (n : ℕ) → after s cs .phase ≡ atHeapMark → apply (after s cs) (Attach n) .reply ≡ answer Done
     → sessionAt (apply (after s cs) (Attach n) .store) n .scanned ≡ true
+
+-- ---- 8. Replicas point back
+-- Request [5], of a replica w of v: "a record in the other half, sound by the old test, with equal word 0 and a replica word naming this one"
+pub record PointsBack (M : Memory) (w v : ℕ) : Type 0 where
+  pub sound : sound M w ≡ true
+  pub across : halfOf w ≢ halfOf v
+  pub shape : word M w shapeAt ≡ word M v shapeAt
+  pub back : replica M w ≡ v
+
+-- what following tests: the old test, and of "a non-zero replica word" that it names such a record
+pub record CanFollow (M : Memory) (v : ℕ) : Type 0 where
+  pub sound : sound M v ≡ true
+  pub paired : replica M v ≢ null → PointsBack M (replica M v) v
+
+-- "Following a reference now also tests that": on any memory following passes exactly there. Every call that follows a reference does so by
+-- `followed`, so its contract promises it.
+unfoldable pub FollowedExactly : Type 0
+FollowedExactly = (M : Memory) (v : ℕ) → (followed M v ≡ passed tt → CanFollow M v) × (CanFollow M v → followed M v ≡ passed tt)
+
+-- on any memory: where a record was followed, so can be its replica, and it has as many fields of each kind. So "a replica without that
+-- field", which is damage too, isn't met any more behind a record that was followed.
+unfoldable pub ReplicaFollowed : Type 0
+ReplicaFollowed =
+    (M : Memory) (v : ℕ) → followed M v ≡ passed tt → replica M v ≢ null
+    → (followed M (replica M v) ≡ passed tt) × (refs M (replica M v) ≡ refs M v) × (plains M (replica M v) ≡ plains M v)
+
+-- "in runs as in point 3 none is refused by it" is `NoDamage`. More than that: in every run every record of the current half can be
+-- followed, and before phase 12, which takes the pairs apart, every record of the other half.
+unfoldable pub RecordsFollowed : Type 0
+RecordsFollowed =
+    (s : Store) → Made s → (cs : List Call) (h : ℕ) → h < 2 → (h ≡ after s cs .current) ⊎ (after s cs .phase ≢ atReclaim)
+    → (v : ℕ) → List·Memᴰ v (recordsOf (after s cs .memory) h) → followed (after s cs .memory) v ≡ passed tt

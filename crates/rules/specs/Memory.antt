@@ -1,6 +1,6 @@
 -- Memory and references: the two halves, references, records, following and forwarding.
 use Prim.Native.Nat.{ℕ, _+_, _*_, _-_, _/_, _%_}
-use mathlib.Core.Bool.{Bool, cond, _&&_, _||_}
+use mathlib.Core.Bool.{Bool, cond, not, _&&_, _||_}
 use mathlib.Core.List.{List, _∷_}
 use lib.Dec.{leb, eqb}
 use lib.ListN.{getD, set, replicate, length}
@@ -161,13 +161,22 @@ sound M v =
     leb 2 v && leb (word M v shapeAt) mostShape && leb (colour M v) black
     && leb (wordOf v + size M v) (frontier M (halfOf v))
 
+-- Request [5], of a replica w of v: "a record in the other half, sound by the old test, with equal word 0 and a replica word naming this one"
+unfoldable pub pointsBack : Memory → ℕ → ℕ → Bool
+pointsBack M w v =
+    sound M w && not (eqb (halfOf w) (halfOf v)) && eqb (word M w shapeAt) (word M v shapeAt) && eqb (replica M w) v
+
+-- the test of following: sound, and "a non-zero replica word" names a replica that points back
+unfoldable pub followable : Memory → ℕ → Bool
+followable M v = sound M v && (eqb (replica M v) null || pointsBack M (replica M v) v)
+
 -- "Following ends in one of two answers, the record's shape and place or damage"
 unfoldable pub follow : Memory → ℕ → Followed
-follow M v = cond (sound M v) (Sound (wordOf v) (refs M v) (plains M v)) Damage
+follow M v = cond (followable M v) (Sound (wordOf v) (refs M v) (plains M v)) Damage
 
 -- the test of a call that follows v: "damage leaves the call there"
 unfoldable pub followed : Memory → ℕ → Tested (Unit {0})
-followed M v = check (sound M v) 12
+followed M v = check (followable M v) 12
 
 -- ---- the other copy of a record
 
@@ -175,7 +184,7 @@ followed M v = check (sound M v) 12
 unfoldable pub copyOf : Memory → ℕ → ℕ
 copyOf M v = cond (eqb (replica M v) null) v (replica M v)
 
--- the same, with the test that v is sound
+-- the same, with the test that v can be followed
 unfoldable pub otherCopy : Memory → ℕ → Tested ℕ
 otherCopy M v = do
   followed M v

@@ -170,7 +170,7 @@ module _ {K : ℕ → Type 0} {m : ℕ → ℕ} {s : Store} {f : Free} (h : Sim 
           (fwd (s .memory) (otherHalf (s .current)) (field (s .memory) v (s .walk .field))))) (s .walk .place) (s .walk .field + 1))
       unfolding copyField copyRef
       ref-passes r = rw (
-        followed-start (follow-replica h (follow-home h at) (h .pairs .pair v at n)),
+        followed-start (follow-replica (follow-home h at) (h .pairs .pair v at n)),
         lt-ltb (s .walk .field) (refs (s .memory) v) r,
         shape .0,
         lt-ltb (s .walk .field) (refs (s .memory) v) r,
@@ -196,7 +196,7 @@ module _ {K : ℕ → Type 0} {m : ℕ → ℕ} {s : Store} {f : Free} (h : Sim 
       plain-passes i y r =
           let z : s .walk .field - refs (s .memory) v ≡ i = omega arith in
           rw (
-            followed-start (follow-replica h (follow-home h at) (h .pairs .pair v at n)),
+            followed-start (follow-replica (follow-home h at) (h .pairs .pair v at n)),
             le-ltb (s .walk .field) (refs (s .memory) v) (omega arith),
             z,
             shape .1,

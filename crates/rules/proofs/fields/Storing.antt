@@ -91,7 +91,7 @@ module _ {K : ℕ → Type 0} {m : ℕ → ℕ} {s : Store} {f : Free} {x : Sess
       let away = fwd (s .memory) (otherHalf (s .current)) (w .word) in
       record {
         writes = record { first = null; second = null; own = w .word; replica = replica (s .memory) v; copy = away };
-        passes = store-both (heapOf s) l v i q b (follow-replica h (follow-home h o) (h .pairs .pair v o n)) (rw (replica-shape h v o n .0) r) (w .own) (w .copy);
+        passes = store-both (heapOf s) l v i q b (follow-replica (follow-home h o) (h .pairs .pair v o n)) (rw (replica-shape h v o n .0) r) (w .own) (w .copy);
         sim = rw (ne-eqb (replica (s .memory) v) null n) (from-sim h lo hi (w .fits) o r n);
         grows = stored-grows h (o .start) r (w .word) (replica (s .memory) v) away (λ z. (h .pairs .pair v o n .start, rw (replica-shape h v o n .0) r));
       }
@@ -109,7 +109,7 @@ module _ {K : ℕ → Type 0} {m : ℕ → ℕ} {s : Store} {f : Free} {x : Sess
       let away = fwd (s .memory) (otherHalf (s .current)) (w .word) in
       record {
         writes = record { first = null; second = null; own = away; replica = replica (s .memory) v; copy = w .word };
-        passes = store-both (heapOf s) l v i q (omega arith) (follow-replica h (follow-away h hi o) g) z (w .own) (w .copy);
+        passes = store-both (heapOf s) l v i q (omega arith) (follow-replica (follow-away h hi o) g) z (w .own) (w .copy);
         sim = rw (ne-eqb (replica (s .memory) v) null n)
             (rw (e, g .same) at (to-sim h (omega arith) hi (w .fits) (pair-here h o g) z (λ y. in-nonnull o (sym e ∙ y))));
         grows = stored-grows h (o .start) r away (replica (s .memory) v) (w .word) (λ y. (g .start, z));
@@ -127,7 +127,7 @@ module _ {K : ℕ → Type 0} {m : ℕ → ℕ} {s : Store} {f : Free} {x : Sess
       })
       (λ n. record {
         writes = record { first = null; second = null; own = q; replica = replica (s .memory) v; copy = fwd (s .memory) (to (heapOf s)) q };
-        passes = store-both (heapOf s) l v i q (omega arith) (follow-replica h (follow-home h o) (h .pairs .pair v o n)) (rw (replica-shape h v o n .0) r) (reclaim-own h t e b v)
+        passes = store-both (heapOf s) l v i q (omega arith) (follow-replica (follow-home h o) (h .pairs .pair v o n)) (rw (replica-shape h v o n .0) r) (reclaim-own h t e b v)
             (copy-forward (heapOf s) (from-two h) l v (t .ok) (λ o d. follow-word h (t .names) o) (λ z. omega arith));
         sim = rw (ne-eqb (replica (s .memory) v) null n) (reclaim-sim h e (reclaim-fits h t e) o r n (fwd (s .memory) (to (heapOf s)) q));
         grows = stored-grows h (o .start) r q (replica (s .memory) v) (fwd (s .memory) (to (heapOf s)) q)

@@ -69,7 +69,7 @@ module _ {K : ℕ → Type 0} {m : ℕ → ℕ} {s : Store} {f : Free} {l v i : 
       let e = replica-shape h v o n in
       record {
         other = replica (s .memory) v;
-        passes = replica-found (s .memory) plains l v i b (follow-replica h (follow-home h o) (h .pairs .pair v o n)) (rw (e .1) r);
+        passes = replica-found (s .memory) plains l v i b (follow-replica (follow-home h o) (h .pairs .pair v o n)) (rw (e .1) r);
         sim = rw (ne-eqb (replica (s .memory) v) null n, e .0) (plain-write-sim h
             (written-from h o (plainField (refs (s .memory) v) i) (omega arith) (plain-inside (s .memory) v i r) n a a) r);
         copied = λ z. (h .pairs .pair v o n .start, rw (e .1) r);
@@ -86,7 +86,7 @@ module _ {K : ℕ → Type 0} {m : ℕ → ℕ} {s : Store} {f : Free} {l v i : 
       let z : i < plains (s .memory) (replica (s .memory) v) = rw (e .1) r in
       record {
         other = replica (s .memory) v;
-        passes = replica-found (s .memory) plains l v i b (follow-replica h (follow-away h hi o) p) z;
+        passes = replica-found (s .memory) plains l v i b (follow-replica (follow-away h hi o) p) z;
         sim = rw (ne-eqb (replica (s .memory) v) null n, e .0) (rw (p .back, e .0, p .same) at (plain-write-sim h
             (written-to h (pair-here h o p) (plainField (refs (s .memory) (replica (s .memory) v)) i) (omega arith) (plain-inside (s .memory) (replica (s .memory) v) i z)
             (λ y. in-nonnull o (sym (p .back) ∙ y)) a a) z));

@@ -3,11 +3,11 @@ use Prim.Native.Nat.{ℕ, _<_}
 use mathlib.Core.Path.{_≡_, sym, _∙_}
 use mathlib.Core.Logic.{_≢_}
 use mathlib.Core.List.{List}
-use Rattle.rules.specs.Memory.{Memory, null, halfOf, refs, plains, size, replica}
+use Rattle.rules.specs.Memory.{Memory, null, halfOf, shapeAt, word, refs, plains, size, replica}
 use Rattle.rules.specs.Control.{Store}
 use Rattle.rules.specs.Phases.{otherHalf}
 use Rattle.rules.specs.Free.{Free, Record}
-use Rattle.rules.proofs.memory.Encoding.{half-below-2, only-other}
+use Rattle.rules.proofs.memory.Encoding.{half-below-2, only-other, shape-same}
 use Rattle.rules.proofs.memory.Records.{Start}
 use Rattle.rules.proofs.invariant.Words.{In}
 use Rattle.rules.proofs.invariant.Groups.{Identity, Pair, Pairs}
@@ -30,6 +30,12 @@ pub pair-shape : {M : Memory} {m : ℕ → ℕ} {rs : List Record} {v w : ℕ} �
 pair-shape {v = v} {w = w} g t p =
     let e = p .same in
     (sym (g .nrefs w (p .start)) ∙ rw e (g .nrefs v t), sym (g .nplains w (p .start)) ∙ rw e (g .nplains v t))
+
+-- and the same word 0
+pub pair-word : {M : Memory} {m : ℕ → ℕ} {rs : List Record} {v w : ℕ} → Identity M m rs → Start M v → Pair M m v w
+    → word M w shapeAt ≡ word M v shapeAt
+unfolding refs plains
+pair-word {M} {v = v} {w = w} g t p = let e = pair-shape g t p in shape-same (word M w shapeAt) (word M v shapeAt) (e .0) (e .1)
 
 pub replica-shape : {K : ℕ → Type 0} {m : ℕ → ℕ} {s : Store} {f : Free} → Sim K m s f → (v : ℕ) → In (s .memory) (s .current) v
     → replica (s .memory) v ≢ null

@@ -2,7 +2,7 @@
 use Prim.Native.Nat.{ℕ, _+_, _≤_, _<_}
 use mathlib.Core.Path.{_≡_, refl, sym, _∙_}
 use mathlib.Core.Logic.{_≢_, _⊎_, inl, inr}
-use mathlib.Core.Bool.{Bool, true, false, cond}
+use mathlib.Core.Bool.{Bool, true, false, cond, _||_, false≢true}
 use native.Mathlib.Decide.{decLt, ℕ-discrete}
 use native.Mathlib.Omega.{arith}
 use lib.Dec.{eqb}
@@ -30,6 +30,14 @@ above p q = omega arith
 pub bool-or : (t : Bool) {C : Type 0} → (t ≡ true → C) → (t ≡ false → C) → C
 bool-or true f g = f refl
 bool-or false f g = g refl
+
+-- one of two tests passed, and not the first; or neither did
+pub or-second : (a b : Bool) → (a || b) ≡ true → a ≡ false → b ≡ true
+or-second a b e f = rw f at e
+
+pub neither : (a b : Bool) → (a || b) ≡ false → (a ≡ false) × (b ≡ false)
+neither true b e = absurd (false≢true (sym e))
+neither false b e = (refl, e)
 
 -- one of two facts
 pub either : {A B C : Type 0} → A ⊎ B → (A → C) → (B → C) → C

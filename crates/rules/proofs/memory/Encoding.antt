@@ -59,6 +59,11 @@ pub plains-bound : (w : ℕ) → plainsOf w ≤ mostCount
 unfolding plainsOf
 plains-bound w = omega arith
 
+-- two shape words with as many fields of each kind are the same
+pub shape-same : (w x : ℕ) → refsOf w ≡ refsOf x → plainsOf w ≡ plainsOf x → w ≡ x
+unfolding refsOf plainsOf
+shape-same w x e e′ = omega arith
+
 -- ---- the half that isn't h
 
 pub other-below-2 : (h : ℕ) → otherHalf h < 2

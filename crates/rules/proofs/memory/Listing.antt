@@ -76,7 +76,7 @@ module _ {M : Memory} (k : Filled M) {h : ℕ} (two : h < 2) where
   number-start i l = start-at M h i two (rw (k .full h two) at (pos-lt (half M h) i (k .count h) l))
 
   -- the members are the starts of the half
-  listing-start : {v : ℕ} → List·Memᴰ v (recordsOf M h) → Start M v × (halfOf v ≡ h)
+  pub listing-start : {v : ℕ} → List·Memᴰ v (recordsOf M h) → Start M v × (halfOf v ≡ h)
   listing-start {v} m =
       numbered-member (half M h) h 0 (k .count h) (rw records-numbered at m)
       (λ i l e. (rw e (number-start i (omega arith)), rw e (half-reference h (pos (half M h) i) two)))

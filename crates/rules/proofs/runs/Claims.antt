@@ -1,15 +1,17 @@
 -- The claims about runs: answers, no damage, ranges, halves without gaps, two runs, what is freed, what crates above go by.
 use Prim.Native.Nat.{ℕ}
 use mathlib.Core.Path.{sym, _∙_}
-use mathlib.Core.List.{List}
+use mathlib.Core.List.{List, List·Memᴰ}
 use Rattle.rules.specs.Control.{Store}
 use Rattle.rules.specs.Runs.{Call}
 use Rattle.rules.specs.Phases.{sessionAt}
 use Rattle.rules.specs.Free.{freeSession, freeRegister}
-use Rattle.rules.specs.Tracking.{newBeside, beside}
-use Rattle.rules.specs.Claims.{Made, Answers, NoDamage, StaysInRange, Filled, TwoRuns, Freed, StaysFreed, NextAnswer, SafePointAnswer, LiveFits, NullRegisters}
+use Rattle.rules.specs.Tracking.{newBeside, beside, recordsOf}
+use Rattle.rules.specs.Claims.{Made, Answers, NoDamage, StaysInRange, Filled, TwoRuns, Freed, StaysFreed, NextAnswer, SafePointAnswer, LiveFits, NullRegisters, RecordsFollowed}
 use Rattle.rules.proofs.Ranges.{in-range-tested}
+use Rattle.rules.proofs.memory.Listing.{listing-start}
 use Rattle.rules.proofs.invariant.Laws.{place-null}
+use Rattle.rules.proofs.invariant.Following.{followed-start, follow-record}
 use Rattle.rules.proofs.claims.TwoRuns as pair
 use Rattle.rules.proofs.runs.Start.{start-sim}
 use Rattle.rules.proofs.runs.Call.{one-call, safe-point-reply}
@@ -84,3 +86,12 @@ unfolding NullRegisters freeSession freeRegister sessionAt
 null-registers s made cs n k e =
     let h = holds s made cs in
     rw (← beside-store (newBeside s) cs) (place-null h (h .roots .reg-ok n k) (sym (h .roots .reg-is n k) ∙ e))
+
+-- ---- replicas point back
+
+pub records-followed : RecordsFollowed
+unfolding RecordsFollowed
+records-followed s made cs h two at v =
+    let k = holds s made cs in
+    rw (← beside-store (newBeside s) cs) (λ (i : List·Memᴰ v (recordsOf (beside (newBeside s) cs .store .memory) h)).
+    let t = listing-start (k .filled) two i in followed-start (follow-record k (rw (beside-store (newBeside s) cs) at) (t .0) (t .1)))
