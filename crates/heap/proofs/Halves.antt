@@ -2,12 +2,14 @@
 use Prim.Native.Nat.{ℕ, _+_, _%_, _≤_, _<_}
 use mathlib.Core.Path.{_≡_, refl}
 use mathlib.Core.Bool.{Bool, true, false, cond}
-use lib.Dec.{eqb}
-use Rattle.rules.specs.Barriers.{putBoth}
 use mathlib.Core.List.{List}
+use native.Mathlib.Omega.{arith}
+use lib.Dec.{eqb}
 use lib.ListN.{length, set}
 use borrow.Author.Tests.{eq-eqb, ne-eqb}
 use Rattle.rules.specs.Memory.{Memory, half, frontier, halfOf, wordOf, put, withHalf}
+use Rattle.rules.specs.Barriers.{putBoth}
+use Rattle.rules.proofs.memory.Cases.{eq-or}
 use Rattle.heap.specs.View.{memory, Inside}
 
 -- the halves don't depend on the frontiers
@@ -62,6 +64,22 @@ pub frontier-within : (h0 h1 : List ℕ) (f0 f1 v : ℕ) → f0 ≤ length h0 �
     → frontier (memory h0 h1 f0 f1) (halfOf v) ≤ length (half (memory h0 h1 f0 f1) (halfOf v))
 unfolding half frontier halfOf
 frontier-within h0 h1 f0 f1 v x y = in-half (eqb (v % 2) 0) h0 h1 f0 f1 x y
+
+-- with the halves exchanged the half of v is the one that v isn't in
+exchanged : {A : Type 0} (x y : A) (w v : ℕ) → (halfOf w ≡ halfOf v → ⊥) → cond (eqb (halfOf v) 0) y x ≡ cond (eqb (halfOf w) 0) x y
+unfolding halfOf
+exchanged x y w v d = eq-or (v % 2) 0
+    (λ e. rw (eq-eqb (v % 2) 0 e, ne-eqb (w % 2) 0 (λ z. d (omega arith))))
+    (λ n. rw (ne-eqb (v % 2) 0 n, eq-eqb (w % 2) 0 (omega arith)))
+
+module _ (h0 h1 : List ℕ) (f0 f1 w v : ℕ) (d : halfOf w ≡ halfOf v → ⊥) where
+  pub half-across : half (memory h1 h0 f1 f0) (halfOf v) ≡ half (memory h0 h1 f0 f1) (halfOf w)
+  unfolding half
+  half-across = exchanged h0 h1 w v d
+
+  pub frontier-across : frontier (memory h1 h0 f1 f0) (halfOf v) ≡ frontier (memory h0 h1 f0 f1) (halfOf w)
+  unfolding frontier
+  frontier-across = exchanged f0 f1 w v d
 
 -- one write, and two
 module _ {N : Memory} (M : Memory) (v j x t k y : ℕ) (e : N ≡ put M v j x) where

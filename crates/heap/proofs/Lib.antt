@@ -11,6 +11,7 @@ pub mod ToShade
 pub mod Plans
 pub mod Written
 -- the arms of this crate's functions
+pub mod Followings
 pub mod Copies
 pub mod Shadings
 pub mod Levels

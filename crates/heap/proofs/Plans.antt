@@ -9,11 +9,12 @@ use lib.Dec.{leb, ltb, eqb}
 use lib.ListN.{length, getD, List·getD-eq-default}
 use borrow.Author.Tests.{leb-true, ltb-true, eqb-false, ne-eqb}
 use Rattle.rules.specs.Refusals.{Tested, passed, check, _>>=_, _>>_}
-use Rattle.rules.specs.Memory.{Memory, word, replica, refs, refField, sound, followed}
+use Rattle.rules.specs.Memory.{Memory, word, replica, refs, refField, sound, followable, followed}
 use Rattle.rules.specs.Barriers.{Heap, toShade, listRoom, shading, without, toShadeAll, listing, shadingAll, shadesAt, shadesOldAt, barrierShades, copiesAt, replicaFor, ownWord, replicaWord, storeWrites, putWrites}
 use Rattle.rules.specs.declared.Writes.{Writes}
 use Rattle.rules.proofs.Ranges.{after-check}
 use Rattle.rules.proofs.memory.Cases.{lt-or, bool-or}
+use Rattle.rules.proofs.memory.Followed.{can-follow}
 use Rattle.rules.proofs.marking.Whites.{All, all-none, all-more, without-all}
 use Rattle.heap.proofs.Passed.{bind-passed, second-passed, same-passed}
 use Rattle.heap.proofs.ToShade.{to-shade-sound, split}
@@ -94,11 +95,11 @@ pub replica-known : (M : Memory) (count : Memory → ℕ → ℕ) (l v i t : ℕ
 unfolding replicaFor followed
 replica-known M count l v i t e n =
     let u = replica M v in
-    let a = second-passed (not (copiesAt l) || eqb u 0) (check (sound M u) 12 >> (check (ltb i (count M u)) 12 >> passed u)) e n in
-    let b = after-check (sound M u) 12 (check (ltb i (count M u)) 12 >> passed u) (a .1) in
+    let a = second-passed (not (copiesAt l) || eqb u 0) (check (followable M u) 12 >> (check (ltb i (count M u)) 12 >> passed u)) e n in
+    let b = after-check (followable M u) 12 (check (ltb i (count M u)) 12 >> passed u) (a .1) in
     let c = after-check (ltb i (count M u)) 12 (passed u) (b .1) in
     let d : u ≡ t = same-passed (c .1) in
-    record { sound = rw d at (b .0); field = rw d at (ltb-true i (count M u) (c .0)) }
+    record { sound = rw d at (can-follow M u (b .0) .sound); field = rw d at (ltb-true i (count M u) (c .0)) }
 
 -- ---- stores and puts
 

@@ -1,40 +1,35 @@
--- The arms of the replica that a write goes to as well.
-use Prim.Native.Nat.{ℕ, _≤_, _<_}
+-- The replica that a write goes to as well: where the record was followed its tests pass.
+use Prim.Native.Nat.{ℕ, _<_}
 use mathlib.Core.Path.{_≡_, _∙_}
-use mathlib.Core.Bool.{Bool, true, false, cond, not, _||_}
-use lib.Dec.{leb, eqb}
-use borrow.Author.Tests.{lt-ltb, le-ltb}
-use Rattle.rules.specs.Refusals.{refused, passed}
-use Rattle.rules.specs.Memory.{Memory, word, replica, refs, plains, follow, followed, replicaAt}
+use mathlib.Core.Logic.{_≢_}
+use mathlib.Core.Bool.{Bool, true, false, cond}
+use borrow.Author.Tests.{eq-eqb, ne-eqb, lt-ltb}
+use Rattle.rules.specs.Refusals.{passed}
+use Rattle.rules.specs.Memory.{Memory, null, replica, refs, plains}
 use Rattle.rules.specs.Barriers.{copiesAt, replicaFor}
-use Rattle.rules.specs.declared.Followed.{Followed}
-use Rattle.rules.specs.declared.Followed.the-variants.{Sound, Damage}
-use Rattle.heap.proofs.Soundness.{Found, found, lost}
+use Rattle.rules.specs.Claims.{CanFollow}
+use Rattle.rules.proofs.memory.Cases.{bool-or, eq-or}
+use Rattle.rules.proofs.memory.Followed.{follow-passes, replica-follows, replica-counts}
+use Rattle.heap.specs.View.{writtenReplica}
 
--- the count of a kind of fields
-count-found : (plain : Bool) (M : Memory) (t : ℕ) {at r p n : ℕ} → Found M t at r p → n ≡ cond plain p r → n ≡ cond plain plains refs M t
-count-found true M t f e = e ∙ f .plains
-count-found false M t f e = e ∙ f .refs
+-- a kind of fields: the plain ones, or the references
+abbrev pub countOf : Bool → Memory → ℕ → ℕ
+countOf plain = cond plain plains refs
 
-module _ {t : ℕ} (M : Memory) (plain : Bool) (l v i : ℕ) (w : t ≡ word M v replicaAt) where
-  pub no-replica : (not (leb 4 l) || eqb t 0) ≡ true → passed 0 ≡ replicaFor M (cond plain plains refs) l v i
-  unfolding replicaFor copiesAt replica
-  no-replica b = rw (← w, b)
+module _ {M : Memory} {v : ℕ} (k : CanFollow M v) (plain : Bool) (l i : ℕ) (h : i < countOf plain M v) where
+  -- the replica has field i as well
+  has-field : (plain : Bool) → i < countOf plain M v → replica M v ≢ null → i < countOf plain M (replica M v)
+  has-field true h n = rw (replica-counts k n .1) h
+  has-field false h n = rw (replica-counts k n .0) h
 
-  module _ {x : Followed} (b : (not (leb 4 l) || eqb t 0) ≡ false) (e : x ≡ follow M t) where
-    pub replica-lost : x ≡ Damage → refused 12 ≡ replicaFor M (cond plain plains refs) l v i
-    unfolding replicaFor copiesAt replica followed
-    replica-lost d = rw (← w, b, lost M t e d)
+  pub replica-written : replicaFor M (countOf plain) l v i ≡ passed (writtenReplica M l v)
+  unfolding replicaFor
+  replica-written = bool-or (copiesAt l)
+      (λ t. eq-or (replica M v) null
+      (λ z. rw (t, eq-eqb (replica M v) null z, z))
+      (λ n. rw (t, ne-eqb (replica M v) null n, follow-passes (replica-follows k n), lt-ltb i (countOf plain M (replica M v)) (has-field plain h n))))
+      (λ f. rw f)
 
-    module _ {at r p n : ℕ} (s : x ≡ Sound at r p) (c : n ≡ cond plain p r) where
-      pub replica-short : n ≤ i → refused 12 ≡ replicaFor M (cond plain plains refs) l v i
-      unfolding replicaFor copiesAt replica followed
-      replica-short k =
-          let f = found M t e s in
-          rw (← w, b, f .sound, ← count-found plain M t f c, le-ltb i n k)
-
-      pub replica-long : i < n → passed t ≡ replicaFor M (cond plain plains refs) l v i
-      unfolding replicaFor copiesAt replica followed
-      replica-long k =
-          let f = found M t e s in
-          rw (← w, b, f .sound, ← count-found plain M t f c, lt-ltb i n k)
+-- one that is written is the replica
+pub written-is : (M : Memory) (l v : ℕ) {t : ℕ} → t ≡ writtenReplica M l v → (t ≡ 0 → ⊥) → t ≡ replica M v
+written-is M l v e n = bool-or (copiesAt l) (λ y. e ∙ rw y) (λ y. absurd (n (e ∙ rw y)))

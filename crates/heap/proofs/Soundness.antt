@@ -7,18 +7,20 @@ use native.Mathlib.Omega.{arith}
 use lib.Dec.{leb}
 use lib.ListN.{length, getD}
 use borrow.Author.Tests.{le-leb, lt-leb, leb-true}
-use Rattle.rules.specs.Memory.{Memory, half, frontier, halfOf, wordOf, header, shapeAt, colourAt, black, refsOf, plainsOf, word, colour, refs, plains, size, sound, follow, mostCount, mostShape}
+use Rattle.rules.specs.Refusals.{refused, passed}
+use Rattle.rules.specs.Memory.{Memory, half, frontier, halfOf, wordOf, header, shapeAt, colourAt, black, refsOf, plainsOf, word, colour, refs, plains, size, sound, followable, follow, followed, mostCount, mostShape}
 use Rattle.rules.specs.declared.Followed.{Followed}
 use Rattle.rules.specs.declared.Followed.the-variants.{Sound, Damage}
 use Rattle.rules.proofs.Ranges.{both}
-use Rattle.heap.specs.View.{memory, Inside}
+use Rattle.rules.proofs.memory.Followed.{can-follow}
+use Rattle.heap.specs.View.{memory, Inside, soundAt}
 use Rattle.heap.proofs.Halves.{half-any, frontier-within}
 
 -- ---- the code's tests are those of sound
 
-pub follow-none : (M : Memory) (v : ℕ) → v < 2 → Damage ≡ follow M v
-unfolding follow sound
-follow-none M v l = rw (lt-leb 2 v l)
+pub sound-none : (M : Memory) (v : ℕ) → v < 2 → Damage ≡ soundAt M v
+unfolding sound
+sound-none M v l = rw (lt-leb 2 v l)
 
 module _ (M : Memory) (v at f : ℕ) (W : List ℕ) (a : at ≡ wordOf v) (w : W ≡ half M (halfOf v)) (e : f ≡ frontier M (halfOf v)) where
   shape-word : word M v shapeAt ≡ getD W (at + shapeAt) 0
@@ -33,9 +35,9 @@ module _ (M : Memory) (v at f : ℕ) (W : List ℕ) (a : at ≡ wordOf v) (w : W
   unfolding size refs plains refsOf plainsOf
   end-word = rw (shape-word, a) (omega arith)
 
-  pub follow-short : f < at + header → Damage ≡ follow M v
-  unfolding follow sound
-  follow-short l =
+  pub sound-short : f < at + header → Damage ≡ soundAt M v
+  unfolding sound
+  sound-short l =
       let s : frontier M (halfOf v) < wordOf v + size M v = omega (arith, end-word) in
       rw (lt-leb (wordOf v + size M v) (frontier M (halfOf v)) s, and-false)
 
@@ -43,20 +45,21 @@ module _ (M : Memory) (v at f : ℕ) (W : List ℕ) (a : at ≡ wordOf v) (w : W
   unfolding sound
   sound-tests n = rw (le-leb 2 v n, shape-word, colour-word, end-word, e)
 
-  pub follow-sound : 2 ≤ v → (leb (getD W (at + shapeAt) 0) 65535 && leb (getD W (at + colourAt) 0) black && leb (at + header + getD W (at + shapeAt) 0 / 256 + getD W (at + shapeAt) 0 % 256) f) ≡ true
-      → Sound at (getD W (at + shapeAt) 0 / 256) (getD W (at + shapeAt) 0 % 256) ≡ follow M v
-  unfolding follow refs plains refsOf plainsOf
-  follow-sound n b = rw (sound-tests n ∙ b, shape-word, a)
+  pub sound-passes : 2 ≤ v → (leb (getD W (at + shapeAt) 0) 65535 && leb (getD W (at + colourAt) 0) black && leb (at + header + getD W (at + shapeAt) 0 / 256 + getD W (at + shapeAt) 0 % 256) f) ≡ true
+      → Sound at (getD W (at + shapeAt) 0 / 256) (getD W (at + shapeAt) 0 % 256) ≡ soundAt M v
+  unfolding refs plains refsOf plainsOf
+  sound-passes n b = rw (sound-tests n ∙ b, shape-word, a)
 
-  pub follow-damage : 2 ≤ v → (leb (getD W (at + shapeAt) 0) 65535 && leb (getD W (at + colourAt) 0) black && leb (at + header + getD W (at + shapeAt) 0 / 256 + getD W (at + shapeAt) 0 % 256) f) ≡ false
-      → Damage ≡ follow M v
-  unfolding follow
-  follow-damage n b = rw (sound-tests n ∙ b)
+  pub sound-fails : 2 ≤ v → (leb (getD W (at + shapeAt) 0) 65535 && leb (getD W (at + colourAt) 0) black && leb (at + header + getD W (at + shapeAt) 0 / 256 + getD W (at + shapeAt) 0 % 256) f) ≡ false
+      → Damage ≡ soundAt M v
+  sound-fails n b = rw (sound-tests n ∙ b)
 
 -- ---- what is known of a record found
 
 pub record Found (M : Memory) (v at r p : ℕ) : Type 0 where
   pub named : 2 ≤ v
+  pub test : followable M v ≡ true
+  pub follows : followed M v ≡ passed tt
   pub sound : sound M v ≡ true
   pub place : at ≡ wordOf v
   pub refs : r ≡ refs M v
@@ -65,7 +68,8 @@ pub record Found (M : Memory) (v at r p : ℕ) : Type 0 where
   pub some : p ≤ mostCount
   pub below : wordOf v + size M v ≤ frontier M (halfOf v)
 
-split : (b : Bool) (k x y : ℕ) {at r p : ℕ} → cond b (Sound k x y) Damage ≡ Sound at r p → (b ≡ true) × (k ≡ at) × (x ≡ r) × (y ≡ p)
+-- by what a test answered
+pub split : (b : Bool) (k x y : ℕ) {at r p : ℕ} → cond b (Sound k x y) Damage ≡ Sound at r p → (b ≡ true) × (k ≡ at) × (x ≡ r) × (y ≡ p)
 split true k x y e = (refl, cc, cc, cc)
 split false k x y e = absurd (let z : _≡_ {A = ℕ} 0 1 = cc in omega arith)
 
@@ -86,36 +90,42 @@ sound-passed M v e =
 pub sound-named : (M : Memory) (v : ℕ) → sound M v ≡ true → 2 ≤ v
 sound-named M v e = sound-passed M v e .0
 
+pub sound-shape : (M : Memory) (v : ℕ) → sound M v ≡ true → word M v shapeAt ≤ mostShape
+sound-shape M v e = sound-passed M v e .1
+
 pub sound-below : (M : Memory) (v : ℕ) → sound M v ≡ true → wordOf v + size M v ≤ frontier M (halfOf v)
 sound-below M v e = sound-passed M v e .2
 
-sound-small : (M : Memory) (v : ℕ) → sound M v ≡ true → (refs M v ≤ mostCount) × (plains M v ≤ mostCount)
+pub sound-small : (M : Memory) (v : ℕ) → sound M v ≡ true → (refs M v ≤ mostCount) × (plains M v ≤ mostCount)
 unfolding refs plains
 sound-small M v e = small (word M v shapeAt) (sound-passed M v e .1)
 
 pub found : {x : Followed} (M : Memory) (v : ℕ) {at r p : ℕ} → x ≡ follow M v → x ≡ Sound at r p → Found M v at r p
-unfolding follow
+unfolding follow followed
 found M v e s =
-    let q = split (sound M v) (wordOf v) (refs M v) (plains M v) (sym e ∙ s) in
-    let n = sound-small M v (q .0) in
+    let q = split (followable M v) (wordOf v) (refs M v) (plains M v) (sym e ∙ s) in
+    let t = can-follow M v (q .0) .sound in
+    let n = sound-small M v t in
     record {
-      named = sound-named M v (q .0);
-      sound = q .0;
+      named = sound-named M v t;
+      test = q .0;
+      follows = rw (q .0);
+      sound = t;
       place = sym (q .1);
       refs = sym (q .2);
       plains = sym (q .3);
       few = rw (← q .2) (n .0);
       some = rw (← q .3) (n .1);
-      below = sound-below M v (q .0);
+      below = sound-below M v t;
     }
 
-unsplit : (b : Bool) (k x y : ℕ) → cond b (Sound k x y) Damage ≡ Damage → b ≡ false
+pub unsplit : (b : Bool) (k x y : ℕ) → cond b (Sound k x y) Damage ≡ Damage → b ≡ false
 unsplit true k x y e = absurd (let z : _≡_ {A = ℕ} 0 1 = cc in omega arith)
 unsplit false k x y e = refl
 
-pub lost : {x : Followed} (M : Memory) (v : ℕ) → x ≡ follow M v → x ≡ Damage → sound M v ≡ false
-unfolding follow
-lost M v e d = unsplit (sound M v) _ _ _ (sym e ∙ d)
+pub lost : {x : Followed} (M : Memory) (v : ℕ) → x ≡ follow M v → x ≡ Damage → followed M v ≡ refused 12
+unfolding follow followed
+lost M v e d = rw (unsplit (followable M v) _ _ _ (sym e ∙ d))
 
 -- ---- the words of a sound record are words of its half
 

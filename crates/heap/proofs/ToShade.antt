@@ -6,10 +6,11 @@ use mathlib.Core.List.{List, _∷_}
 use lib.Dec.{eqb}
 use borrow.Author.Tests.{eqb-true}
 use Rattle.rules.specs.Refusals.{passed, _>>=_}
-use Rattle.rules.specs.Memory.{Memory, white, colour, sound, followed}
+use Rattle.rules.specs.Memory.{Memory, white, colour, sound, followable, followed}
 use Rattle.rules.specs.Barriers.{toShade, without, toShadeAll}
 use Rattle.rules.proofs.Ranges.{after-check}
 use Rattle.rules.proofs.memory.Cases.{bool-or}
+use Rattle.rules.proofs.memory.Followed.{can-follow}
 use Rattle.heap.specs.View.{ifWhite}
 use Rattle.heap.proofs.Passed.{bind-passed, same-passed}
 
@@ -31,7 +32,7 @@ pub to-shade-white : (M : Memory) (v w : ℕ) → toShade M v ≡ passed w → (
 unfolding toShade followed
 to-shade-white M v w e = bool-or (eqb v 0)
     (λ t. let z = eqb-true v 0 t in (sym (same-passed (rw t at e)) ∙ sym (null-white M v z), λ n. absurd (n z)))
-    (λ f. let b = after-check (sound M v) 12 (passed (ifWhite M v)) (rw f at e) in (sym (same-passed (b .1)), λ n. b .0))
+    (λ f. let b = after-check (followable M v) 12 (passed (ifWhite M v)) (rw f at e) in (sym (same-passed (b .1)), λ n. can-follow M v (b .0) .sound))
 
 pub to-shade-sound : (M : Memory) (v w : ℕ) → toShade M v ≡ passed w → (w ≡ 0 → ⊥) → sound M w ≡ true
 to-shade-sound M v w e n =

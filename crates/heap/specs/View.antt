@@ -5,8 +5,10 @@ use mathlib.Core.List.{List, [], _∷_}
 use lib.Dec.{eqb}
 use lib.ListN.{length}
 use Rattle.rules.specs.Refusals.{Tested, refused, passed, _>>_}
-use Rattle.rules.specs.Memory.{Memory, null, half, halfOf, wordOf, shapeAt, white, colour, refs, replica, plainField, followed}
-use Rattle.rules.specs.Barriers.{Heap}
+use Rattle.rules.specs.Memory.{Memory, null, half, halfOf, wordOf, white, colour, refs, plains, replica, sound, followed}
+use Rattle.rules.specs.Barriers.{Heap, copiesAt}
+use Rattle.rules.specs.declared.Followed.{Followed}
+use Rattle.rules.specs.declared.Followed.the-variants.{Sound, Damage}
 use Rattle.rules.specs.declared.Writes.{Writes}
 use Rattle.heap.specs.declared.Bounds.{Bounds}
 use Rattle.heap.specs.declared.Checked.{Checked}
@@ -43,10 +45,9 @@ pub record Inside (h0 h1 : List ℕ) (v j : ℕ) : Type 0 where
   pub named : 2 ≤ v
   pub below : wordOf v + j < length (half (memory h0 h1 0 0) (halfOf v))
 
--- plain field i of the record that v names is a word of its half
-pub record HasPlain (h0 h1 : List ℕ) (v i : ℕ) : Type 0 where
-  pub shape : Inside h0 h1 v shapeAt
-  pub field : Inside h0 h1 v (plainField (refs (memory h0 h1 0 0) v) i)
+-- what following answers where soundness is all that is tested
+abbrev pub soundAt : Memory → ℕ → Followed
+soundAt M v = cond (sound M v) (Sound (wordOf v) (refs M v) (plains M v)) Damage
 
 -- answers as tests of the rules: the one refusal is 12, damage
 abbrev pub checked : Checked → Tested ℕ
@@ -72,6 +73,10 @@ shaded shade.Damage = refused 12
 abbrev pub planned : Planned → Tested Writes
 planned (plan.Plan w) = passed w
 planned plan.Damage = refused 12
+
+-- the replica that a write at level l to v goes to as well, or null where none is written
+abbrev pub writtenReplica : Memory → ℕ → ℕ → ℕ
+writtenReplica M l v = cond (copiesAt l) (replica M v) null
 
 -- the test of Algorithm 9(a) for a reference p in fromspace: q is the replica of p
 unfoldable pub replicaIs : Memory → ℕ → ℕ → Tested Bool

@@ -1,18 +1,18 @@
 // What stores and puts write, by the session's level: Table 1(a) at level 5, Table 1(b) at level 6; in both a global is "Non".
-// And which replica a write goes to as well, of a reference field or of a plain one.
+// And which replica a write goes to as well.
 ghost use mathlib.Core.Path.{_≡_};
+ghost use Prim.Native.Nat.{ℕ, _<_};
 ghost use mathlib.Core.Bool.{true, cond};
 ghost use lib.Dec.{eqb};
 ghost use Rattle.rules.specs.Refusals.{passed};
-ghost use Rattle.rules.specs.Memory.{null, replicaAt, refs, plains, refField};
-ghost use Rattle.rules.specs.Barriers.{shadesAt, replicaFor, ownWord, replicaWord, storeWrites, putWrites};
-ghost use Rattle.heap.specs.View.{heap, checked, planned, Within, Inside};
+ghost use Rattle.rules.specs.Memory.{null, replicaAt, refs, followable};
+ghost use Rattle.rules.specs.Barriers.{shadesAt, ownWord, replicaWord, storeWrites, putWrites};
+ghost use Rattle.heap.specs.View.{memory, heap, checked, planned, writtenReplica, Within, Inside};
 use crate::Bounds;
 use crate::Checked;
 use crate::HEADER;
 use crate::Planned;
 use crate::REPLICA_AT;
-use crate::following::follow;
 use crate::forwarding::forward;
 use crate::forwarding::in_half;
 use crate::forwarding::other_copy;
@@ -21,41 +21,18 @@ use crate::shades::Shaded;
 use crate::shades::barrier_shades;
 use crate::shades::shades_at;
 use crate::words::get_word;
-use rules::Followed;
 use rules::Writes;
 
-// The number of plain fields, or of reference fields.
-fn count_of(plain: bool, r: u32, p: u32) -> u32
-    ensures { λ n. ⌜ n ≡ cond plain p r ⌝ }
+// The replica that a write at level l to v, a record that was followed, goes to as well, or null where none is written. It needs no test:
+// the replica of a record that was followed can be followed and has the same fields.
+pub fn replica_for<'a>(h0: &'a [u32], h1: &'a [u32], l: u32, v: u32) -> u32
+    requires { ⌜ Inside (now h0) (now h1) v replicaAt ⌝ }
+    ensures { λ r. ⌜ ((f0 f1 : ℕ) → r ≡ writtenReplica (memory (now (h0 .entry)) (now (h1 .entry)) f0 f1) l v) ⌝ }
 {
-    if plain { p } else { r }
-}
-
-// The replica that a write of field i, plain or reference, at level l goes to as well, or null where none is written.
-pub fn replica_for<'a>(
-    b: Bounds,
-    h0: &'a [u32],
-    h1: &'a [u32],
-    plain: bool,
-    l: u32,
-    v: u32,
-    i: u32,
-) -> Checked
-    requires { ⌜ Within b (now h0) (now h1) × Inside (now h0) (now h1) v replicaAt ⌝ }
-    ensures { λ r. ⌜ checked r ≡ replicaFor (heap b (now (h0 .entry)) (now (h1 .entry)) .memory) (cond plain plains refs) l v i ⌝ }
-{
-    let t = get_word(h0, h1, v, REPLICA_AT);
-    if !(4 <= l) | (t == 0) {
-        return Checked::Word(0);
+    if 4 <= l {
+        return get_word(h0, h1, v, REPLICA_AT);
     }
-    let Followed::Sound(_, r, p) = follow(h0, h1, b.frontier0, b.frontier1, t) else {
-        return Checked::Damage;
-    };
-    let count = count_of(plain, r, p);
-    if count <= i {
-        return Checked::Damage;
-    }
-    Checked::Word(t)
+    0
 }
 
 // The word that a store of q at level l writes to the record itself, v, or to a global, where v is null. Table 1(b), level 6:
@@ -135,7 +112,7 @@ fn shading_writes<'a>(b: Bounds, h0: &'a [u32], h1: &'a [u32], l: u32, old: u32,
     })
 }
 
-// All that a store of q into reference field i of v writes: at levels 1 to 3 the records to shade and q; at the others nothing
+// All that a store of q into reference field i of v, a record that was followed, writes: at levels 1 to 3 the records to shade and q; at the others nothing
 // is shaded, and the record's own word and, from level 4 on, the replica's are written.
 pub fn store_writes<'a>(
     b: Bounds,
@@ -146,7 +123,8 @@ pub fn store_writes<'a>(
     i: u32,
     q: u32,
 ) -> Planned
-    requires { ⌜ Within b (now h0) (now h1) × Inside (now h0) (now h1) v replicaAt × Inside (now h0) (now h1) v (refField i) ⌝ }
+    requires { ⌜ Within b (now h0) (now h1) × (followable (heap b (now h0) (now h1) .memory) v ≡ true)
+        × (i < refs (heap b (now h0) (now h1) .memory) v) ⌝ }
     ensures { λ r. ⌜ planned r ≡ storeWrites (heap b (now (h0 .entry)) (now (h1 .entry))) l v i q ⌝ }
 {
     let shades = shades_at(l);
@@ -154,9 +132,7 @@ pub fn store_writes<'a>(
         let old = get_word(h0, h1, v, HEADER + (i as usize));
         return shading_writes(b, h0, h1, l, old, q);
     }
-    let Checked::Word(t) = replica_for(b, h0, h1, false, l, v, i) else {
-        return Planned::Damage;
-    };
+    let t = replica_for(h0, h1, l, v);
     let Checked::Word(own) = own_word(b, h0, h1, l, v, q) else {
         return Planned::Damage;
     };

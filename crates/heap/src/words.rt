@@ -1,11 +1,9 @@
 // The words of a record that a reference names.
 ghost use mathlib.Core.Path.{_≡_};
 ghost use Prim.Native.Nat.{ℕ, _≤_};
-ghost use Rattle.rules.specs.Memory.{half, halfOf, wordOf, shapeAt, word, put, refs, plainField};
+ghost use Rattle.rules.specs.Memory.{half, halfOf, wordOf, word, put};
 ghost use Rattle.rules.specs.Barriers.{putBoth};
-ghost use Rattle.heap.specs.View.{memory, Inside, HasPlain};
-use crate::HEADER;
-use crate::SHAPE_AT;
+ghost use Rattle.heap.specs.View.{memory, Inside};
 
 // The half that a reference is in.
 pub fn half_of<'a>(h0: &'a [u32], h1: &'a [u32], v: u32) -> &'a [u32]
@@ -32,15 +30,6 @@ pub fn get_word<'a>(h0: &'a [u32], h1: &'a [u32], v: u32, j: usize) -> u32
     half[at + j]
 }
 
-// The number of reference fields of the record that v names.
-pub fn refs_of<'a>(h0: &'a [u32], h1: &'a [u32], v: u32) -> u32
-    requires { ⌜ Inside (now h0) (now h1) v shapeAt ⌝ }
-    ensures { λ r. ⌜ ((f0 f1 : ℕ) → r ≡ refs (memory (now (h0 .entry)) (now (h1 .entry)) f0 f1) v) ⌝ }
-{
-    let shape = get_word(h0, h1, v, SHAPE_AT);
-    shape / 256
-}
-
 // Sets word j of the record that v names.
 pub fn put_word(h0: &mut [u32], h1: &mut [u32], v: u32, j: usize, x: u32)
     requires { ⌜ Inside (now h0) (now h1) v j ⌝ }
@@ -64,22 +53,5 @@ pub fn put_both(h0: &mut [u32], h1: &mut [u32], v: u32, j: usize, x: u32, t: u32
     put_word(h0, h1, v, j, x);
     if t != 0 {
         put_word(h0, h1, t, k, y);
-    }
-}
-
-// Sets plain field i of v, a record with r reference fields, then plain field i of its replica t, where there is one.
-pub fn put_plain(h0: &mut [u32], h1: &mut [u32], v: u32, r: u32, i: u32, x: u32, t: u32)
-    requires { ⌜ Inside (now h0) (now h1) v (plainField r i) × ((t ≡ 0 → ⊥) → HasPlain (now h0) (now h1) t i) ⌝ }
-    ensures { λ _. ⌜ ((f0 f1 : ℕ) → memory (now (h0 .exit)) (now (h1 .exit)) f0 f1
-        ≡ putBoth (memory (now (h0 .entry)) (now (h1 .entry)) f0 f1) v (plainField r i) x t
-        (plainField (refs (memory (now (h0 .entry)) (now (h1 .entry)) f0 f1) t) i) x) ⌝ }
-{
-    let j = HEADER + (r as usize) + (i as usize);
-    if t == 0 {
-        put_word(h0, h1, v, j, x);
-    } else {
-        let n = refs_of(h0, h1, t);
-        let k = HEADER + (n as usize) + (i as usize);
-        put_both(h0, h1, v, j, x, t, k, x);
     }
 }

@@ -1,17 +1,17 @@
--- The claims 2 to 4 and two of 7 of the rules (`Claims.antt` there), said of the code: of the replies of its calls, and of the control records
+-- The claims 2 to 4, two of 7 and one of 8 of the rules (`Claims.antt` there), said of the code: of the replies of its calls, and of the control records
 -- and words that they leave.
 use Prim.Native.Nat.{ℕ, _+_, _≤_, _<_}
 use mathlib.Core.Path.{_≡_}
-use mathlib.Core.Logic.{_≢_}
+use mathlib.Core.Logic.{_≢_, _⊎_}
 use mathlib.Core.Bool.{cond}
 use mathlib.Core.List.{List, [], _∷_, _++_, List·Memᴰ}
 use lib.ListN.{length, take, drop}
-use Rattle.rules.specs.Refusals.{Reply, answer}
-use Rattle.rules.specs.Memory.{frontier}
-use Rattle.rules.specs.Cycle.{atRest, atHeapMark}
+use Rattle.rules.specs.Refusals.{passed, Reply, answer}
+use Rattle.rules.specs.Memory.{frontier, followed}
+use Rattle.rules.specs.Cycle.{atRest, atHeapMark, atReclaim}
 use Rattle.rules.specs.Runs.{Call, Step, isSession, isAllocation, sessionCalls, Fed, fedBy, steps, spentBy}
 use Rattle.rules.specs.Free.{newFree, freeRun}
-use Rattle.rules.specs.Tracking.{Beside, newBeside, beside}
+use Rattle.rules.specs.Tracking.{Beside, newBeside, beside, recordsOf}
 use Rattle.rules.specs.Claims.{FilledFrom, Living, placesIn, FreedBetween, leftIn, scansAndMove}
 use Rattle.rules.specs.declared.Answer.the-variants.{Refused}
 use Rattle.store.specs.CodeRuns.{Lent, viewed, CodeMade, Called, CodeRun, ended, next}
@@ -102,3 +102,11 @@ CodeMarkingIsOver =
     → b .control .length0 + scansAndMove < steps ds
     → (n : ℕ) × (n ≤ length ds) × (d : Lent) × CodeRun b (take n ds) (take n qs) d × CodeRun d (drop n ds) (drop n qs) e
     × (d .control .cursor .phase ≢ atHeapMark)
+
+-- ---- 8. Replicas point back
+-- in every run of the code every record of the current half can be followed, and before phase 12 every record of the other half
+unfoldable pub CodeRecordsFollowed : Type 0
+CodeRecordsFollowed =
+    (a e : Lent) (cs : List Call) (rs : List Reply) → CodeMade a → CodeRun a cs rs e
+    → (h : ℕ) → h < 2 → (h ≡ e .control .cursor .current) ⊎ (e .control .cursor .phase ≢ atReclaim)
+    → (v : ℕ) → List·Memᴰ v (recordsOf (viewed e .memory) h) → followed (viewed e .memory) v ≡ passed tt

@@ -1,94 +1,56 @@
 // Phase 7, Copy: field after field of each record with a replica, references forwarded.
 ghost use mathlib.Core.Path.{_≡_};
-ghost use Prim.Native.Nat.{ℕ, _<_};
+ghost use Prim.Native.Nat.{ℕ};
 ghost use mathlib.Core.List.{List};
-ghost use Rattle.rules.specs.Memory.{shapeAt, refs, plains};
 ghost use Rattle.rules.specs.Control.{Store};
-ghost use Rattle.rules.specs.Collector.{copyRef, copyPlain, copyField, copy};
-ghost use Rattle.heap.specs.View.{memory, Inside};
+ghost use Rattle.rules.specs.Collector.{copyField, copy};
+ghost use Rattle.heap.specs.View.{checked};
 ghost use Rattle.store.specs.Steps.{stepped};
 ghost use Rattle.store.specs.Cursors.{having, Ready};
 ghost use Rattle.store.specs.Work.{worked};
-ghost use Rattle.store.specs.Copies.{fieldCopied, Copies, Copying};
+ghost use Rattle.store.specs.Copies.{copiedWord, Copying};
 use crate::Cursor;
 use crate::work::Work;
 use heap::Checked;
 use heap::HEADER;
 use heap::REPLICA_AT;
-use heap::SHAPE_AT;
 use heap::following::follow;
 use heap::forwarding::forward;
 use heap::words::get_word;
 use heap::words::put_word;
-use heap::words::refs_of;
 use rules::Followed;
 
-// The number of plain fields of the record that v names.
-fn plains_of<'a>(h0: &'a [u32], h1: &'a [u32], v: u32) -> u32
-    requires { ⌜ Inside (now h0) (now h1) v shapeAt ⌝ }
-    ensures { λ r. ⌜ ((f0 f1 : ℕ) → r ≡ plains (memory (now (h0 .entry)) (now (h1 .entry)) f0 f1) v) ⌝ }
-{
-    let shape = get_word(h0, h1, v, SHAPE_AT);
-    shape % 256
-}
-
 impl Cursor {
-    // The next field of v, a reference field, forwarded and written to the replica t.
-    fn copy_ref(self, h0: &mut [u32], h1: &mut [u32], v: u32, t: u32) -> Work
-        requires { ⌜ Copies self (now h0) (now h1) v t × (self .field < refs (memory (now h0) (now h1) (self .frontier0) (self .frontier1)) v) ⌝ }
-        ensures { λ o. ⌜ ((s : Store) (l : List ℕ) → worked (having s self (now (h0 .exit)) (now (h1 .exit)) l) o
-            ≡ fieldCopied (having s self (now (h0 .entry)) (now (h1 .entry)) l)
-            (copyRef (having s self (now (h0 .entry)) (now (h1 .entry)) l) v t (self .field))) ⌝ }
+    // The word that a replica gets for x, the next field of a record of r reference fields: x forwarded, or x itself where it is plain.
+    fn copied_word<'a>(self, h0: &'a [u32], h1: &'a [u32], r: u32, x: u32) -> Checked
+        requires { ⌜ Ready self (now h0) (now h1) ⌝ }
+        ensures { λ w. ⌜ ((s : Store) (l : List ℕ) → checked w
+            ≡ copiedWord (having s self (now (h0 .entry)) (now (h1 .entry)) l) r x) ⌝ }
     {
-        let i = self.field;
-        let n = refs_of(h0, h1, t);
-        if (n as usize) <= i {
-            return Work::Refused(12);
+        let n = r as usize;
+        if n <= self.field {
+            return Checked::Word(x);
         }
-        let q = get_word(h0, h1, v, HEADER + i);
         // nothing is listed here, so any list will do
         let b = self.bounds(self.tail);
-        let Checked::Word(w) = forward(b, h0, h1, q) else {
-            return Work::Refused(12);
-        };
-        put_word(h0, h1, t, HEADER + i, w);
-        self.past_field()
+        forward(b, h0, h1, x)
     }
 
-    // The next field of v, plain field number i, written to the replica t.
-    fn copy_plain(self, h0: &mut [u32], h1: &mut [u32], v: u32, t: u32, i: usize) -> Work
-        requires { ⌜ Copies self (now h0) (now h1) v t × (i < plains (memory (now h0) (now h1) (self .frontier0) (self .frontier1)) v) ⌝ }
-        ensures { λ o. ⌜ ((s : Store) (l : List ℕ) → worked (having s self (now (h0 .exit)) (now (h1 .exit)) l) o
-            ≡ fieldCopied (having s self (now (h0 .entry)) (now (h1 .entry)) l)
-            (copyPlain (having s self (now (h0 .entry)) (now (h1 .entry)) l) v t i)) ⌝ }
-    {
-        let m = plains_of(h0, h1, t);
-        if (m as usize) <= i {
-            return Work::Refused(12);
-        }
-        let r = refs_of(h0, h1, v);
-        let n = refs_of(h0, h1, t);
-        let x = get_word(h0, h1, v, HEADER + (r as usize) + i);
-        put_word(h0, h1, t, HEADER + (n as usize) + i, x);
-        self.past_field()
-    }
-
-    // The next field of v, a record with a replica t, copied to t.
+    // The next field of v, a record of r reference fields that was followed, copied to its replica t. The two have the same shape, so it
+    // is the same word of both.
     fn copy_field(self, h0: &mut [u32], h1: &mut [u32], v: u32, t: u32, r: u32) -> Work
         requires { ⌜ Copying self (now h0) (now h1) v t r ⌝ }
         ensures { λ o. ⌜ ((s : Store) (l : List ℕ) → worked (having s self (now (h0 .exit)) (now (h1 .exit)) l) o
             ≡ stepped (having s self (now (h0 .entry)) (now (h1 .entry)) l)
             (copyField (having s self (now (h0 .entry)) (now (h1 .entry)) l) v (self .field))) ⌝ }
     {
-        let Followed::Sound(_, _, _) = follow(h0, h1, self.frontier0, self.frontier1, t) else {
+        let j = HEADER + self.field;
+        let x = get_word(h0, h1, v, j);
+        let Checked::Word(w) = self.copied_word(h0, h1, r, x) else {
             return Work::Refused(12);
         };
-        let i = self.field;
-        let n = r as usize;
-        if i < n {
-            return self.copy_ref(h0, h1, v, t);
-        }
-        self.copy_plain(h0, h1, v, t, i - n)
+        put_word(h0, h1, t, j, w);
+        self.past_field()
     }
 
     // Phase 7: the next field of a record with a replica is copied; past the last one, or without a replica, the walk

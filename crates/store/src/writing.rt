@@ -7,10 +7,10 @@ ghost use Rattle.store.specs.Plans.{targeted};
 use crate::Control;
 use crate::Reply;
 use crate::operands::Held;
-use heap::Checked;
+use heap::HEADER;
 use heap::following::follow;
 use heap::stores::replica_for;
-use heap::words::put_plain;
+use heap::words::put_both;
 use rules::Followed;
 
 // Where a write of a plain field goes: the record, its count of reference fields, and its replica, or null where none
@@ -52,10 +52,7 @@ impl Control {
         if p <= field {
             return Target::Refusal(13);
         }
-        let bounds = self.bounds();
-        let Checked::Word(t) = replica_for(bounds, h0, h1, true, operands.level, v, field) else {
-            return Target::Refusal(12);
-        };
+        let t = replica_for(h0, h1, operands.level, v);
         Target::Copies(v, r, t)
     }
 
@@ -76,7 +73,9 @@ impl Control {
         let answer = match self.write_target(h0, h1, list, s, register, field) {
             Target::Refusal(n) => rules::Answer::Refused(n),
             Target::Copies(v, r, t) => {
-                put_plain(h0, h1, v, r, field, value, t);
+                // the replica has the same shape, so the field is the same word of both
+                let j = HEADER + (r as usize) + (field as usize);
+                put_both(h0, h1, v, j, value, t, j, value);
                 rules::Answer::Done
             }
         };

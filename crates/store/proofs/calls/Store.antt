@@ -8,7 +8,7 @@ use lib.Dec.{ltb}
 use lib.ListN.{length, getD, set}
 use borrow.Author.Tests.{leb-true, ltb-true, le-leb, lt-leb}
 use Rattle.rules.specs.Refusals.{refused, passed, done}
-use Rattle.rules.specs.Memory.{Memory, refs, sound, refField, colourAt}
+use Rattle.rules.specs.Memory.{Memory, refs, sound, followable, refField, colourAt}
 use Rattle.rules.specs.Control.{Store, withMemory, withGlobals, lastGlobal, lastRegister}
 use Rattle.rules.specs.Phases.{register, sessionAt}
 use Rattle.rules.specs.Barriers.{Heap, heapOf, shade, storeWrites, putWrites, shadeBoth, putBoth}
@@ -29,6 +29,12 @@ use Rattle.store.specs.declared.stores.Storing.{Storing}
 use Rattle.store.specs.declared.stores.Storing.the-variants.{Refusal, Into}
 use Rattle.store.proofs.shading.Shade.{shade-globals}
 use Rattle.store.proofs.tests.Opening.{Opened, ref-in, recorded}
+
+-- ---- what `store_writes` asks for: the record was followed, and has the field
+
+pub store-ready : {s : Store} {n k from at r p : ℕ} {o : Operands} {z : Heap} (d : Opened s n k from o at r p) (i : ℕ) → i < r → z ≡ heapOf s
+    → (followable (z .memory) (o .own) ≡ true) × (i < refs (z .memory) (o .own))
+store-ready d i l c = rw c (d .found .test, rw (d .found .refs) at l)
 
 -- ---- the arms of a store's plan, by what `store_writes` answered on the bounds of the store
 
@@ -113,7 +119,7 @@ storable {q} s n k i from e =
     let v : x .own ≡ q .into = ap (λ (y : StorePlan). y .into) p in
     record {
       shaded = listable s w (b .0 .known) (st .shaded);
-      own = rw (← v) (field-inside s (x .own) i (b .0 .known) (b .1) (ltb-true i (refs (s .memory) (x .own)) (d .0)));
+      own = rw (← v) (field-inside s (x .own) i (b .0 .known) (b .1 .sound) (ltb-true i (refs (s .memory) (x .own)) (d .0)));
       copy = λ m. field-inside s (w .replica) i (b .0 .known) (st .copied m .sound) (st .copied m .field);
     }
 

@@ -8,8 +8,8 @@ use lib.Dec.{eqb}
 use lib.ListN.{length}
 use lib.Seq.{sets}
 use borrow.Author.Tests.{le-leb, lt-leb}
-use Rattle.rules.specs.Refusals.{Outcome, answer}
-use Rattle.rules.specs.Memory.{Memory, half, frontier, withHalf, withFrontier, reference, newRecord, nextReference, append, word, put, refs, plains, sound, followed, header, replicaAt, shapeAt}
+use Rattle.rules.specs.Refusals.{refused, Outcome, answer}
+use Rattle.rules.specs.Memory.{Memory, half, frontier, withHalf, withFrontier, reference, newRecord, nextReference, append, word, put, refs, plains, followed, header, replicaAt, shapeAt}
 use Rattle.rules.specs.Control.{Store, withMemory, withWalk, mostLength}
 use Rattle.rules.specs.Phases.{otherHalf}
 use Rattle.rules.specs.Collector.{below, pastRecord, handshake, needsShell, shellOf, withShell, allocateShells}
@@ -106,30 +106,30 @@ unfolding allocateShells
 shells-done s b e = rw b e
 
 module _ {c : Cursor} {h0 h1 : List ℕ} {v : ℕ} (s : Store) (l : List ℕ) where
-  pub shells-lost : AtWalk c h0 h1 v → sound (memory h0 h1 (c .frontier0) (c .frontier1)) v ≡ false
+  pub shells-lost : AtWalk c h0 h1 v → followed (memory h0 h1 (c .frontier0) (c .frontier1)) v ≡ refused 12
       → record { store = having s c h0 h1 l; reply = answer (Refused 12) } ≡ stepped (having s c h0 h1 l) (allocateShells (having s c h0 h1 l))
-  unfolding allocateShells followed
+  unfolding allocateShells
   shells-lost x d = rw (x .below s l, ← x .walked s l, d)
 
   module _ {k r p : ℕ} where
     pub shells-passed : AtRecord c h0 h1 v k r p → needsShell (memory h0 h1 (c .frontier0) (c .frontier1)) v ≡ false
         → went (withWalk (having s c h0 h1 l) (c .place + (r + p + header)) 0) ≡ stepped (having s c h0 h1 l) (allocateShells (having s c h0 h1 l))
-    unfolding allocateShells followed pastRecord
-    shells-passed x d = rw (x .walk .below s l, ← x .walk .walked s l, x .found .sound, d, size-found (x .found))
+    unfolding allocateShells pastRecord
+    shells-passed x d = rw (x .walk .below s l, ← x .walk .walked s l, x .found .follows, d, size-found (x .found))
 
     module _ {other at : ℕ} (x : AtShell c h0 h1 v k r p other at) where
       pub shells-full : length h0 < at + (r + p + header)
           → record { store = having s c h0 h1 l; reply = answer (Refused 12) } ≡ stepped (having s c h0 h1 l) (allocateShells (having s c h0 h1 l))
-      unfolding allocateShells followed
+      unfolding allocateShells
       shells-full g =
           let w = x .here .walk in
           let f = x .here .found in
-          rw (w .below s l, ← w .walked s l, f .sound, x .needed, size-found f, ← x .other, ← x .place, other-long x _ _, lt-leb (at + (r + p + header)) (length h0) g)
+          rw (w .below s l, ← w .walked s l, f .follows, x .needed, size-found f, ← x .other, ← x .place, other-long x _ _, lt-leb (at + (r + p + header)) (length h0) g)
 
       pub shells-made : {N : Memory} → at + (r + p + header) ≤ length h0 → N ≡ withShell (memory h0 h1 (c .frontier0) (c .frontier1)) other v
           → went (withWalk (withMemory (having s c h0 h1 l) N) (c .place + (r + p + header)) 0) ≡ stepped (having s c h0 h1 l) (allocateShells (having s c h0 h1 l))
-      unfolding allocateShells followed pastRecord
+      unfolding allocateShells pastRecord
       shells-made g n =
           let w = x .here .walk in
           let f = x .here .found in
-          rw (w .below s l, ← w .walked s l, f .sound, x .needed, size-found f, ← x .other, ← x .place, other-long x _ _, le-leb (at + (r + p + header)) (length h0) g, ← n)
+          rw (w .below s l, ← w .walked s l, f .follows, x .needed, size-found f, ← x .other, ← x .place, other-long x _ _, le-leb (at + (r + p + header)) (length h0) g, ← n)

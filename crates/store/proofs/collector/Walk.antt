@@ -4,8 +4,8 @@ use mathlib.Core.Path.{_≡_}
 use mathlib.Core.Bool.{Bool, true, false, not}
 use mathlib.Core.List.{List}
 use native.Mathlib.Omega.{arith}
-use Rattle.rules.specs.Refusals.{answer}
-use Rattle.rules.specs.Memory.{Memory, withFrontier, put, size, sound, follow, followed, header, replicaAt}
+use Rattle.rules.specs.Refusals.{refused, answer}
+use Rattle.rules.specs.Memory.{Memory, withFrontier, put, size, follow, followed, header, replicaAt}
 use Rattle.rules.specs.Control.{Store, withMemory, withWalk, mostFields, mostLength}
 use Rattle.rules.specs.Phases.{otherHalf, moveOn}
 use Rattle.rules.specs.Collector.{walked, below, haveLevel, pastRecord, reclaim}
@@ -68,12 +68,12 @@ module _ (s : Store) where
   reclaim-ends h b x = rw (h, b, ← x)
 
 module _ {c : Cursor} {h0 h1 : List ℕ} {v : ℕ} (s : Store) (l : List ℕ) (h : haveLevel (having s c h0 h1 l) ≡ true) where
-  pub reclaim-lost : AtWalk c h0 h1 v → sound (memory h0 h1 (c .frontier0) (c .frontier1)) v ≡ false
+  pub reclaim-lost : AtWalk c h0 h1 v → followed (memory h0 h1 (c .frontier0) (c .frontier1)) v ≡ refused 12
       → record { store = having s c h0 h1 l; reply = answer (Refused 12) } ≡ stepped (having s c h0 h1 l) (reclaim (having s c h0 h1 l))
-  unfolding reclaim followed
+  unfolding reclaim
   reclaim-lost k d = rw (h, k .below s l, ← k .walked s l, d)
 
   pub reclaim-clears : {N : Memory} {at r p : ℕ} → AtRecord c h0 h1 v at r p → N ≡ put (memory h0 h1 (c .frontier0) (c .frontier1)) v replicaAt 0
       → went (withWalk (withMemory (having s c h0 h1 l) N) (c .place + (r + p + header)) 0) ≡ stepped (having s c h0 h1 l) (reclaim (having s c h0 h1 l))
-  unfolding reclaim followed pastRecord
-  reclaim-clears k n = rw (h, k .walk .below s l, ← k .walk .walked s l, k .found .sound, size-found (k .found), ← n)
+  unfolding reclaim pastRecord
+  reclaim-clears k n = rw (h, k .walk .below s l, ← k .walk .walked s l, k .found .follows, size-found (k .found), ← n)

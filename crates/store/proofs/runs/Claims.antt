@@ -1,21 +1,22 @@
 -- The claims of the rules about runs, of the code.
 use Prim.Native.Nat.{ℕ, zero, suc, _+_, _≤_, _<_}
 use mathlib.Core.Path.{_≡_, refl, sym, ap, ap₂, subst, _∙_}
+use mathlib.Core.Logic.{_≢_, _⊎_}
 use mathlib.Core.Bool.{cond}
 use mathlib.Core.List.{List, [], _∷_, _++_, List·Memᴰ}
 use lib.ListN.{take, drop}
-use Rattle.rules.specs.Refusals.{Reply}
-use Rattle.rules.specs.Memory.{frontier}
+use Rattle.rules.specs.Refusals.{passed, Reply}
+use Rattle.rules.specs.Memory.{frontier, followed}
 use Rattle.rules.specs.Control.{Store}
 use Rattle.rules.specs.Runs.{Call, Step, apply, run, after, isSession, isAllocation, sessionRun, fedBy, feeds, steps, spentBy, spent}
-use Rattle.rules.specs.Tracking.{Beside, besideCall, beside, newBeside}
-use Rattle.rules.specs.Cycle.{atRest}
-use Rattle.rules.specs.Claims.{Answers, NoDamage, FilledFrom, Filled, TwoRuns, Freed, FreedBetween, leftIn, placesIn, StaysFreed, scansAndMove, MarkingEnds, MarkingIsOver}
+use Rattle.rules.specs.Tracking.{Beside, besideCall, beside, newBeside, recordsOf}
+use Rattle.rules.specs.Cycle.{atRest, atReclaim}
+use Rattle.rules.specs.Claims.{Answers, NoDamage, FilledFrom, Filled, TwoRuns, Freed, FreedBetween, leftIn, placesIn, StaysFreed, scansAndMove, MarkingEnds, MarkingIsOver, RecordsFollowed}
 use Rattle.rules.proofs.runs.Runs.{beside-store}
-use Rattle.rules.proofs.runs.Claims.{answers, no-damage, filled, two-runs, freed, stays-freed}
+use Rattle.rules.proofs.runs.Claims.{answers, no-damage, filled, two-runs, freed, stays-freed, records-followed}
 use Rattle.rules.proofs.runs.MarkingEnds.{marking-ends, marking-is-over}
 use Rattle.store.specs.CodeRuns.{Lent, viewed, CodeRun, ended, next}
-use Rattle.store.specs.CodeClaims.{sessionReplies, fedReplies, CodeAnswers, CodeNoDamage, CodeFilled, CodeTwoRuns, besideCode, CodeFreed, CodeStaysFreed, codeSpent, CodeMarkingEnds, CodeMarkingIsOver}
+use Rattle.store.specs.CodeClaims.{sessionReplies, fedReplies, CodeAnswers, CodeNoDamage, CodeFilled, CodeTwoRuns, besideCode, CodeFreed, CodeStaysFreed, codeSpent, CodeMarkingEnds, CodeMarkingIsOver, CodeRecordsFollowed}
 use Rattle.store.proofs.runs.Runs.{called-applies, code-made, run-applies}
 
 -- of the replies of a run of the rules, the session answers and what is fed
@@ -130,3 +131,11 @@ code-marking-is-over a b e cs ds rs qs made calls calls′ more =
     let p = run-cut calls′ (o .0) in
     let q : viewed (p .0) ≡ after (after (viewed a) cs) (take (o .0) ds) = run-applies (p .1) .1 ∙ ap (λ s. after s (take (o .0) ds)) k in
     (o .0, o .1, p .0, p .1, p .2, λ z. o .2 (sym (ap (λ s. s .phase) q) ∙ z))
+
+-- ---- replicas
+
+pub code-records-followed : CodeRecordsFollowed
+unfolding CodeRecordsFollowed RecordsFollowed
+code-records-followed a e cs rs made calls =
+    subst (λ (s : Store). (h : ℕ) → h < 2 → (h ≡ s .current) ⊎ (s .phase ≢ atReclaim) → (v : ℕ) → List·Memᴰ v (recordsOf (s .memory) h) → followed (s .memory) v ≡ passed tt)
+    (sym (run-applies calls .1)) (records-followed (viewed a) (code-made made) cs)

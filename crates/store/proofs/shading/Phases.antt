@@ -1,13 +1,13 @@
 -- The arms of the phases that mark.
 use Prim.Native.Nat.{ℕ, _+_, _-_, _≤_, _<_}
 use mathlib.Core.Path.{_≡_, _∙_, sym, refl, ap}
-use mathlib.Core.Bool.{true, false}
+use mathlib.Core.Bool.{true}
 use mathlib.Core.List.{List, [], _∷_, map}
 use native.Mathlib.Omega.{arith}
 use lib.ListN.{length, length-map, getD, set}
 use borrow.Author.Tests.{lt-ltb, le-ltb, le-leb, lt-leb}
 use Rattle.rules.specs.Refusals.{Tested, refused, passed, _>>=_}
-use Rattle.rules.specs.Memory.{Memory, half, word, put, colour, refs, sound, followed, colourAt, grey, black, header}
+use Rattle.rules.specs.Memory.{Memory, half, word, put, colour, refs, followed, colourAt, grey, black, header}
 use Rattle.rules.specs.Control.{Store, withMemory, withWalk, withList, withSessions, globalCount}
 use Rattle.rules.specs.Phases.{moveOn, lowestUnmarked, absent, sessionAt, withSession, withMark}
 use Rattle.rules.specs.Barriers.{heapOf, listRoom, shading, shade, toShadeAll, listing, shadingAll, shadeAll}
@@ -75,22 +75,22 @@ module _ (s : Store) where
 -- ---- HeapMark: a listed record
 
 module _ (s : Store) (v : ℕ) where
-  pub record-damage : sound (s .memory) v ≡ false → scanRecord s v ≡ refused 12
-  unfolding scanRecord followed
+  pub record-damage : followed (s .memory) v ≡ refused 12 → scanRecord s v ≡ refused 12
+  unfolding scanRecord
   record-damage d = rw d
 
   module _ {at r p : ℕ} (f : Found (s .memory) v at r p) where
     pub field-next : {q : ℕ} → s .walk .field < r → q ≡ word (s .memory) v (s .walk .field + header)
         → scanRecord s v ≡ shadeNext s q (s .walk .place) (s .walk .field + 1)
-    unfolding scanRecord followed shadeNext
+    unfolding scanRecord shadeNext
     field-next h w =
         let c : s .walk .field + header ≡ header + s .walk .field = omega arith in
-        rw (f .sound, ← f .refs, lt-ltb (s .walk .field) r h, w, c)
+        rw (f .follows, ← f .refs, lt-ltb (s .walk .field) r h, w, c)
 
     pub record-done : {N : Memory} → r ≤ s .walk .field → N ≡ put (s .memory) v colourAt black
         → scanRecord s v ≡ passed (withWalk (withList (withMemory s N) (s .list .words) (s .list .head + 1) (s .list .tail)) (s .walk .place) 0)
-    unfolding scanRecord followed
-    record-done h w = rw (f .sound, ← f .refs, le-ltb (s .walk .field) r h, w)
+    unfolding scanRecord
+    record-done h w = rw (f .follows, ← f .refs, le-ltb (s .walk .field) r h, w)
 
 module _ {c : Cursor} {h0 h1 : List ℕ} {v at r p : ℕ} (k : Ready c h0 h1) (f : Found (memory h0 h1 (c .frontier0) (c .frontier1)) v at r p) where
   pub colour-inside : Inside h0 h1 v colourAt

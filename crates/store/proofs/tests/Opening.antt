@@ -6,13 +6,15 @@ use lib.Dec.{leb, ltb}
 use lib.ListN.{length}
 use borrow.Author.Tests.{leb-true, lt-ltb, le-ltb}
 use Rattle.rules.specs.Refusals.{refused, passed}
-use Rattle.rules.specs.Memory.{refs, plains, sound, follow, followed, header}
+use Rattle.rules.specs.Memory.{refs, plains, followable, follow, followed, header}
 use Rattle.rules.specs.Control.{Store, lastRegister, lastSession}
 use Rattle.rules.specs.Calls.{sessionOf, isRegister, operandsOf, recordOf}
+use Rattle.rules.specs.Claims.{CanFollow}
 use Rattle.rules.specs.declared.Operands.{Operands}
 use Rattle.rules.specs.declared.Followed.{Followed}
 use Rattle.rules.specs.declared.Followed.the-variants.{Sound, Damage}
 use Rattle.rules.proofs.Ranges.{InRange, both, in-session, fronts, after-check}
+use Rattle.rules.proofs.memory.Followed.{can-follow}
 use Rattle.heap.specs.View.{Inside}
 use Rattle.heap.proofs.Passed.{bind-passed, same-passed}
 use Rattle.heap.proofs.Soundness.{Found, found, lost}
@@ -39,12 +41,12 @@ worked s n k o e =
     record { known = c .known; number = c .number; first = leb-true k 7 (b .0); second = leb-true o 7 (b .1) }
 
 -- and 12
-pub recorded : {x : Operands} (s : Store) (n k o : ℕ) → recordOf s n k o ≡ passed x → Worked s n k o × (sound (s .memory) (x .own) ≡ true)
+pub recorded : {x : Operands} (s : Store) (n k o : ℕ) → recordOf s n k o ≡ passed x → Worked s n k o × CanFollow (s .memory) (x .own)
 unfolding recordOf followed
 recorded s n k o e =
     let a = bind-passed (operandsOf s n k o) _ e in
-    let b = after-check (sound (s .memory) (a .0 .own)) 12 (passed (a .0)) (a .2) in
-    (worked s n k o (a .1), rw (same-passed (b .1)) at (b .0))
+    let b = after-check (followable (s .memory) (a .0 .own)) 12 (passed (a .0)) (a .2) in
+    (worked s n k o (a .1), rw (same-passed (b .1)) at (can-follow (s .memory) (a .0 .own) (b .0)))
 
 -- ---- the opening
 
@@ -73,15 +75,15 @@ module _ {h : Held} (s : Store) (n k o : ℕ) (e : tested h ≡ operandsOf s n k
     -- and by what following found
     module _ {y : Followed} (f : y ≡ follow (s .memory) (x .own)) where
       pub unsound : y ≡ Damage → recordOf s n k o ≡ refused 12
-      unfolding recordOf followed
+      unfolding recordOf
       unsound d = rw (passes, lost (s .memory) (x .own) f d)
 
       pub opened : {at r p : ℕ} → y ≡ Sound at r p → Opened s n k o x at r p
-      unfolding recordOf followed
+      unfolding recordOf
       opened {at} {r} {p} d =
           let a : Found (s .memory) (x .own) at r p = found (s .memory) (x .own) f d in
           record {
-            tests = rw (passes, a .sound);
+            tests = rw (passes, a .follows);
             known = worked s n k o passes .known;
             found = a;
             head = found-header _ _ _ _ _ a (lent .0) (lent .1);

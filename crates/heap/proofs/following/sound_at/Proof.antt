@@ -5,10 +5,10 @@ use native.Mathlib.Omega.{arith}
 use lib.ListN.{length}
 use Rattle.rules.specs.Memory.{wordOf, shapeAt}
 use Rattle.heap.proofs.Halves.{frontier-within}
-use Rattle.heap.proofs.Soundness.{follow-none, follow-short, follow-sound, follow-damage}
+use Rattle.heap.proofs.Soundness.{sound-none, sound-short, sound-passes, sound-fails}
 use borrow.Author.Needs.{needs}
-use Rattle.heap.proofs.following.follow.Statement.{statement}
-use Rattle.heap.proofs.following.follow.Tie as tie
+use Rattle.heap.proofs.following.sound_at.Statement.{statement}
+use Rattle.heap.proofs.following.sound_at.Tie as tie
 
 -- the place of the record is small, and the half reaches to its frontier
 at-small : (c : tie.After-word-of) → c .word-of .result ≤ 4294967295
@@ -22,7 +22,7 @@ half-long c =
     omega (arith, ap length (c .before .half-of .ensures (a .f0) (a .f1)), c .frontier-of .ensures (a .h0 .now) (a .h1 .now), frontier-within (a .h0 .now) (a .h1 .now) (a .f0) (a .f1) (a .v) (x .pre .0) (x .pre .1))
 
 returns : tie.Need-returns
-returns c = follow-none _ _ (c .if1 .taken)
+returns c = sound-none _ _ (c .if1 .taken)
 
 word-of-requires : tie.Need-word-of-requires
 word-of-requires c κs = search needs
@@ -37,7 +37,7 @@ add-if2 : tie.Need-add-if2
 add-if2 c = omega (arith, at-small (c .before .before))
 
 returns-2 : tie.Need-returns-2
-returns-2 c = follow-short _ _ _ _ _ (c .before .before .before .word-of .ensures) (c .before .before .half-of .ensures _ _) (c .before .frontier-of .ensures _ _) (c .if2 .taken)
+returns-2 c = sound-short _ _ _ _ _ (c .before .before .before .word-of .ensures) (c .before .before .half-of .ensures _ _) (c .before .frontier-of .ensures _ _) (c .if2 .taken)
 
 add-shape : tie.Need-add-shape
 add-shape c = search needs
@@ -79,15 +79,15 @@ add-end-3 c =
 returns-3 : tie.Need-returns-3
 returns-3 c =
     let w = c .before .before .before .before .before .before in
-    follow-sound _ _ _ _ _ (w .word-of .ensures) (c .before .before .before .before .before .half-of .ensures _ _) (c .before .before .before .before .frontier-of .ensures _ _) (w .before .if1 .left) (c .if3 .taken)
+    sound-passes _ _ _ _ _ (w .word-of .ensures) (c .before .before .before .before .before .half-of .ensures _ _) (c .before .before .before .before .frontier-of .ensures _ _) (w .before .if1 .left) (c .if3 .taken)
 
 returns-4 : tie.Need-returns-4
 returns-4 c =
     let w = c .before .before .before .before .before .before in
-    follow-damage _ _ _ _ _ (w .word-of .ensures) (c .before .before .before .before .before .half-of .ensures _ _) (c .before .before .before .before .frontier-of .ensures _ _) (w .before .if1 .left) (c .if3 .left)
+    sound-fails _ _ _ _ _ (w .word-of .ensures) (c .before .before .before .before .before .half-of .ensures _ _) (c .before .before .before .before .frontier-of .ensures _ _) (w .before .if1 .left) (c .if3 .left)
 
-pub follow-spec : {M : Type 1} → statement M
-follow-spec =
+pub sound-at-spec : {M : Type 1} → statement M
+sound-at-spec =
     tie.close
     (tie.spec
     returns

@@ -1,33 +1,50 @@
--- Levels 1 to 3 as a put over the field's word; at the others the tests in order: damage at the first that fails, else the plan.
-use mathlib.Core.Path.{_≡_, _∙_, sym}
+-- Levels 1 to 3 as a put over the field's word; at the others the replica that a record that was followed has, and the tests in order:
+-- damage at the first that fails, else the plan.
+use Prim.Native.Nat.{_+_}
+use mathlib.Core.Path.{_≡_, _∙_, sym, ap}
 use mathlib.Core.Bool.{false}
+use Rattle.rules.specs.Refusals.{passed}
+use Rattle.rules.specs.Memory.{header, replicaAt, refs}
+use Rattle.rules.specs.Barriers.{shadesAt, replicaFor, ownWord, storeWrites}
+use Rattle.rules.specs.Claims.{CanFollow}
+use Rattle.rules.proofs.memory.Followed.{can-follow}
+use Rattle.heap.specs.View.{heap, Inside}
+use Rattle.heap.proofs.Soundness.{header-inside}
+use Rattle.heap.proofs.Fields.{ref-inside}
 use Rattle.heap.proofs.Answers.{word-passed, word-refused}
 use Rattle.heap.proofs.Levels.{unshaded, as-put}
-use Rattle.rules.specs.Refusals.{passed}
-use Rattle.rules.specs.Memory.{refs}
-use Rattle.rules.specs.Barriers.{shadesAt, replicaFor, ownWord, storeWrites}
-use Rattle.heap.specs.View.{heap}
+use Rattle.heap.proofs.Replicas.{replica-written}
 use borrow.Author.Needs.{needs}
 use Rattle.heap.proofs.stores.store_writes.Statement.{statement}
 use Rattle.heap.proofs.stores.store_writes.Tie as tie
+
+-- the record was followed, and has the field
+followed : (c : tie.Start) → CanFollow (heap (c .args .b) (c .args .h0 .now) (c .args .h1 .now) .memory) (c .args .v)
+followed c = can-follow _ _ (c .pre .1)
+
+field : (c : tie.Start) → Inside (c .args .h0 .now) (c .args .h1 .now) (c .args .v) (header + c .args .i)
+field c = ref-inside _ _ _ _ _ (followed c .sound) (c .pre .0 .low) (c .pre .0 .high) _ (c .pre .2)
 
 -- past the test of the level: nothing is shaded
 plain : (c : tie.Else1) → shadesAt (c .before .before .before .before .args .l) ≡ false
 plain c = sym (c .before .shades-at .ensures) ∙ c .if1 .left
 
 -- past the replica: the one that is written as well
-abbrev first : tie.After-t → tie.Else1
-first c = c .before .before .before
+abbrev entry : tie.After-replica-for → tie.Start
+entry c = c .before .before .before .before .before
 
-replica : (c : tie.After-t) → let a = first c .before .before .before .before .args in
-    replicaFor (heap (a .b) (a .h0 .now) (a .h1 .now) .memory) refs (a .l) (a .v) (a .i) ≡ passed (c .t .given .0 .0)
-replica c = word-passed (c .before .before .replica-for .ensures) (c .t .given .1)
+replica : (c : tie.After-replica-for) → let a = entry c .args in
+    replicaFor (heap (a .b) (a .h0 .now) (a .h1 .now) .memory) refs (a .l) (a .v) (a .i) ≡ passed (c .replica-for .result)
+replica c =
+    let x = entry c in
+    let b = x .args .b in
+    replica-written (followed x) false (x .args .l) (x .args .i) (x .pre .2) ∙ ap passed (sym (c .replica-for .ensures (b .frontier0) (b .frontier1)))
 
 -- past the own word: the word for the record itself
-abbrev second : tie.After-own → tie.After-t
-second c = c .before .before .before .before
+abbrev past : tie.After-own → tie.After-replica-for
+past c = c .before .before .before
 
-own : (c : tie.After-own) → let a = first (second c) .before .before .before .before .args in
+own : (c : tie.After-own) → let a = entry (past c) .args in
     ownWord (heap (a .b) (a .h0 .now) (a .h1 .now)) (a .l) (a .v) (a .q) ≡ passed (c .own .given .0 .0)
 own c = word-passed (c .before .before .own-word .ensures) (c .own .given .1)
 
@@ -38,7 +55,7 @@ add-get-word : tie.Need-add-get-word
 add-get-word c = search needs
 
 get-word-requires : tie.Need-get-word-requires
-get-word-requires c κs = search needs
+get-word-requires c κs = let x = c .before .before .before .before in field x
 
 shading-writes-requires : tie.Need-shading-writes-requires
 shading-writes-requires c κs = (c .before .before .before .before .before .pre .0, sym (c .before .before .shades-at .ensures) ∙ c .before .if1 .taken)
@@ -49,17 +66,9 @@ returns c =
     rw (← as-put _ _ _ (sym (t .before .shades-at .ensures) ∙ t .if1 .taken), ← c .before .get-word .ensures _ _) (c .shading-writes .ensures)
 
 replica-for-requires : tie.Need-replica-for-requires
-replica-for-requires c κs = search needs
-
-enum-known-t : tie.Need-enum-known-t
-enum-known-t c = search needs
-
-enum-told : tie.Need-enum-told
-enum-told c = search needs
-
-returns-2 : tie.Need-returns-2
-unfolding storeWrites
-returns-2 c = rw (unshaded _ _ _ _ (plain (c .before .before .before)), word-refused (c .before .before .replica-for .ensures) (c .enum-told .given .1))
+replica-for-requires c κs =
+    let x = c .before .before .before .before in
+    header-inside _ _ _ _ _ (followed x .sound) (x .pre .0 .low) (x .pre .0 .high) replicaAt (search needs)
 
 own-word-requires : tie.Need-own-word-requires
 own-word-requires c κs = search needs
@@ -67,14 +76,14 @@ own-word-requires c κs = search needs
 enum-known-own : tie.Need-enum-known-own
 enum-known-own c = search needs
 
-enum-told-2 : tie.Need-enum-told-2
-enum-told-2 c = search needs
+enum-told : tie.Need-enum-told
+enum-told c = search needs
 
-returns-3 : tie.Need-returns-3
+returns-2 : tie.Need-returns-2
 unfolding storeWrites
-returns-3 c =
-    let t = c .before .before .before .before in
-    rw (unshaded _ _ _ _ (plain (first t)), replica t, word-refused (c .before .before .own-word .ensures) (c .enum-told2 .given .1))
+returns-2 c =
+    let t = c .before .before .before in
+    rw (unshaded _ _ _ _ (plain (t .before)), replica t, word-refused (c .before .before .own-word .ensures) (c .enum-told .given .1))
 
 copy-word-requires : tie.Need-copy-word-requires
 copy-word-requires c κs = search needs
@@ -82,22 +91,22 @@ copy-word-requires c κs = search needs
 enum-known-copy : tie.Need-enum-known-copy
 enum-known-copy c = search needs
 
-enum-told-3 : tie.Need-enum-told-3
-enum-told-3 c = search needs
+enum-told-2 : tie.Need-enum-told-2
+enum-told-2 c = search needs
+
+returns-3 : tie.Need-returns-3
+unfolding storeWrites
+returns-3 c =
+    let o = c .before .before .before .before in
+    let t = past o in
+    rw (unshaded _ _ _ _ (plain (t .before)), replica t, own o, word-refused (c .before .before .copy-word .ensures) (c .enum-told2 .given .1))
 
 returns-4 : tie.Need-returns-4
 unfolding storeWrites
 returns-4 c =
-    let o = c .before .before .before .before in
-    let t = second o in
-    rw (unshaded _ _ _ _ (plain (first t)), replica t, own o, word-refused (c .before .before .copy-word .ensures) (c .enum-told3 .given .1))
-
-returns-5 : tie.Need-returns-5
-unfolding storeWrites
-returns-5 c =
     let o = c .before .before .before .before .before in
-    let t = second o in
-    rw (unshaded _ _ _ _ (plain (first t)), replica t, own o, word-passed (c .before .before .before .copy-word .ensures) (c .before .copy .given .1))
+    let t = past o in
+    rw (unshaded _ _ _ _ (plain (t .before)), replica t, own o, word-passed (c .before .before .before .copy-word .ensures) (c .before .copy .given .1))
 
 pub store-writes-spec : {M : Type 1} → statement M
 store-writes-spec =
@@ -109,15 +118,12 @@ store-writes-spec =
     shading-writes-requires
     returns
     replica-for-requires
-    enum-known-t
-    enum-told
-    returns-2
     own-word-requires
     enum-known-own
-    enum-told-2
-    returns-3
+    enum-told
+    returns-2
     copy-word-requires
     enum-known-copy
-    enum-told-3
-    returns-4
-    returns-5)
+    enum-told-2
+    returns-3
+    returns-4)

@@ -1,11 +1,9 @@
 -- The tests of a store in order, then what it writes.
-use native.Mathlib.Omega.{arith}
-use Rattle.rules.specs.Memory.{replicaAt}
 use Rattle.rules.specs.Calls.{storePlan}
 use Rattle.store.specs.View.{view}
 use Rattle.store.proofs.shading.Shade.{within}
 use Rattle.store.proofs.tests.Opening.{Opened, away, lent, unsound, opened, ref-out}
-use Rattle.store.proofs.calls.Store.{plan-unwritable, plan-made}
+use Rattle.store.proofs.calls.Store.{store-ready, plan-unwritable, plan-made}
 use borrow.Author.Needs.{needs}
 use Rattle.store.proofs.Control.store_plan.Statement.{statement}
 use Rattle.store.proofs.Control.store_plan.Tie as tie
@@ -60,7 +58,9 @@ bounds-requires c κs = search needs
 store-writes-requires : tie.Need-store-writes-requires
 store-writes-requires c κs =
     let d = opening (c .before .before .before) in
-    (within _ _ (c .bounds .ensures _ _ _ (d .known .lent2)) (d .known), d .head replicaAt (omega arith), d .ref _ (c .before .if1 .left))
+    let e = c .bounds .ensures _ _ _ (d .known .lent2) in
+    let q = store-ready d _ (c .before .if1 .left) e in
+    (within _ _ e (d .known), q .0, q .1)
 
 enum-known-w : tie.Need-enum-known-w
 enum-known-w c = search needs

@@ -18,8 +18,17 @@ enum-known-n c = search needs
 enum-known-v : tie.Need-enum-known-v
 enum-known-v c = search needs
 
-put-plain-requires : tie.Need-put-plain-requires
-put-plain-requires c κs =
+cast-j : tie.Need-cast-j
+cast-j c = search needs
+
+add-j : tie.Need-add-j
+add-j c = search needs
+
+add-j-2 : tie.Need-add-j-2
+add-j-2 c = search needs
+
+put-both-requires : tie.Need-put-both-requires
+put-both-requires c κs =
     let t = c .before .before .before .before .before in
     writable _ _ _ _ (value t) (t .write-target .ensures) (c .before .before .before .v .given .1)
 
@@ -43,7 +52,7 @@ same-length-4 c = search needs
 returns-2 : tie.Need-returns-2
 returns-2 c =
     let v = c .before .before .before .before .before .before .before .before in
-    written _ _ _ _ (value (v .before .before)) (v .before .before .write-target .ensures) (v .v .given .1) (c .before .before .before .before .put-plain .ensures _ _)
+    written _ _ _ _ (value (v .before .before)) (v .before .before .write-target .ensures) (v .v .given .1) (c .before .before .before .before .put-both .ensures _ _)
 
 pub write-spec : {M : Type 1} → statement M
 write-spec =
@@ -52,7 +61,10 @@ write-spec =
     write-target-requires
     enum-known-n
     enum-known-v
-    put-plain-requires
+    cast-j
+    add-j
+    add-j-2
+    put-both-requires
     same-length
     same-length-2
     returns

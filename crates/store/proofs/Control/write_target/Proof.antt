@@ -2,14 +2,22 @@
 use native.Mathlib.Omega.{arith}
 use Rattle.rules.specs.Memory.{replicaAt}
 use Rattle.rules.specs.Calls.{writePlan}
-use Rattle.heap.proofs.Answers.{word-refused, word-passed}
 use Rattle.store.specs.View.{view}
-use Rattle.store.proofs.shading.Shade.{within}
 use Rattle.store.proofs.tests.Opening.{Opened, away, lent, unsound, opened, plain-out}
-use Rattle.store.proofs.calls.Write.{astray, target}
+use Rattle.store.proofs.calls.Write.{target}
 use borrow.Author.Needs.{needs}
 use Rattle.store.proofs.Control.write_target.Statement.{statement}
 use Rattle.store.proofs.Control.write_target.Tie as tie
+
+-- what the opening gives of the record found
+opening : (c : tie.After-r)
+    → let a = c .before .before .before .before .before .before .before .before .before .before .args in
+    let f = c .r .given .0 in
+    Opened (view (a .self) (a .h0 .now) (a .h1 .now) (a .list .now)) (a .s) (a .register) (a .register)
+    (c .before .before .before .before .operands .given .0 .0) (f .0) (f .1 .0) (f .1 .1 .0)
+opening c =
+    let x = c .before .before .before .before in
+    opened _ _ _ _ (x .before .before .held .ensures) (x .operands .given .1) (c .before .before .follow .ensures) (c .r .given .1)
 
 held-requires : tie.Need-held-requires
 held-requires c κs = search needs
@@ -39,47 +47,17 @@ returns-2 c =
     let x = c .before .before .before .before in
     rw (unsound _ _ _ _ (x .before .before .held .ensures) (x .operands .given .1) (c .before .before .follow .ensures) (c .enum-told .given .1))
 
--- what the opening gives of the record found
-opening : (c : tie.After-r)
-    → let a = c .before .before .before .before .before .before .before .before .before .before .args in
-    let f = c .r .given .0 in
-    Opened (view (a .self) (a .h0 .now) (a .h1 .now) (a .list .now)) (a .s) (a .register) (a .register)
-    (c .before .before .before .before .operands .given .0 .0) (f .0) (f .1 .0) (f .1 .1 .0)
-opening c =
-    let x = c .before .before .before .before in
-    opened _ _ _ _ (x .before .before .held .ensures) (x .operands .given .1) (c .before .before .follow .ensures) (c .r .given .1)
-
 returns-3 : tie.Need-returns-3
 unfolding writePlan
 returns-3 c =
     let d = opening (c .before .before) in
     rw (d .tests, plain-out d _ (c .if1 .taken))
 
-bounds-requires : tie.Need-bounds-requires
-bounds-requires c κs = search needs
-
 replica-for-requires : tie.Need-replica-for-requires
-replica-for-requires c κs =
-    let d = opening (c .before .before .before) in
-    (within _ _ (c .bounds .ensures _ _ _ (d .known .lent2)) (d .known), d .head replicaAt (omega arith))
-
-enum-known-t : tie.Need-enum-known-t
-enum-known-t c = search needs
-
-enum-told-2 : tie.Need-enum-told-2
-enum-told-2 c = search needs
+replica-for-requires c κs = opening (c .before .before) .head replicaAt (omega arith)
 
 returns-4 : tie.Need-returns-4
-returns-4 c =
-    let b = c .before .before .before in
-    let d = opening (b .before .before .before) in
-    rw (astray d _ (b .before .if1 .left) (b .bounds .ensures _ _ _ (d .known .lent2)) (word-refused (c .before .before .replica-for .ensures) (c .enum-told2 .given .1)))
-
-returns-5 : tie.Need-returns-5
-returns-5 c =
-    let b = c .before .before .before .before in
-    let d = opening (b .before .before .before) in
-    rw (target d _ (b .before .if1 .left) (b .bounds .ensures _ _ _ (d .known .lent2)) (word-passed (c .before .before .before .replica-for .ensures) (c .before .t .given .1)))
+returns-4 c = rw (target (opening (c .before .before .before)) (c .before .if1 .left) (c .replica-for .ensures _ _))
 
 pub write-target-spec : {M : Type 1} → statement M
 write-target-spec =
@@ -94,9 +72,5 @@ write-target-spec =
     enum-told
     returns-2
     returns-3
-    bounds-requires
     replica-for-requires
-    enum-known-t
-    enum-told-2
-    returns-4
-    returns-5)
+    returns-4)

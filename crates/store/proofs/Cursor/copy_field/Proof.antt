@@ -1,32 +1,31 @@
--- The replica followed, then a reference field or a plain one.
-use native.Mathlib.Omega.{arith}
-use Rattle.heap.proofs.Soundness.{found, lost}
-use Rattle.store.specs.Copies.{Copies}
-use Rattle.store.proofs.collector.Copy.{field-lost, field-ref, field-plain}
+-- The word that the replica gets, or damage; then it is written.
+use mathlib.Core.Path.{_∙_, sym, ap}
+use Rattle.heap.specs.View.{checked}
+use Rattle.store.specs.Cursors.{having}
+use Rattle.store.proofs.collector.Numbers.{goes}
+use Rattle.store.proofs.collector.Copy.{copy-follows, field-here, field-there, field-lost, field-copied}
 use borrow.Author.Needs.{needs}
 use Rattle.store.proofs.Cursor.copy_field.Statement.{statement}
 use Rattle.store.proofs.Cursor.copy_field.Tie as tie
 
--- the entry, from where the replica is followed
-abbrev entry : tie.After-follow → tie.Start
-entry c = c .before .before .before .before .before
+-- the entry, from the word read
+abbrev entry : tie.After-get-word → tie.Start
+entry c = c .before .before .before .before .before .before
 
--- the record and its replica are sound
-known : (c : tie.After-enum-told) → let a = entry (c .before .before) .args in Copies (a .self) (a .h0 .now) (a .h1 .now) (a .v) (a .t)
-known c =
-    let p = entry (c .before .before) .pre in
-    record { ranges = p .ranges; here = p .here; there = found _ _ (c .before .before .follow .ensures) (c .enum-told .given .1) .sound }
+add-j : tie.Need-add-j
+add-j c = search needs
 
-follow-requires : tie.Need-follow-requires
-follow-requires c κs =
-    let k = c .before .before .before .before .pre .ranges in
-    (k .low, k .high)
+get-word-requires : tie.Need-get-word-requires
+get-word-requires c κs = field-here (c .before .before .before .before .before .pre)
+
+copied-word-requires : tie.Need-copied-word-requires
+copied-word-requires c κs = search needs
+
+enum-known-w : tie.Need-enum-known-w
+enum-known-w c = search needs
 
 enum-told : tie.Need-enum-told
 enum-told c = search needs
-
-enum-told-2 : tie.Need-enum-told-2
-enum-told-2 c = search needs
 
 same-length : tie.Need-same-length
 same-length c = search needs
@@ -36,11 +35,17 @@ same-length-2 c = search needs
 
 returns : tie.Need-returns
 returns c =
-    let f = c .before .before in
-    λ s l. field-lost _ _ (entry f .pre .replica) (lost _ _ (f .follow .ensures) (c .enum-told2 .given .1))
+    let g = c .before .before .before .before .before in
+    let x = entry g in
+    let a = x .args in
+    λ s l. field-lost (having s (a .self) (a .h0 .now) (a .h1 .now) l) (copy-follows (x .pre)) (x .pre .replica) (x .pre .paired) (x .pre .count) (x .pre .left)
+    (g .get-word .ensures (a .self .frontier0) (a .self .frontier1)) (sym (c .before .before .copied-word .ensures s l) ∙ ap checked (c .enum-told .given .1))
 
-copy-ref-requires : tie.Need-copy-ref-requires
-copy-ref-requires c κs = (known (c .before .before .before), rw (← entry (c .before .before .before .before .before) .pre .count) (c .before .before .if1 .taken))
+put-word-requires : tie.Need-put-word-requires
+put-word-requires c κs = field-there (entry (c .before .before .before .before .before .before .before .before) .pre)
+
+past-field-requires : tie.Need-past-field-requires
+past-field-requires c κs = search needs
 
 same-length-3 : tie.Need-same-length-3
 same-length-3 c = search needs
@@ -50,42 +55,28 @@ same-length-4 c = search needs
 
 returns-2 : tie.Need-returns-2
 returns-2 c =
-    let t = c .before .before .before .before .before .before .before in
-    let p = entry (t .before .before .before) .pre in
-    λ s l. field-ref _ _ (p .replica) (known (t .before) .there) (p .count) (t .if1 .taken) (c .before .before .before .before .copy-ref .ensures s l)
-
-copy-plain-requires : tie.Need-copy-plain-requires
-copy-plain-requires c κs =
-    let p = entry (c .before .before .before .before .before) .pre in
-    (known (c .before .before .before), omega arith)
-
-same-length-5 : tie.Need-same-length-5
-same-length-5 c = search needs
-
-same-length-6 : tie.Need-same-length-6
-same-length-6 c = search needs
-
-returns-3 : tie.Need-returns-3
-returns-3 c =
-    let t = c .before .before .before .before .before .before .before in
-    let p = entry (t .before .before .before) .pre in
-    λ s l. field-plain _ _ (p .replica) (known (t .before) .there) (p .count) (t .if1 .left) (c .before .before .before .before .copy-plain .ensures s l)
+    let g = c .before .before .before .before .before .before .before .before .before .before .before .before .before .before in
+    let x = entry g in
+    let a = x .args in
+    λ s l. goes _ (c .past-field .ensures)
+    (field-copied (having s (a .self) (a .h0 .now) (a .h1 .now) l) (copy-follows (x .pre)) (x .pre .replica) (x .pre .paired) (x .pre .count) (x .pre .left)
+    (g .get-word .ensures (a .self .frontier0) (a .self .frontier1)) (sym (c .before .before .before .before .before .before .before .before .before .before .before .copied-word .ensures s l) ∙ ap checked (c .before .before .before .before .before .before .before .before .before .w .given .1))
+    (c .before .before .before .before .before .put-word .ensures (a .self .frontier0) (a .self .frontier1)))
 
 pub copy-field-spec : {M : Type 1} → statement M
 copy-field-spec =
     tie.close
     (tie.spec
-    follow-requires
+    add-j
+    get-word-requires
+    copied-word-requires
+    enum-known-w
     enum-told
-    enum-told-2
     same-length
     same-length-2
     returns
-    copy-ref-requires
+    put-word-requires
+    past-field-requires
     same-length-3
     same-length-4
-    returns-2
-    copy-plain-requires
-    same-length-5
-    same-length-6
-    returns-3)
+    returns-2)
