@@ -1,9 +1,9 @@
 """Directed cases for the probe program of what is shaded and marked: stores and puts of any reference over any other, with more and less
-room in the list, in every phase in which a session may shade; attach and detach over old marks; steps that shade beside marks. A case is
-a name with the bytes of tests/probe.py."""
+room in the list, in every phase in which a session may shade, from phase 5 on with replicas too; attach and detach over old marks; steps
+that shade beside marks. A case is a name with the bytes of tests/probe.py."""
 import itertools
 
-from damage import TOP, changed, ref
+from damage import TOP, changed, putting, ref
 from model import ATTACH, DETACH, SAFE, STORE, PUT, STEP
 from probe import encode
 from sapphire import LEVELS, Sapphire
@@ -13,6 +13,7 @@ HOLDER_AT, WHITE_AT, WHITE_TOO_AT, GREY_AT, BLACK_AT, OTHER_AT = 0, 6, 9, 13, 16
 BAD_COLOUR_AT, BAD_SHAPE_AT, TOO_LONG_AT, END = 22, 25, 28, 31
 RECORDS = {HOLDER_AT: [513, 0, 0, 0, 0, 77], WHITE_AT: [0, 0, 0], WHITE_TOO_AT: [1, 0, 0, 88], GREY_AT: [0, 1, 0], BLACK_AT: [0, 2, 0],
            OTHER_AT: [0, 0, 0], BAD_COLOUR_AT: [0, 3, 0], BAD_SHAPE_AT: [65536, 0, 0], TOO_LONG_AT: [256, 0, 0]}
+PAIRED = (HOLDER_AT, WHITE_AT, GREY_AT, BLACK_AT)  # with the same in the other half, where there are replicas
 LENGTH, CAPACITY = 32, 12
 FIELD, GLOBAL = 1, 9   # what is written: this field of the holder, or this global
 HELD, STORED = 2, 5    # registers: the holder, and what is stored
@@ -43,12 +44,14 @@ def marks(turn):
 
 def stage(level, phase, current, old, stored, room, turn):
     """Session 3 holds the holder and what is stored; the overwritten reference is in a field of the holder and in a global, beside a
-    white one in each. The list has room for so many entries."""
+    white one in each. The list has room for so many entries. From phase 5 on two turns of three have replicas."""
     store = Sapphire(LENGTH, CAPACITY)
     store.phase, store.current, store.frontier = phase, current, [END, END]
     for h, (at, words) in itertools.product((0, 1), RECORDS.items()):
         store.half[h][at:at + len(words)] = words
     store.half[current][HOLDER_AT + 1:HOLDER_AT + 5] = [2 * ((turn + phase + room) % 3 > 0), 0, ref(current, OTHER_AT), old]
+    if phase >= 5 and turn % 3:
+        putting(*((ref(h, at), 2, ref(1 - h, at)) for h in (0, 1) for at in PAIRED))(store)
     store.globals[GLOBAL - 1:GLOBAL + 2] = [ref(current, OTHER_AT), old, ref(current, OTHER_AT)]
     store.registers[3][HELD], store.registers[3][STORED] = ref(current, HOLDER_AT), stored
     store.attached[3], store.attached[7], store.level[3], store.level[7] = True, True, level, LEVELS[phase]
@@ -77,16 +80,18 @@ def barriers():
 
 def overlaps():
     """Records that share words: the stored one's colour is the field that is written, or either of the two has the other's colour for a
-    header word."""
-    for level, phase, current, room in itertools.product((1, 2, 3), (2, 4, 5), (0, 1), (0, 1, 2)):
-        within = ref(current, HOLDER_AT + FIELD + 2)
-        for name, old, stored in [("colour in the field", 0, within), ("one word on", ref(current, WHITE_AT), ref(current, WHITE_AT + 1)),
-                                  ("one word back", ref(current, WHITE_AT + 1), ref(current, WHITE_AT))]:
-            store = stage(level, phase, current, old, stored, room, 2)
-            store.half[current][HOLDER_AT + FIELD + 2] = 12  # the shape of the record that begins in the field before
+    header word. The one that begins within another has no replica, or one in the other half, which points back."""
+    for level, phase, current, room, paired in itertools.product((1, 2, 3), (2, 4, 5), (0, 1), (0, 1, 2), (False, True)):
+        in_field, one_on, white, copy = (ref(h, at) for h, at in (
+            (current, HOLDER_AT + FIELD + 2), (current, WHITE_AT + 1), (current, WHITE_AT), (1 - current, OTHER_AT)))
+        for name, old, stored, within in [("colour in the field", 0, in_field, in_field), ("one word on", white, one_on, one_on),
+                                          ("one word back", one_on, white, one_on)]:
+            store = stage(level, phase, current, old, stored, room, 3)
+            store.put(in_field, 0, 2)  # the shape of the record that begins in the field before
+            putting((within, 2, copy * paired), (copy, 0, store.at(within, 0)), (copy, 2, within * paired))(store)
             for kind, args in ((STORE, [3, HELD, FIELD, STORED]), (PUT, [3, GLOBAL, STORED])):
-                yield (f"kind {kind}, {name}, at level {level} in phase {phase}, current half {current}, room for {room}",
-                       encode(store, kind, args))
+                yield (f"kind {kind}, {name}, at level {level} in phase {phase}, current half {current}, room for {room}, "
+                       f"{'with' if paired else 'no'} replica", encode(store, kind, args))
 
 
 def comings():

@@ -1,10 +1,12 @@
 """Random damaged stores with random calls, for the probe program: numbers near their limits, words near references, records that
-overlap, replicas that name anything. Everything is made from a seed, so a case that fails can be made again from its name."""
+overlap, right pairs and replicas that name anything. Everything is made from a seed, so a case that fails can be made again from its
+name."""
 import random
 
-from damage import TOP, edges, ref
+from damage import TOP, edges, putting, ref
 from model import ATTACH, DETACH, SAFE, ALLOCATE, LOAD, STORE, READ, WRITE, MOVE, CLEAR, SAME, GET, PUT, STEP
 from probe import COUNTS, MAKE, encode
+from replicas import changes, is_pair
 from sapphire import COMPANION, LEVELS, STRETCH, Sapphire
 
 SHAPES = [(0, 0), (1, 0), (0, 1), (1, 1), (1, 1), (2, 1), (1, 2), (2, 2), (3, 2), (0, 4), (5, 5)]
@@ -13,31 +15,69 @@ KINDS = ([STEP] * 16 + [STORE] * 8 + [WRITE, PUT, SAME, ALLOCATE, LOAD] * 3 + [R
 EDGES = list(edges())
 
 
+def fill(rng, store, h, shapes):
+    """Records of these shapes one behind another in half h, as many as fit below a limit, between small words; their references."""
+    n, at, heads = len(store.half[h]), 0, []
+    store.half[h], limit = rng.choices(range(12), k=n), rng.choice([n, n, n, n - 4, n // 2])
+    for r, p in shapes:
+        if at + 3 + r + p > limit:
+            break
+        store.half[h][at:at + 3] = [256 * r + p, rng.choice([0, 0, 1, 2, 2]), 0]
+        heads.append(ref(h, at))
+        at += 3 + r + p
+    store.frontier[h] = at
+    return heads
+
+
+def pair_up(rng, store, some, others):
+    """Nine in ten of the records get a replica, if one of their shape is left in the other half; the references of both copies."""
+    paired, free = [], rng.sample(others, len(others))
+    for v in some:
+        w = next((w for w in free if store.at(w, 0) == store.at(v, 0)), 0)
+        if w and rng.random() < 0.9:
+            free.remove(w)
+            putting((v, 2, w), (w, 2, v))(store)
+            paired += [v, w]
+    return paired
+
+
+def cross(rng, store):
+    """The references of a right pair that begins anywhere in both halves, and so shares words with other records."""
+    r, p = rng.choice(SHAPES[:8])
+    last = [store.frontier[h] - 3 - r - p for h in (0, 1)]  # where it may begin
+    if min(last) < 0:
+        return []
+    v, w = ref(0, rng.randrange(last[0] + 1)), ref(1, rng.randrange(last[1] + 1))
+    for u, other in ((v, w), (w, v)):
+        putting((u, 0, 256 * r + p), (u, 1, rng.choice([0, 0, 1, 2])), (u, 2, other))(store)
+    return [v, w]
+
+
+def spoil(rng, store, paired):
+    """One of the changes of tests/replicas.py around a record of a right pair, if one is left."""
+    whole = [v for v in paired if is_pair(store, v)]
+    if whole:
+        _, change = rng.choice(list(changes(store, rng.choice(whole))))
+        change(store)
+
+
 def world(rng):
-    """A store of random records that name each other, in which now and then a word is none that belongs there."""
+    """A store of random records that name each other, many of them right pairs, in which now and then a pair is not right, or a word is
+    none that belongs there."""
     n = rng.choice([16, 17, 24, 32, 33, 48])
     store = Sapphire(n, n // 3 + rng.choice([0, 0, 1, 3]))
     shapes = [rng.choice(SHAPES) for _ in range(14)]
-    starts = [[], []]
-    for h in (0, 1):
-        store.half[h] = rng.choices(range(12), k=n)
-        limit, at = rng.choice([n, n, n - 4, n // 2]), 0
-        for r, p in shapes:
-            if at + 3 + r + p > limit:
-                break
-            store.half[h][at:at + 2] = [256 * r + p, rng.choice([0, 0, 1, 2, 2])]
-            starts[h].append((at, r))
-            at += 3 + r + p
-        store.frontier[h] = at
-    heads = [ref(h, at) for h in (0, 1) for at, _ in starts[h]]
-    pool = heads * 3 + [0, 0, 0, 0, 1, ref(0, rng.randrange(n)), ref(1, rng.randrange(n)), ref(rng.randrange(2), n)]
-    for h in (0, 1):
-        for i, (at, r) in enumerate(starts[h]):
-            style = rng.random()
-            twin = ref(1 - h, starts[1 - h][i][0]) if i < len(starts[1 - h]) else 0
-            store.half[h][at + 2] = twin if style < 0.6 else 0 if style < 0.85 else rng.choice(pool)
-            store.half[h][at + 3:at + 3 + r] = rng.choices(pool, k=r)
-    for _ in range(rng.choice([0, 0, 1, 2, 4])):
+    some, others = fill(rng, store, 0, shapes), fill(rng, store, 1, shapes[rng.choice([0, 0, 1, 2]):])
+    paired = pair_up(rng, store, some, others)
+    pool = (some + others) * 3 + [0, 0, 0, 0, 1, ref(0, rng.randrange(n)), ref(1, rng.randrange(n)), ref(rng.randrange(2), n)]
+    for v in some + others:
+        putting(*((v, 3 + i, rng.choice(pool)) for i in range(store.at(v, 0) // 256)))(store)
+    if rng.random() < 0.2:
+        crossed = cross(rng, store)
+        paired, pool = paired + crossed, pool + crossed * 6
+    for _ in range(rng.choice([0, 0, 0, 0, 1, 1, 2])):
+        spoil(rng, store, paired)
+    for _ in range(rng.choice([0, 0, 0, 1, 2, 4])):
         store.half[rng.randrange(2)][rng.randrange(n)] = rng.choice([65536, 65535, 3, 1, 256, 512, TOP, rng.choice(pool)])
     store.list, store.globals = rng.choices(pool, k=len(store.list)), rng.choices(pool, k=32)
     flat = rng.choices(pool, k=128)

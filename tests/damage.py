@@ -34,6 +34,15 @@ def pairs(level=0, phase=0, current=0, n=48, capacity=16):
     return store
 
 
+def records(store, h):
+    """Where the records of a half begin, and their fields, as far as they can be followed."""
+    at = 0
+    while at + 3 <= min(store.frontier[h], len(store.half[h])):
+        shape = store.half[h][at]
+        yield at, shape // 256, shape % 256
+        at += 3 + shape // 256 + shape % 256
+
+
 # ---- the stretch and its companion
 
 def copies(level):
@@ -64,6 +73,14 @@ def set_word(h, k, word):
     return lambda store: store.half[h].__setitem__(k, word)
 
 
+def putting(*words):
+    """A change of a store: each of these words, by a record, a place in it and the word."""
+    def change(store):
+        for v, j, word in words:
+            store.put(v, j, word)
+    return change
+
+
 def setting(**numbers):
     """A change of a store: these numbers of its control record."""
     def change(store):
@@ -90,13 +107,17 @@ def small(change):
 
 
 def few_stretches():
-    """A stretch and its companion in each half, on both copies of a record, with no plain field and 255, and on each refusal."""
+    """A stretch and its companion in each half, on both copies of a record, with no plain field and 255, on each refusal, and with a
+    replica that is wrong or missing."""
     calls = [("half 0", pairs(n=16, capacity=5), 0, 0), ("half 1", pairs(n=16, capacity=5), 0, 1),
              ("copy in half 0", copies(5), 0, 0), ("copy in half 1", copies(5), 0, 1),
              ("no plain field", pairs(n=16, capacity=5), 0, 4), ("255 plain fields", plain(1, 255, 1, 260), 0, 0),
              ("other length", small(set_item("length", 0, 17)), 0, 0), ("session 16", pairs(n=16, capacity=5), 16, 0),
              ("nobody", pairs(n=16, capacity=5), 1, 0), ("register 8", pairs(n=16, capacity=5), 0, 8),
              ("null", pairs(n=16, capacity=5), 0, 6), ("colour 3", small(set_word(0, X + 1, 3)), 0, 0)]
+    calls += [(name, small(set_word(h, k, word)), 0, 0) for name, h, k, word in [
+        ("another one's replica", 0, X + 2, ref(1, Y)), ("itself for a replica", 0, X + 2, ref(0, X)), ("no replica", 0, X + 2, 0),
+        ("replica without replica", 1, X + 2, 0), ("replica of another shape", 1, X, 513)]]
     for name, store, s, k in calls:
         for kind in (STRETCH, COMPANION):
             yield f"{name}, kind {kind}", encode(store, kind, [s, k])
@@ -238,6 +259,9 @@ def steps():
 
 def injuries(n=48, capacity=16):
     """Ways to damage a store of `pairs`, and those just short of damage."""
+    for at in (X, Y, Z):
+        for name, word in [("shape 65535", 65535), ("no field", 0), ("only plain", 3), ("one of each", 257), ("a field less", 513)]:
+            yield f"{name} in both halves at {at}", putting((ref(0, at), 0, word), (ref(1, at), 0, word))
     for h in (0, 1):
         for at in (X, Y, Z):
             for name, k, word in [("shape 65536", 0, 65536), ("shape 65535", 0, 65535), ("no field", 0, 0), ("only plain", 0, 3),

@@ -1,13 +1,13 @@
 """Cases of the directory's calls for the probe program: every call in every phase of the collector, numbers of the control record at the
-edges of their ranges, halves that are nearly full, records that are damaged, lack a field or name each other in a ring; and random
-ones. A case is a name with the bytes of tests/probe.py. Everything is made from seeds."""
-import random
+edges of their ranges, halves that are nearly full, records that are damaged, lack a field, have a replica that is not theirs or name each
+other in a ring. A case is a name with the bytes of tests/probe.py."""
+import itertools
 
-import chance
-from damage import TOP, changed, edges, lengths, ref, set_item, set_word, setting
+from damage import TOP, changed, edges, lengths, putting, records, ref, set_item, set_word, setting
 from directory import MARK, MINE, ROOT, Directory
 from model import ATTACH, SAFE, STEP
 from probe import OPEN, ADD, REMOVE, MAKE_GROUP, JOIN, LEAVE, LIST, MOST_LENT, decode, encode
+from replicas import changes, is_pair
 from sapphire import Sapphire
 from table import LAST
 
@@ -58,15 +58,6 @@ def schools():
         for again in (False, True):
             for steps in (0, 3, 11):
                 yield f"phase {phase}, {steps} steps on{', roles changed' * again}", school(phase, steps, again)
-
-
-def records(store, h):
-    """Where the records of a half begin, and their fields, as far as they can be followed."""
-    at = 0
-    while at + 3 <= min(store.frontier[h], len(store.half[h])):
-        shape = store.half[h][at]
-        yield at, shape // 256, shape % 256
-        at += 3 + shape // 256 + shape % 256
 
 
 # ---- calls on sound stores
@@ -140,6 +131,9 @@ def record_injuries(store):
                 yield f"shape {shape} at {h}:{at}", set_word(h, at, shape)
             for word in (0, 1, 2, 3):
                 yield f"colour {word} at {h}:{at}", set_word(h, at + 1, word)
+            if store.half[h][at + 2]:
+                for shape in (0, 1, 256, 257, 513):
+                    yield f"shape {shape} in both copies of {h}:{at}", putting((ref(h, at), 0, shape), (store.half[h][at + 2], 0, shape))
             for word in (0, 1, ref(h, at), ref(1 - h, 0), ref(h, 72), TOP):
                 yield f"replica {word} at {h}:{at}", set_word(h, at + 2, word)
             for i in range(r):
@@ -165,6 +159,25 @@ def injured():
                 yield f"{named(kind, args)} in {name}, {injury}", encode(changed(decode(base)[0], change), kind, args)
 
 
+def heads(store):
+    """The references of the records of both halves."""
+    return [ref(h, at) for h in (0, 1) for at, _, _ in records(store, h)]
+
+
+def replicas():
+    """From phase 5 on each change of tests/replicas.py around a record with a replica: all calls around the first entry at the phase's
+    start, or soon after that of phase 5, which has none at its start; around the others, and later, the calls in turn."""
+    for turn, (phase, again, steps) in enumerate(itertools.product(range(5, 13), (False, True), (0, 3, 11))):
+        store = school(phase, steps, again)
+        base, early, first = encode(store, OPEN, []), steps == 3 * (phase == 5), store.globals[ROOT]
+        around = ((v, *change) for v in heads(store) if is_pair(store, v) for change in changes(store, v))
+        for at, (v, about, change) in enumerate(around):
+            calls = [DONE[(at // 13 + turn) % len(DONE)]] if at % 13 == turn % 13 else []
+            for kind, args in EACH[1:] if v == first and early else calls:
+                yield (f"{named(kind, args)} in phase {store.phase}, {steps} steps after the start of {phase}{', roles changed' * again}, "
+                       f"record {v}, {about}", encode(changed(decode(base)[0], change), kind, args))
+
+
 # ---- chains
 
 def chain(n, entries):
@@ -180,6 +193,16 @@ def chain(n, entries):
         for i, value in enumerate([256 * len(links) + 1, 0, 0, *fields, word]):
             store.put(place, i, value)
     store.attached[MINE], store.globals[ROOT] = True, places[1]
+    return store
+
+
+def doubled(store):
+    """The records of half 0 with a second copy each, at the same place in half 1, whose links name the copies there."""
+    for at, r, p in records(store, 0):
+        shape, colour, _, *fields = store.half[0][at:at + 3 + r + p]
+        links = [link and link + 1 for link in fields[:r]]
+        store.half[0][at + 2], store.half[1][at:at + 3 + r + p] = ref(1, at), [shape, colour, ref(0, at), *links, *fields[r:]]
+    store.frontier[1] = store.frontier[0]
     return store
 
 
@@ -204,12 +227,13 @@ def rings():
     calls = [*DONE, (ADD, [1]), (REMOVE, [9]), (MAKE_GROUP, [1]), (JOIN, [1, 1]), (JOIN, [3, 1]), (LEAVE, [3, 1]), (LIST, [2, MOST_LENT]),
              (LIST, [1, 0])]
     for name, entries in RINGS.items():
-        for n in (16, 48):
-            store = chain(n, entries)
-            for phase in (0, 2, 8):
+        for store, phases in [(chain(16, entries), (0, 2, 8)), (chain(48, entries), (0, 2, 8)),
+                              (doubled(chain(48, entries)), (5, 7, 8, 10, 12))]:
+            for phase in phases:
                 store.phase = phase
                 for kind, args in calls:
-                    yield f"{named(kind, args)} on {name}, {n} words, phase {phase}", encode(store, kind, args)
+                    yield (f"{named(kind, args)} on {name}, {store.length[0]} words, phase {phase}, replicas up to {store.frontier[1]}",
+                           encode(store, kind, args))
 
 
 def people_in_a_row(count, last):
@@ -263,7 +287,8 @@ def directed():
 
 
 def few():
-    """Each call done and refused, in a store that a collection is at work on; damage; a walk that is too long."""
+    """Each call done and refused, in a store that a collection is at work on; damage, a first entry among it whose replica is another
+    one's, and beside it one without; a walk that is too long."""
     for phase in (0, 8):
         for kind, args in [*EACH, REFUSED[1]]:
             yield named(kind, args), encode(school(phase, 2, n=64), kind, args)
@@ -272,82 +297,9 @@ def few():
     yield "absent", encode(absent, OPEN, [])
     yield "phase 13", encode(changed(school(n=64), setting(phase=13)), LIST, [1, 4])
     yield "global 31 is 1", encode(changed(school(n=64), set_item("globals", ROOT, 1)), LIST, [1, 4])
+    store = school(8, 2, n=64)
+    for name, word in [("another one's replica", store.at(store.at(store.globals[ROOT], 3), 2)), ("no replica", 0)]:
+        yield name, encode(changed(decode(encode(store, OPEN, []))[0], putting((store.globals[ROOT], 2, word))), LIST, [1, 4])
     yield "a group with one link", encode(chain(16, RINGS["a group with one link"]), LIST, [1, 4])
     yield "a ring", encode(chain(16, RINGS["a ring with the person looked for"]), LIST, [1, 4])
     yield "a long walk", encode(passed_groups(52, 1, 10), REMOVE, [1])
-
-
-# ---- by chance
-
-def any_call(rng, most=4):
-    kind = rng.choice([ADD, ADD, REMOVE, REMOVE, MAKE_GROUP, MAKE_GROUP, JOIN, JOIN, JOIN, LEAVE, LEAVE, LIST, LIST, OPEN])
-    person, group = rng.randint(1, most), rng.randint(1, 3)
-    if rng.random() < 0.01:
-        person, group = rng.choice([(LAST + 1, 1), (1, TOP), (LAST, LAST)])
-    lent = rng.choice([0, 1, 2, 5, MOST_LENT])
-    return kind, {OPEN: [], ADD: [person], REMOVE: [person], MAKE_GROUP: [group], LIST: [group, lent]}.get(kind, [person, group])
-
-
-def any_school(rng):
-    """A directory by calls at random, with the collector somewhere at its work."""
-    calls = [(OPEN, [])] + [any_call(rng, 5) for _ in range(rng.choice([8, 16, 30]))]
-    store = school(calls=calls, n=rng.choice([48, 72, 96]))
-    for _ in range(rng.randrange(140)):
-        step(store)
-        if rng.random() < 0.05:
-            told(Directory(store), [any_call(rng, 5)])
-    return store
-
-
-def damage_at(rng, store):
-    """A word that isn't what it was; references mostly to records."""
-    heads = [ref(h, at) for h in (0, 1) for at, _, _ in records(store, h)] or [2]
-    h = rng.randrange(2)
-    value = rng.choice([rng.choice(heads), rng.choice(heads), rng.choice(heads) + 2, 0, 1, 2, 3, 257, 513, MARK + 1, 65536, TOP])
-    style = rng.random()
-    if style < 0.15:
-        store.globals[ROOT] = value
-    elif style < 0.2:
-        store.registers[MINE][rng.randrange(8)] = value
-    elif style < 0.25:
-        store.list[rng.randrange(len(store.list))] = value
-    elif style < 0.3:
-        store.frontier[h] = rng.randrange(len(store.half[h]) + 1)
-    elif style < 0.35:
-        store.head = store.tail = len(store.list)
-    else:
-        store.half[h][rng.randrange(store.frontier[h] or 1)] = value
-
-
-def damaged_school(rng, base):
-    store, _, _ = decode(base)
-    for _ in range(rng.choice([0, 1, 1, 2, 2, 3, 6])):
-        damage_at(rng, store)
-    if rng.random() < 0.06:
-        rng.choice(chance.EDGES)[2](store)
-    if rng.random() < 0.06:
-        store.attached[MINE] = False
-    return store
-
-
-def any_records(rng):
-    """The random records of tests/chance.py, most of them with words as a directory has them."""
-    store = chance.world(rng)
-    for h in (0, 1):
-        for at, r, p in records(store, h):
-            if p and at + 3 + r < len(store.half[h]):
-                store.half[h][at + 3 + r] = rng.choice([1, 2, 3, 4, MARK + 1, MARK + 2, MARK + 3, rng.randrange(12)])
-    kept = store.length, store.capacity, store.frontier
-    chance.numbers(rng, store)
-    store.length, store.capacity, store.frontier = kept
-    store.attached[MINE] = rng.random() < 0.95
-    return store
-
-
-def random_cases(count, seed=1):
-    rng = random.Random(seed)
-    for i in range(count):
-        if i % 40 == 0:
-            base = encode(any_school(rng), OPEN, [])
-        store = any_records(rng) if i % 4 == 0 else damaged_school(rng, base)
-        yield f"random case {i} of seed {seed}", encode(store, *any_call(rng))

@@ -6,6 +6,7 @@ null or a record's place in the list, from 1.
 """
 
 ATTACH, DETACH, SAFE, ALLOCATE, LOAD, STORE, READ, WRITE, MOVE, CLEAR, SAME, GET, PUT, STEP = range(1, 15)
+STRETCH, COMPANION = 15, 16  # after the kinds of the script, which has neither
 
 
 class Model:

@@ -78,19 +78,23 @@ def ask_directory(store, kind, args, slip=None):
     return answer[:2], directory.written + out[len(directory.written):]
 
 
+def ask(store, kind, args, slip=None):
+    """Refusal number and value of any call but making, and the words that it hands out. A stretch has no number."""
+    if kind == STRETCH:
+        return (0, 0), store.stretch(*args)
+    if kind >= OPEN:
+        return ask_directory(store, kind, args, slip)
+    return store.call(kind, args), []
+
+
 def expected(case, slip=None):
     """What documents 01 and 02 give for a case, by the store and the directory in Python, as the bytes of the reply."""
     store, kind, args = decode(case, slip)
-    answer, part = (0, 0), []
     if kind == MAKE:
         number, store = store.make()
-        answer = (number, 0)
-    elif kind == STRETCH:
-        part = store.stretch(*args)
-    elif kind >= OPEN:
-        answer, part = ask_directory(store, kind, args, slip)
+        answer, part = (number, 0), []
     else:
-        answer = store.call(kind, args)
+        answer, part = ask(store, kind, args, slip)
     return ANSWER.pack(*answer) + given(store) + words([len(part), *part])
 
 

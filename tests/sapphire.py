@@ -5,16 +5,16 @@ a call does to any control record and any words: a store may be set up with numb
 lent, and damaged memory. `slip` builds in a mistake of tests/slips.py, or several together, so that the tests can show that they would
 see it.
 """
-from model import ATTACH, DETACH, SAFE, ALLOCATE, LOAD, STORE, READ, WRITE, MOVE, CLEAR, SAME, GET, PUT, STEP
+from following import passes
+from model import ATTACH, DETACH, SAFE, ALLOCATE, LOAD, STORE, READ, WRITE, MOVE, CLEAR, SAME, GET, PUT, STEP, STRETCH, COMPANION
 from slips import (ALLOCATE_ENDS_EARLY, ATTACHED_SCANNED, ATTACHED_UNSCANNED, BLACK_EARLY, COLOUR_THREE, COMPANION_BLIND, DETACH_UNMARKS,
-                   FIELD_UNTESTED, FIRST_LEFT, FULL_LIST_SLIPS, IN_TURN, LAST_FIRST, LEVELS_ATTACHED, LISTED_TWICE, MARK_OF_BEFORE,
+                   FIRST_LEFT, FOLLOWING_SLIPS, FULL_LIST_SLIPS, IN_TURN, LAST_FIRST, LEVELS_ATTACHED, LISTED_TWICE, MARK_OF_BEFORE,
                    MARKS_CLEARED, OLD_AT_1, OLD_IN_4_ALONE, OLD_LEFT, OLD_LEFT_AT_3, OLD_LEFT_BY_PUT, OLD_LEFT_IN_4, OLD_READ_LATE,
                    OTHER_ORDER, PASSED_OVER, PLACE_IN_HALF, ROOM_FOR_EIGHT, SCAN_ALONE, STORED_LEFT, STRETCH_EARLY, TESTED_LATE, UNMARKED,
                    WORDS_COMPARED)
 
 LEVELS = [0, 1, 2, 2, 2, 3, 4, 4, 5, 6, 6, 6, 0]
 WHITE, GREY, BLACK = 0, 1, 2
-STRETCH, COMPANION = 15, 16  # after the kinds of the script, which has neither
 
 
 class Refused(Exception):
@@ -43,6 +43,7 @@ class Sapphire:
         self.slips = frozenset([slip] if isinstance(slip, str) else slip or [])
         self.collections = 0
         self.first_frontier = 0
+        self.asked = None  # kind and arguments of the call at hand
 
     # ---- memory
     def at(self, v, j):
@@ -51,8 +52,8 @@ class Sapphire:
     def put(self, v, j, x):
         self.half[v % 2][(v - 2) // 2 + j] = x
 
-    def follow(self, v):
-        """r and p of a sound reference; else refusal 12."""
+    def sound(self, v):
+        """r and p of a reference that names a record below its half's frontier; else refusal 12. This is document 01's test."""
         if v < 2:
             raise Refused(12)
         k, h = (v - 2) // 2, v % 2
@@ -63,6 +64,17 @@ class Sapphire:
         if shape > 65535 or colour > (3 if COLOUR_THREE in self.slips else 2) or k + 3 + r + p > self.frontier[h]:
             raise Refused(12)
         return r, p
+
+    def follow(self, v):
+        """r and p of a sound reference whose replica word is 0 or names a sound record in the other half, with equal word 0, whose replica
+        word names this one; else refusal 12."""
+        shape, w = self.sound(v), self.at(v, 2)
+        if self.slips & FOLLOWING_SLIPS:
+            self.need(passes(self, v), 12)
+        elif w:
+            self.sound(w)
+            self.need(w % 2 != v % 2 and self.at(w, 0) == self.at(v, 0) and self.at(w, 2) == v, 12)
+        return shape
 
     def fromspace(self):
         return 1 - self.current if self.phase == 12 else self.current
@@ -167,6 +179,7 @@ class Sapphire:
 
     def stretch(self, s, k):
         """The plain fields of the record in a register; refused, none."""
+        self.asked = STRETCH, [s, k]
         try:
             self.need(self.in_range(), 4)
             self.session(s)
@@ -176,6 +189,7 @@ class Sapphire:
 
     def call(self, kind, args):
         """The refusal number or 0, and the value."""
+        self.asked = kind, args
         try:
             self.need(self.in_range(), 4)
             return 0, self._call(kind, args) or 0
@@ -319,10 +333,7 @@ class Sapphire:
         replica = self.at(v, 2) if level >= 4 else 0
         if replica:
             rr, rp = self.follow(replica)
-            if FIELD_UNTESTED in self.slips and i >= rp:
-                replica = 0
-            else:
-                self.need(i < rp, 12)
+            self.need(i < rp, 12)
         self.put(v, 3 + r + i, value)
         if replica:
             self.put(replica, 3 + rr + i, value)

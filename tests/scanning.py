@@ -1,29 +1,34 @@
 """Cases for the probe program of the session scan, the step of phase 4 that shades the registers of a session: registers that are equal in
 every way, each way of damage at each register, more and less room in the list, other sessions beside the one that is scanned, records
-that share words; and random registers over small words, of which nearly every one begins a record. A case is a name with the bytes of
-tests/probe.py."""
+that share words, with replicas and without; and random registers over small words, of which nearly every one begins a record. A case is
+a name with the bytes of tests/probe.py."""
 import itertools
 import random
 
+from chance import cross
 from damage import TOP, ref
 from model import STEP
 from probe import ANSWER, decode, encode
-from sapphire import Refused, Sapphire
+from replicas import is_pair
+from sapphire import Sapphire
+from sharing import SCAN, listed, shared, stage, white_there
 
-SCAN, FLIP = 4, 11  # the phases in which a step takes the registers of a session
+FLIP = 11  # the phase in which a step forwards the registers of a session
 
 # The records of both halves, one behind another, by capital letters. A to H are white, X is grey and Y black, Q and R have no such colour,
-# S and T no such shape. K is white and ends at the frontier; within it begins L, which ends a word behind the frontier.
-RECORDS = {"A": [0, 0, 0], "B": [1, 0, 2, 5], "C": [256, 0, 3, 7], "D": [0, 0, 8], "E": [258, 0, 9, 2, 0, 4], "F": [0, 0, 1],
-           "G": [2, 0, 0, 1, 1], "H": [512, 0, TOP, 1, TOP], "X": [1, 1, 4, 6], "Y": [256, 2, 5, 2], "Q": [0, 3, 0], "R": [0, TOP, 0],
-           "S": [65536, 0, 0], "T": [TOP, 0, 0], "K": [4, 0, 0, 0], "L": [1, 0, 0]}
+# S and T no such shape. A letter among the words is the reference of that record, a small one of the same in the other half: most records
+# have it for their replica. Those of I, J, P, U, V and Z are wrong. K is white and ends at the frontier; within it begins L, which ends a
+# word behind the frontier.
+RECORDS = {"A": [0, 0, 0], "B": [1, 0, "b", 5], "C": [256, 0, "c", 7], "D": [0, 0, "d"], "E": [258, 0, "e", 2, 0, 4], "F": [0, 0, 0],
+           "G": [2, 0, 0, 1, 1], "H": [512, 0, "h", 1, TOP], "X": [1, 1, "x", 6], "Y": [256, 2, "y", 2], "Q": [0, 3, 0], "R": [0, TOP, 0],
+           "S": [65536, 0, 0], "T": [TOP, 0, 0], "I": [0, 0, 1], "J": [0, 0, "J"], "P": [1, 0, "b", 5], "U": [1, 0, "v", 5],
+           "V": [257, 0, "u", 5, 5], "Z": [0, 0, "a"], "K": [4, 0, 0, 0], "L": [1, 0, 0]}
 WHITES = "ABCDEFGHK"
-WORDS = list(itertools.chain(*RECORDS.values()))
-END, LENGTH = len(WORDS), 80
+END, LENGTH = sum(map(len, RECORDS.values())), 96
 STARTS = dict(zip(RECORDS, itertools.accumulate(map(len, RECORDS.values()), initial=0)))
 PLACES = {**STARTS, "M": END - 2, "N": END, "O": LENGTH}  # with a header across the frontier, at it, and past the half
 OTHERS = {"0": 0, "1": 1, "8": TOP - 1, "9": TOP}
-BAD = "QqRrSsTtLlMmNnOo189"
+BAD = "QqRrSsTtIiJjPpUuVvZzLlMmNnOo189"
 
 
 def named(letters, h):
@@ -31,32 +36,18 @@ def named(letters, h):
     return [OTHERS[x] if x in OTHERS else ref(h if x.isupper() else 1 - h, PLACES[x.upper()]) for x in letters]
 
 
-def listed(turn, n):
-    """What a list of n words held before, in turn: nothing, references, anything."""
-    return [[0] * n, [ref(i % 2, i) for i in range(n)], [TOP - 7 * i for i in range(n)]][turn % 3]
+def words_in(h):
+    """The words of half h."""
+    words = [named(word, h)[0] if isinstance(word, str) else word for record in RECORDS.values() for word in record]
+    return words + [0] * (LENGTH - END)
 
 
-def stage(halves, ends, registers, room, current, turn):
-    """Session 3 is the lowest one without a mark that is attached, and holds these registers. Session 0 is detached, 1 and 2 have been
-    scanned, 5 comes after it; they hold other ones. The list has room for so many entries. What else a scan must leave goes by turn."""
-    n = len(halves[0])
-    store = Sapphire(n, max(n // 3, room) + turn % 4)
-    store.half, store.frontier, store.current, store.phase = [list(words) for words in halves], list(ends), current, SCAN
-    store.list, store.head, store.tail = listed(turn, store.capacity), store.capacity - room, store.capacity - room
-    store.place, store.field, store.level = turn % (n + 1), turn % 511, [(turn + s) % 7 for s in range(16)]
-    store.globals = [(turn + 3 * i) % 40 for i in range(32)]
-    store.registers = [[2 + (turn + 5 * s + i) % 24 for i in range(8)] for s in range(16)]
-    store.registers[3] = list(registers)
-    for s in (1, 2, 3, 5, 15):
-        store.attached[s] = True
-    store.scanned = [s in (1, 2) or s > 5 and (turn + s) % 3 == 0 for s in range(16)]
-    return store
+HALVES = [words_in(0), words_in(1)]
 
 
 def lettered(letters, room, h, current, turn):
     """A case of these letters over the records above."""
-    words = WORDS + [0] * (LENGTH - END)
-    store = stage([words, words], [END, END], named(letters, h), room, current, turn)
+    store = stage(HALVES, [END, END], named(letters, h), room, current, turn)
     return f"scan of {letters}, capital letters in half {h}, current half {current}, room for {room}, turn {turn}", store
 
 
@@ -146,74 +137,10 @@ def lists():
             yield f"{name}, list of {capacity}", store
 
 
-# ---- over records that share words
-
-# how two references, or three, stand in the registers
-LIKE = ["AB000000", "0A0B0000", "ABABABAB", "AABBAABB", "A000000B", "AAAAAAAB", "00ABB000"]
-LIKE_THREE = ["ABC00000", "ABCABCAB", "AABBCCAA", "0A0B0C0C", "A00BB00C"]
-
-
-def spread(like, references):
-    return [references["ABC".index(x)] if x != "0" else 0 for x in like]
-
-
-def crowded(name, words, end, registers, h, turn, room=8):
-    """A case over these words in half h; the other half has other ones, its frontier at another place."""
-    other = [(turn + 5 * i) % 3 for i in range(len(words))]
-    halves, ends = [list(words), other], [end, len(words) - turn % 3]
-    current = turn // 3 % 2
-    store = stage(halves[::-1] if h else halves, ends[::-1] if h else ends, registers, room, current, turn)
-    return f"scan of {name} in half {h}, registers {registers}, current half {current}, frontier {end}, room for {room}", store
-
-
-def two_apart():
-    """Two records, the second one to seven words behind the first, so that the colour of either may be word 0, the replica word or a field
-    of the other; in both orders, up to the frontier or a word before it."""
-    turns = itertools.count()
-    for apart, shape, colours in itertools.product(range(1, 8), (0, 1, 256, 2, 257, 513, 770), [(0, 0), (0, 1), (1, 0), (0, 2), (2, 0)]):
-        for order, slack, h in itertools.product((1, -1), (0, 1), (0, 1)):
-            turn, at = next(turns), 2
-            words = [0] * 21
-            words[at], words[at + apart] = shape, turn // 8 % 2
-            words[at + 1], words[at + apart + 1] = colours
-            end = max(start + 3 + words[start] // 256 + words[start] % 256 for start in (at, at + apart)) + slack
-            registers = spread(LIKE[turn % len(LIKE)], [ref(h, at), ref(h, at + apart)][::order])
-            yield crowded(f"two records, places {apart} apart, shape {shape}, colours {colours},", words, end, registers, h, turn)
-
-
-def three_neighbours():
-    """Records at three words in a row, in every order, with every colour, which is the next one's word 0."""
-    turns = itertools.count()
-    orders = list(itertools.permutations(range(3)))
-    for colours, order, slack, h in itertools.product(itertools.product(range(3), repeat=3), orders, (0, 1), (0, 1)):
-        turn = next(turns)
-        at = turn % 7
-        words = [0] * (at + 1) + [*colours] + [0] * 20
-        end = at + 5 + colours[1] + slack
-        registers = spread(LIKE_THREE[turn % len(LIKE_THREE)], [ref(h, at + i) for i in order])
-        yield crowded(f"three in a row, colours {colours},", words, end, registers, h, turn)
-
-
-def rows():
-    """Eight white records at words in a row, or at references in a row, which are of both halves, in several orders; the last one ends at
-    the frontier or before it; room for eight or less. And with a register at the end that is damaged."""
-    orders = {"upwards": range(8), "downwards": range(7, -1, -1), "outwards": (3, 4, 2, 5, 1, 6, 0, 7), "by twos": (0, 2, 4, 6, 1, 3, 5, 7),
-              "equal pairs": (4, 4, 5, 5, 6, 6, 7, 7), "back and forth": (5, 6, 7, 6, 5, 6, 7, 6)}
-    for (name, order), step, slack, room, turn in itertools.product(orders.items(), (1, 2), (0, 1, 5), (8, 7, 4, 3, 2), range(4)):
-        at, h = 3 * turn, turn % 2
-        registers = [ref(h, at) + step * i for i in order]
-        words = [0] * 24
-        end = min(at + (7 if step == 2 else 3 + h) + 3 + slack, 24)
-        damaged = [[*registers[:7], bad] for bad in (1, ref(h, end - 2), ref(1 - h, 24), TOP)] if room == 8 else []
-        for held in [registers, *damaged]:
-            store = stage([words, words], [end, end], held, room, turn // 2, turn)
-            yield f"scan of a row {name}, registers {held}, current half {turn // 2}, frontiers {end}, room for {room}", store
-
-
 # ---- beside the scan
 
 def scans():
-    for cases in (equal_registers, repeated_registers, rooms, damage, sessions, lists, two_apart, three_neighbours, rows):
+    for cases in (equal_registers, repeated_registers, rooms, damage, sessions, lists, shared):
         for name, store in cases():
             yield name, encode(store, STEP, [])
 
@@ -247,7 +174,7 @@ def directed():
 
 # ---- by chance
 
-SMALL = [[0], [0, 0, 0, 1], range(2), range(3), [0, 0, 0, 0, 1, 2, 2, 256, 257, 512], range(6)]
+SMALL = [[0], [0], [0, 0, 0, 1], [0, 0, 0, 0, 0, 1, 2], range(2), range(3), [0, 0, 0, 0, 1, 2, 2, 256, 257, 512], range(6)]
 ODD = [3, 255, 256, 4096, 65535, 65536, TOP]
 
 
@@ -256,14 +183,6 @@ def any_words(rng, n):
     for _ in range(rng.choice([0, 0, 0, 1, 2])):
         words[rng.randrange(n)] = rng.choice(ODD)
     return words
-
-
-def white_there(store, v):
-    """Whether a reference names a white record, or None if it can't be followed."""
-    try:
-        return store.white(v)
-    except Refused:
-        return None
 
 
 def any_references(rng, store):
@@ -287,12 +206,13 @@ def random_scan(rng):
     store = Sapphire(n, n // 3 + rng.choice([0, 0, 1, 3, 5]))
     store.half = [any_words(rng, n), any_words(rng, n)]
     store.frontier = [rng.choice([n, n, n - 1, n - rng.randrange(8), rng.randrange(n + 1)]) for _ in (0, 1)]
+    crossed = [v for _ in range(rng.choice([0, 1, 2, 3])) for v in cross(rng, store)]
     store.phase, store.current = SCAN if rng.random() < 0.94 else FLIP, rng.randrange(2)
     store.place, store.field, store.level = rng.randrange(n + 1), rng.randrange(511), rng.choices(range(7), k=16)
     store.attached, store.scanned = rng.choices([True, True, False], k=16), rng.choices([True, False], k=16)
     s = rng.randrange(16)
     store.attached[s], store.scanned[s] = True, False
-    pool = any_references(rng, store)
+    pool = any_references(rng, store) + [v for v in crossed if is_pair(store, v) or rng.random() < 0.1] * 2
     store.registers = [rng.choices(pool, k=8) for _ in range(16)]
     store.globals, store.list = rng.choices(pool, k=32), rng.choices([*pool, *ODD], k=store.capacity)
     count = len({v for v in store.registers[store.unmarked()] if white_there(store, v)})
@@ -309,9 +229,13 @@ def random_cases(count, seed=1):
 
 # ---- what the cases show
 
+LEAST = {"refused": 2000, "scanned": 2000, "equal": 2000, "paired": 2000, "shared": 2000, "crossed": 1000, "written": 1000}
+
+
 def traits(case, reply):
     """What is to be counted of a case: whether it is a scan, refused or not, and then whether white registers are equal, whether records
-    in the registers share words, and whether a colour that is written is a word of another one of them."""
+    in the registers have replicas, whether they share words, one with a replica with another too, and whether a colour that is written
+    is a word of another one of them."""
     store, _, _ = decode(case)
     n = store.unmarked()
     if store.phase != SCAN or store.head < store.tail or n is None:
@@ -322,6 +246,8 @@ def traits(case, reply):
     whites = [v for v in held if store.white(v)]
     words = {v: set(range(v, v + 2 * (3 + sum(store.follow(v))), 2)) for v in held}  # as the references that name them
     pairs = list(itertools.permutations(words, 2))
-    found = {"equal": len(set(whites)) < len(whites), "shared": any(words[v] & words[w] for v, w in pairs),
+    paired = {v for v in held if store.at(v, 2)}
+    found = {"equal": len(set(whites)) < len(whites), "paired": paired, "shared": any(words[v] & words[w] for v, w in pairs),
+             "crossed": any(v in paired and words[v] & words[w] for v, w in pairs),
              "written": any(v in whites and v + 2 in words[w] for v, w in pairs)}
     return ["scanned", *(trait for trait, it_has in found.items() if it_has)]

@@ -1,6 +1,7 @@
 """Mistakes that can be built into the store in Python (tests/sapphire.py), so that the tests can show that they would see them. Each is a
 name. They stand by what shows them, with the test that must see it; all but those that document 01 warns of tests/test_probe.py must see
-in the words too. "Old" is the reference that a store or a put overwrites, "the scan" the step that shades a session's registers."""
+in the words too. "Old" is the reference that a store or a put overwrites, "the scan" the step that shades a session's registers, "the old
+test" the one that a reference had to pass before its replica was tested."""
 
 # ---- what a session is answered: tests/test_slips.py
 BLACK_EARLY, WORDS_COMPARED, ALLOCATE_ENDS_EARLY = "black early", "words compared", "allocate ends early"
@@ -32,8 +33,7 @@ WORD_SLIPS = [OTHER_ORDER, DETACH_UNMARKS, OLD_LEFT_AT_3]
 # ---- damage
 STRETCH_EARLY = "stretch from the reference fields"  # of a sound store too, but no script has the stretch
 COMPANION_BLIND, COLOUR_THREE, LEVELS_ATTACHED = "companion without 12", "colour 3 sound", "levels of attached sessions alone"
-FIELD_UNTESTED = "replica without the field passed over"
-DAMAGE_SLIPS = [STRETCH_EARLY, COMPANION_BLIND, COLOUR_THREE, LEVELS_ATTACHED, FIELD_UNTESTED]
+DAMAGE_SLIPS = [STRETCH_EARLY, COMPANION_BLIND, COLOUR_THREE, LEVELS_ATTACHED]
 
 # ---- the scan: the cases of tests/scanning.py
 FOLLOWED_AGAIN = "followed again while the scan shades, refused there"  # where records share words
@@ -44,6 +44,38 @@ ROOM_FOR_EIGHT, LAST_FIRST = "the scan asks room for eight", "the scan from the 
 FIRST_LEFT, UNMARKED = "the scan leaves out the first register", "the scan sets no mark"
 SCAN_ALONE = TESTED_LATE | {ROOM_FOR_EIGHT, LAST_FIRST, FIRST_LEFT, UNMARKED}
 SCAN_SLIPS = [FOLLOWED_AGAIN, PASSED_OVER, *FULL_LIST_SLIPS, ROOM_FOR_EIGHT, IN_TURN, LAST_FIRST, FIRST_LEFT, UNMARKED]
+
+# ---- the test of replicas, too strict: a refusal with 12 in a run: tests/test_slips.py
+NONE_REFUSED, HALF_SAME, HALF_NOT_CURRENT = "replica word 0 refused", "replicas in the same half", "replicas not in the current half"
+FRONTIER_OF_THIS, SHAPE_BY_COLOUR = "replicas below the record's own frontier", "replica's word 0 compared with the record's colour"
+BACK_TO_ITSELF = "replica's replica word compared with the replica"
+COLOURS_COMPARED, FIELDS_COMPARED = "colours of both copies compared", "fields of both copies compared"
+STRICT_SLIPS = [NONE_REFUSED, HALF_SAME, HALF_NOT_CURRENT, FRONTIER_OF_THIS, SHAPE_BY_COLOUR, BACK_TO_ITSELF, COLOURS_COMPARED,
+                FIELDS_COMPARED]
+
+# ---- the test of replicas, too weak: the cases of tests/replicas.py
+REPLICAS_UNTESTED = "replicas not tested"  # the rules as they were before request [5]
+LEFT_BEFORE_5, LEFT_IN_12 = "replicas not tested before phase 5", "replicas not tested in phase 12"
+LEFT_IN_TOSPACE, LEFT_IN_FROMSPACE = "replicas of tospace records not tested", "replicas of fromspace records not tested"
+LEFT_BELOW_3 = "replicas not tested for sessions below level 3"
+HALF_UNTESTED, SOUND_UNTESTED = "replica's half not tested", "replica not tested for soundness"
+COLOUR_UNTESTED = "replica's colour not tested"
+FRONTIER_UNTESTED, HEADER_ALONE = "replica not tested for its frontier", "replica's header alone tested for its frontier"
+SHAPE_UNTESTED = "replica's word 0 not compared"
+SHAPE_AT_LEAST, SHAPE_AT_MOST = "replica's word 0 may be greater", "replica's word 0 may be smaller"
+SIZE_ALONE, LINKS_ALONE, PLAINS_ALONE = "sizes of both copies compared", "reference fields alone counted", "plain fields alone counted"
+BACK_UNTESTED, BACK_SOMEWHERE = "replica's replica word not compared", "replica's replica word tested for 0 alone"
+BACK_OR_NONE, BACK_BY_PLACE = "replica's replica word may be 0", "replica's replica word compared by its place alone"
+WEAK_SLIPS = [REPLICAS_UNTESTED, LEFT_BEFORE_5, LEFT_IN_12, LEFT_IN_TOSPACE, LEFT_IN_FROMSPACE, LEFT_BELOW_3, HALF_UNTESTED, SOUND_UNTESTED,
+              COLOUR_UNTESTED, FRONTIER_UNTESTED, HEADER_ALONE, SHAPE_UNTESTED, SHAPE_AT_LEAST, SHAPE_AT_MOST, SIZE_ALONE, LINKS_ALONE,
+              PLAINS_ALONE, BACK_UNTESTED, BACK_SOMEWHERE, BACK_OR_NONE, BACK_BY_PLACE]
+# where a reference is followed, with the mistake to do it there by the old test
+PLACES = {place: f"{place} by the old test" for place in [
+    "load", "read", "write", "stretch", "companion", "same", "store", "stored and shaded", "stored at level 4", "stored at level 5",
+    "stored at level 6", "put and shaded", "put at level 6", "overwritten by store", "overwritten by put", "global shaded", "list entry",
+    "field shaded", "register shaded", "walk in Allocate", "walk in Copy", "field copied", "global flipped", "register flipped",
+    "walk in Reclaim"]}
+FOLLOWING_SLIPS = {*STRICT_SLIPS, *WEAK_SLIPS, *PLACES.values()}
 
 # ---- all in what is shaded and marked
 MARKING_SLIPS = MISSED_SLIPS + LINE_SLIPS + FULL_LIST_SLIPS + WORD_SLIPS

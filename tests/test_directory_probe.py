@@ -1,14 +1,16 @@
 #!/usr/bin/env python3
 """Every call of the directory on any control record and any memory: the probe program writes, word for word, what the directory in Python
 gives, over the store in Python. Directed cases (every phase and level, edges of every range, damaged records, records without the
-field, chains in a ring) and random damaged directories. Mistakes built into the directory in Python are seen."""
+field, right and wrong replicas, chains in a ring) and random damaged directories. Mistakes built into the directory in Python are seen."""
 import sys
 import time
 from collections import Counter
 
 import directory
 import directory_cases
+import directory_chance
 import probe
+import replicas
 from probe import OPEN, ADD, REMOVE, MAKE_GROUP, JOIN, LEAVE, LIST
 from sapphire import LEVELS
 
@@ -55,6 +57,21 @@ def check_slips(cases, replies):
         print(f"test_directory_probe: '{slip}' is seen by: {seen}")
 
 
+def check_replicas(cases):
+    """That every call but open, in every phase that has replicas, is refused for one in some cases, in others follows one and is done."""
+    done, refused = Counter(), Counter()
+    for _, case in cases:
+        key = probe.CALL.unpack_from(case)[0], probe.decode(case)[0].phase
+        number, passed, wrong = replicas.shown(case)
+        refused[key] += len(wrong)
+        done[key] += number == 0 and bool(passed)
+    keys = {(kind, phase) for kind in REFUSALS if kind != OPEN for phase in range(5, 13)}
+    print(f"test_directory_probe: {len(cases)} cases of replicas: {refused.total()} are refused for one, {done.total()} follow one and are "
+          f"done; of each call in each phase from 5 on at least {min(refused[key] for key in keys)} and {min(done[key] for key in keys)}")
+    if any(min(refused[key], done[key]) < 20 for key in keys):
+        sys.exit(f"test_directory_probe: the cases of replicas do not show enough: {sorted(refused.items())}, {sorted(done.items())}")
+
+
 def check_refusals(name, seen):
     numbers = Counter()
     for (_, number), count in seen.items():
@@ -68,12 +85,14 @@ def check_refusals(name, seen):
 def main():
     began = time.time()
     check_bad_cases()
-    directed = list(directory_cases.directed())
+    paired = list(directory_cases.replicas())
+    directed = [*directory_cases.directed(), *paired]
     replies, seen, levels = compare(directed)
     check_refusals("directed", seen)
     if levels != {(kind, level) for kind in REFUSALS if kind != OPEN for level in range(7)}:
         sys.exit(f"test_directory_probe: 12 does not come in every call but open at every level, but only at {sorted(levels)}")
-    check_refusals("random", compare(list(directory_cases.random_cases(RANDOM)))[1])
+    check_replicas(paired)
+    check_refusals("random", compare(list(directory_chance.random_cases(RANDOM)))[1])
     check_slips(directed, replies)
     print(f"test_directory_probe: {time.time() - began:.0f} s")
 

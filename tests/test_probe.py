@@ -1,12 +1,14 @@
 #!/usr/bin/env python3
 """Every call of the store, the stretch and its companion too, on any control record and any memory: the probe program writes, word for
 word, what documents 01 and 02 give, by the store in Python. Directed cases (edges of every range, every way to meet damage, both halves,
-both copies; every reference stored over every other, and all that shades or marks; the session scan over any registers) and random ones,
-damaged stores and scans. Mistakes built into the store in Python are seen.
+both copies; every reference stored over every other, and all that shades or marks; right and wrong replicas wherever a reference is
+followed; the session scan over any registers) and random ones, damaged stores and scans. Mistakes built into the store in Python are seen.
 
     python3 tests/test_probe.py write    writes crates/probe/stdin and stdout anew, both from documents 01 and 02 alone
 """
+import functools
 import os
+import random
 import sys
 import time
 from collections import Counter
@@ -16,10 +18,11 @@ import chance
 import damage
 import directory_cases
 import probe
+import replicas
 import scanning
 from model import ATTACH, DETACH, SAFE, ALLOCATE, LOAD, STORE, READ, WRITE, MOVE, CLEAR, SAME, GET, PUT, STEP
 from sapphire import COMPANION, STRETCH
-from slips import DAMAGE_SLIPS, MARKING_SLIPS, PLACE_IN_HALF, SCAN_SLIPS
+from slips import DAMAGE_SLIPS, MARKING_SLIPS, PLACE_IN_HALF, PLACES, SCAN_SLIPS, STRICT_SLIPS, WEAK_SLIPS
 
 CRATE = os.path.join(os.path.dirname(os.path.abspath(__file__)), "..", "crates", "probe")
 RANDOM, RANDOM_SCANS = 60000, 10000
@@ -53,6 +56,21 @@ def compare(cases):
     return seen
 
 
+def check_replicas(kind, cases, least):
+    """That the cases show enough: wherever a call follows a reference, at each level at which it does, at least so many that are refused
+    for a replica, and so many that follow a record with a replica there and are done."""
+    done, refused = Counter(), Counter()
+    for _, case in cases:
+        number, passed, wrong = replicas.shown(case)
+        level = replicas.level_of(case) if passed or wrong else None
+        refused.update((place, level) for place in wrong)
+        done.update((place, level) for place in set(passed) if number == 0 and place in PLACES)
+    print(f"test_probe: the {kind} cases follow a record with a replica and are done {done.total()} times, are refused for a replica "
+          f"{refused.total()} times; at each of {len(done)} places and levels {min(done.values())} and {min(refused.values())} at least")
+    if done.keys() != refused.keys() or len(done) < 68 or min(*done.values(), *refused.values()) < least:
+        sys.exit(f"test_probe: the {kind} cases do not show enough of replicas: {sorted(done.items())}, {sorted(refused.items())}")
+
+
 def check_scans(kind, cases):
     """Runs the program on cases of the session scan. And the model: it refuses none but with 12, and then changes nothing."""
     names, seen = {case: name for name, case in cases}, Counter()
@@ -64,9 +82,10 @@ def check_scans(kind, cases):
             sys.exit(f"test_probe: refused, and has changed something: {names[case]}")
         seen.update(scanning.traits(case, reply))
     print(f"test_probe: {len(cases)} {kind} cases of the session scan, {seen['beside']} of them other steps, {seen['refused']} scans "
-          f"refused, {seen['scanned']} done: {seen['equal']} with equal white registers, {seen['shared']} with records that share words, "
-          f"{seen['written']} with a colour written in another one's record")
-    if min(seen["refused"], seen["scanned"], seen["equal"], seen["shared"]) < 2000 or seen["written"] < 1000:
+          f"refused, {seen['scanned']} done: {seen['equal']} with equal white registers, {seen['paired']} with replicas, {seen['shared']} "
+          f"with records that share words, {seen['crossed']} of them with a replica, {seen['written']} with a colour written in another "
+          f"one's record")
+    if any(seen[trait] < least for trait, least in scanning.LEAST.items()):
         sys.exit(f"test_probe: the {kind} cases of the session scan do not show enough")
 
 
@@ -88,9 +107,9 @@ def check_bad_cases():
 
 def check_slips(slips, cases):
     """Each of these mistakes built into the store in Python must show in some case."""
-    replies = [probe.expected(case) for _, case in cases]
+    right = functools.cache(probe.expected)
     for slip in slips:
-        seen = next((name for (name, case), reply in zip(cases, replies) if probe.expected(case, slip) != reply), None)
+        seen = next((name for name, case in cases if probe.expected(case, slip) != right(case)), None)
         if seen is None:
             sys.exit(f"test_probe: the slip '{slip}' is not seen")
         print(f"test_probe: '{slip}' is seen by: {seen}")
@@ -102,7 +121,8 @@ def main():
         sys.exit("test_probe: crates/probe/stdin and stdout are not those that this test writes")
     check_bad_cases()
     directed, marking, by_chance = list(damage.directed()), list(barriers.directed()), list(chance.random_cases(RANDOM))
-    for name, cases in [("directed", directed + marking), ("random", by_chance)]:
+    paired = list(replicas.directed())
+    for name, cases in [("directed", directed + marking + paired), ("random", by_chance)]:
         seen = compare(cases)
         numbers = {}
         for (_, number), count in seen.items():
@@ -111,11 +131,14 @@ def main():
         lacking = [kind for kind, refusals in REFUSALS.items() if {number for k, number in seen if k == kind} != refusals | {0}]
         if lacking:
             sys.exit(f"test_probe: the {name} cases of the kinds {lacking} do not have just the refusals of document 01's table")
+    check_replicas("directed", paired, 10)
+    check_replicas("random", by_chance, 1)
     scans = scanning.directed()
     check_scans("directed", scans)
     check_scans("random", list(scanning.random_cases(RANDOM_SCANS)))
     check_slips([PLACE_IN_HALF, *DAMAGE_SLIPS], by_chance[:4000] + directed)
     check_slips(MARKING_SLIPS, marking)
+    check_slips([*WEAK_SLIPS, *PLACES.values(), *STRICT_SLIPS], random.Random(1).sample(paired, len(paired)))
     check_slips(SCAN_SLIPS, scans)
     print(f"test_probe: {time.time() - began:.0f} s")
 

@@ -1,13 +1,13 @@
 #!/usr/bin/env python3
 """A test of the tests: the store in Python agrees with the collector-free store on every script, and each slip built into it is seen: by
-the collector-free store, such as those that document 01 warns of, or where no session is answered otherwise by a line that differs. Those
-that no script shows are left to the tests that tests/slips.py names."""
+the collector-free store, such as those that document 01 warns of and a test of replicas that is too strict, or where no session is
+answered otherwise by a line that differs. Those that no script shows are left to the tests that tests/slips.py names."""
 import sys
 
 from judge import faults
 from sapphire import Sapphire
 from scripts import all_scripts
-from slips import ANSWER_SLIPS, LINE_SLIPS
+from slips import ANSWER_SLIPS, LINE_SLIPS, STRICT_SLIPS
 
 
 def lines_of(entries, slip=None):
@@ -56,7 +56,7 @@ def first_seen(slip, scripts, right):
 def main():
     scripts = list(all_scripts())[::-1]  # those that were written for a slip come first
     right = all_right(scripts)
-    for slip in ANSWER_SLIPS + LINE_SLIPS:
+    for slip in ANSWER_SLIPS + LINE_SLIPS + STRICT_SLIPS:
         seen = first_seen(slip, scripts, right)
         if not seen:
             sys.exit(f"test_slips: the slip '{slip}' is not seen")
