@@ -63,7 +63,7 @@ impl Store {
         self.half[(v % 2) as usize][((v - 2) / 2) as usize + j] = x;
     }
 
-    fn follow(&self, v: u32) -> Tested<(usize, usize)> {
+    fn sound(&self, v: u32) -> Tested<(usize, usize)> {
         test(v >= 2, 12)?;
         let (k, h) = (((v - 2) / 2) as usize, (v % 2) as usize);
         test(k + 3 <= self.frontier[h], 12)?;
@@ -71,6 +71,17 @@ impl Store {
         let (r, p) = ((shape / 256) as usize, (shape % 256) as usize);
         test(shape <= 65535 && colour <= 2 && k + 3 + r + p <= self.frontier[h], 12)?;
         Ok((r, p))
+    }
+
+    // sound, and a replica points back: it can then be followed too and has the same fields, so nobody follows it again
+    fn follow(&self, v: u32) -> Tested<(usize, usize)> {
+        let shape = self.sound(v)?;
+        let w = self.at(v, 2);
+        if w != 0 {
+            self.sound(w)?;
+            test(w % 2 != v % 2 && self.at(w, 0) == self.at(v, 0) && self.at(w, 2) == v, 12)?;
+        }
+        Ok(shape)
     }
 
     fn from(&self) -> usize {
@@ -303,9 +314,6 @@ impl Store {
         let (level, q) = (self.sessions[s].level, self.sessions[s].registers[a[3] as usize]);
         let (first, second) = self.barrier(level, self.at(v, 3 + i), q)?;
         let t = if level >= 4 { self.at(v, 2) } else { 0 };
-        if t != 0 {
-            test(i < self.follow(t)?.0, 12)?;
-        }
         let own = self.own_word(level, v, q)?;
         let copy = if t == 0 {
             0
@@ -330,15 +338,9 @@ impl Store {
         let i = a[2] as usize;
         test(i < p, 13)?;
         let t = if self.sessions[s].level >= 4 { self.at(v, 2) } else { 0 };
-        let mut tr = 0;
-        if t != 0 {
-            let (rr, rp) = self.follow(t)?;
-            test(i < rp, 12)?;
-            tr = rr;
-        }
         self.put(v, 3 + r + i, a[3]);
         if t != 0 {
-            self.put(t, 3 + tr + i, a[3]);
+            self.put(t, 3 + r + i, a[3]);
         }
         Ok(())
     }
@@ -491,16 +493,9 @@ impl Store {
             self.past(r, p);
             return Ok(());
         }
-        let (tr, tp) = self.follow(t)?;
-        if self.field < r {
-            test(self.field < tr, 12)?;
-            let q = self.forward(self.at(v, 3 + self.field))?;
-            self.put(t, 3 + self.field, q);
-        } else {
-            let i = self.field - r;
-            test(i < tp, 12)?;
-            self.put(t, 3 + tr + i, self.at(v, 3 + r + i));
-        }
+        let x = self.at(v, 3 + self.field);
+        let q = if self.field < r { self.forward(x)? } else { x };
+        self.put(t, 3 + self.field, q);
         self.field += 1;
         Ok(())
     }
