@@ -47,7 +47,7 @@ operandsOf s n k o = do
   check (not (eqb (register x k) null)) 11
   passed (record { level = x .level; own = register x k; other = register x o })
 
--- 4, 5, 6, 8, 11, 12: the same of a sound record
+-- 4, 5, 6, 8, 11, 12: the same of a record that can be followed
 unfoldable pub recordOf : Store → ℕ → ℕ → ℕ → Tested Operands
 recordOf s n k o = do
   x ← operandsOf s n k o

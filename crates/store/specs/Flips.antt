@@ -6,4 +6,4 @@ use Rattle.rules.specs.Refusals.{Tested, refused, passed}
 use Rattle.store.specs.declared.flipping.Registers.{Registers}
 
 abbrev pub forwarded : Registers → Tested (List ℕ)
-forwarded r = cond (r .sound) (passed (r .words)) (refused 12)
+forwarded r = cond (r .followed) (passed (r .words)) (refused 12)

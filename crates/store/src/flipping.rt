@@ -25,9 +25,9 @@ use heap::Checked;
 use heap::forwarding::forward;
 use heap::forwarding::other_half;
 
-// The registers of a session forwarded, where each of them is sound.
+// The registers of a session forwarded, where each of them could be followed.
 pub struct Registers {
-    pub sound: bool,
+    pub followed: bool,
     pub words: [u32; Control::REGISTERS],
 }
 
@@ -47,7 +47,7 @@ fn forward_all<'a>(
         let v = old[i];
         let Checked::Word(w) = forward(b, h0, h1, v) else {
             return Registers {
-                sound: false,
+                followed: false,
                 words: old,
             };
         };
@@ -55,7 +55,7 @@ fn forward_all<'a>(
         i += 1;
     }
     Registers {
-        sound: true,
+        followed: true,
         words: new,
     }
 }
@@ -120,7 +120,7 @@ impl Cursor {
         let session = sessions[n];
         let registers = session.registers;
         let moved = forward_all(b, h0, h1, registers);
-        if !moved.sound {
+        if !moved.followed {
             return Work::Refused(12);
         }
         let words = moved.words;

@@ -18,11 +18,11 @@ use Rattle.store.specs.declared.work.Stack.{Stack}
 use Rattle.store.specs.declared.work.Work.the-variants.{Refused}
 
 -- what the code forwarded, by its flag
-pub moved-false : (r : Registers) → not (r .sound) ≡ true → forwarded r ≡ refused 12
-moved-false r e = rw (not-true (r .sound) e)
+pub moved-false : (r : Registers) → not (r .followed) ≡ true → forwarded r ≡ refused 12
+moved-false r e = rw (not-true (r .followed) e)
 
-pub moved-true : (r : Registers) → not (r .sound) ≡ false → forwarded r ≡ passed (r .words)
-moved-true r e = rw (not-false (r .sound) e)
+pub moved-true : (r : Registers) → not (r .followed) ≡ false → forwarded r ≡ passed (r .words)
+moved-true r e = rw (not-false (r .followed) e)
 
 module _ (s : Store) where
   pub roots-done : globalCount ≤ s .walk .place → went (moveOn s) ≡ stepped s (rootFlip s)
