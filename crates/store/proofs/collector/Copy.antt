@@ -39,35 +39,39 @@ then-more (passed a) f g = refl
 -- v, a record of r reference fields, was followed, and t is its replica; q is the field at the walk field
 module _ (s : Store) {v t r q : ℕ} (k : CanFollow (s .memory) v) (w : t ≡ replica (s .memory) v) (n : t ≡ null → ⊥) (c : r ≡ refs (s .memory) v)
     (l : s .walk .field < r + plains (s .memory) v) (x : q ≡ word (s .memory) v (header + s .walk .field)) where
-  some : replica (s .memory) v ≢ null
-  some e = n (w ∙ e)
+  paired : replica (s .memory) v ≢ null
+  paired e = n (w ∙ e)
 
   -- the replica can be followed, and has as many fields
   follows-there : followed (s .memory) t ≡ passed tt
-  follows-there = rw w (follow-passes (replica-follows k some))
+  follows-there = rw w (follow-passes (replica-follows k paired))
 
   refs-there : refs (s .memory) t ≡ r
-  refs-there = rw (w, c) (replica-counts k some .0)
+  refs-there = rw (w, c) (replica-counts k paired .0)
 
   plains-there : plains (s .memory) t ≡ plains (s .memory) v
-  plains-there = rw w (replica-counts k some .1)
+  plains-there = rw w (replica-counts k paired .1)
+
+  -- the field written to the replica, and the store that the step leaves
+  abbrev written : ℕ → Memory
+  written = put (s .memory) t (header + s .walk .field)
+
+  abbrev gone-on : Memory → Store
+  gone-on N = withWalk (withMemory s N) (s .walk .place) (s .walk .field + 1)
 
   -- the rule, without the tests that pass
-  as-ref : s .walk .field < r → copyField s v (s .walk .field)
-      ≡ (forward (s .memory) (tospace s) q >>= λ y. passed (withWalk (withMemory s (put (s .memory) t (header + s .walk .field) y)) (s .walk .place) (s .walk .field + 1)))
+  as-ref : s .walk .field < r → copyField s v (s .walk .field) ≡ (forward (s .memory) (tospace s) q >>= λ y. passed (gone-on (written y)))
   unfolding copyField copyRef
   as-ref g = rw (← w, follows-there, ← c, lt-ltb (s .walk .field) r g, refs-there, lt-ltb (s .walk .field) r g, ← x)
-      (then-more (forward (s .memory) (tospace s) q) (put (s .memory) t (header + s .walk .field)) (λ N. withWalk (withMemory s N) (s .walk .place) (s .walk .field + 1)))
+      (then-more (forward (s .memory) (tospace s) q) written gone-on)
 
-  as-plain : r ≤ s .walk .field → copyField s v (s .walk .field)
-      ≡ passed (withWalk (withMemory s (put (s .memory) t (header + s .walk .field) q)) (s .walk .place) (s .walk .field + 1))
+  as-plain : r ≤ s .walk .field → copyField s v (s .walk .field) ≡ passed (gone-on (written q))
   unfolding copyField copyPlain
   as-plain g =
       let j : header + r + (s .walk .field - r) ≡ header + s .walk .field = omega arith in
       rw (← w, follows-there, ← c, le-ltb (s .walk .field) r g, plains-there, lt-ltb (s .walk .field - r) (plains (s .memory) v) (omega arith), refs-there, j, ← x)
 
-  as-copied : copyField s v (s .walk .field)
-      ≡ (copiedWord s r q >>= λ y. passed (withWalk (withMemory s (put (s .memory) t (header + s .walk .field) y)) (s .walk .place) (s .walk .field + 1)))
+  as-copied : copyField s v (s .walk .field) ≡ (copiedWord s r q >>= λ y. passed (gone-on (written y)))
   as-copied = lt-or (s .walk .field) r
       (λ g. as-ref g ∙ rw (lt-ltb (s .walk .field) r g))
       (λ g. as-plain g ∙ rw (le-ltb (s .walk .field) r g))
@@ -75,8 +79,7 @@ module _ (s : Store) {v t r q : ℕ} (k : CanFollow (s .memory) v) (w : t ≡ re
   pub field-lost : copiedWord s r q ≡ refused 12 → record { store = s; reply = answer (Refused 12) } ≡ stepped s (copyField s v (s .walk .field))
   field-lost e = rw (as-copied, e)
 
-  pub field-copied : {N : Memory} {y : ℕ} → copiedWord s r q ≡ passed y → N ≡ put (s .memory) t (header + s .walk .field) y
-      → went (withWalk (withMemory s N) (s .walk .place) (s .walk .field + 1)) ≡ stepped s (copyField s v (s .walk .field))
+  pub field-copied : {N : Memory} {y : ℕ} → copiedWord s r q ≡ passed y → N ≡ written y → went (gone-on N) ≡ stepped s (copyField s v (s .walk .field))
   field-copied e m = rw (as-copied, e, m)
 
 -- what copying a field asks for: both copies have it
