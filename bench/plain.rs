@@ -319,6 +319,8 @@ impl Store {
             0
         } else if level == 5 {
             if self.is_in((v % 2) as usize, q) { self.copy_of(q)? } else { q }
+        } else if level == 6 {
+            own
         } else {
             self.forward(q)?
         };

@@ -83,15 +83,27 @@ pub(crate) fn replica_word<'a>(
     Checked::Word(q)
 }
 
-// The same where v has a replica t to write, else null.
-fn copy_word<'a>(b: Bounds, h0: &'a [u32], h1: &'a [u32], l: u32, v: u32, t: u32, q: u32) -> Checked
-    requires { ⌜ Within b (now h0) (now h1) ⌝ }
+// The same where v has a replica t to write, else null. At level 6 it is the word `own` that the record itself gets.
+fn copy_word<'a>(
+    b: Bounds,
+    h0: &'a [u32],
+    h1: &'a [u32],
+    l: u32,
+    v: u32,
+    t: u32,
+    q: u32,
+    own: u32,
+) -> Checked
+    requires { ⌜ Within b (now h0) (now h1) × (passed own ≡ ownWord (heap b (now h0) (now h1)) l v q) ⌝ }
     ensures { λ r. ⌜ checked r ≡ cond (eqb t null) (passed null) (replicaWord (heap b (now (h0 .entry)) (now (h1 .entry))) l v q) ⌝ }
 {
     if t == 0 {
         return Checked::Word(0);
     }
-    replica_word(b, h0, h1, l, v, q)
+    if l != 6 {
+        return replica_word(b, h0, h1, l, v, q);
+    }
+    Checked::Word(own)
 }
 
 // All that a store or a put of q over `old` writes at level l, one that shades: the records to shade, and q itself. No replica
@@ -112,8 +124,8 @@ fn shading_writes<'a>(b: Bounds, h0: &'a [u32], h1: &'a [u32], l: u32, old: u32,
     })
 }
 
-// All that a store of q into reference field i of v, a record that was followed, writes: at levels 1 to 3 the records to shade and q; at the others nothing
-// is shaded, and the record's own word and, from level 4 on, the replica's are written.
+// All that a store of q into reference field i of v, a record that was followed, writes: at levels 1 to 3 the records to shade
+// and q; at level 0 q; from level 4 on the record's own word and the replica's.
 pub fn store_writes<'a>(
     b: Bounds,
     h0: &'a [u32],
@@ -132,11 +144,20 @@ pub fn store_writes<'a>(
         let old = get_word(h0, h1, v, HEADER + (i as usize));
         return shading_writes(b, h0, h1, l, old, q);
     }
+    if l < 4 {
+        return Planned::Plan(Writes {
+            first: 0,
+            second: 0,
+            own: q,
+            replica: 0,
+            copy: 0,
+        });
+    }
     let t = replica_for(h0, h1, l, v);
     let Checked::Word(own) = own_word(b, h0, h1, l, v, q) else {
         return Planned::Damage;
     };
-    let Checked::Word(copy) = copy_word(b, h0, h1, l, v, t, q) else {
+    let Checked::Word(copy) = copy_word(b, h0, h1, l, v, t, q, own) else {
         return Planned::Damage;
     };
     Planned::Plan(Writes {

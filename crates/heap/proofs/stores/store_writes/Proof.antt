@@ -1,8 +1,9 @@
--- Levels 1 to 3 as a put over the field's word; at the others the replica that a record that was followed has, and the tests in order:
--- damage at the first that fails, else the plan.
+-- Levels 1 to 3 as a put over the field's word, level 0 the word alone; above, the replica that a record that was followed has, and the
+-- tests in order: damage at the first that fails, else the plan.
 use Prim.Native.Nat.{_+_}
 use mathlib.Core.Path.{_≡_, _∙_, sym, ap}
 use mathlib.Core.Bool.{false}
+use native.Mathlib.Omega.{arith}
 use Rattle.rules.specs.Refusals.{passed}
 use Rattle.rules.specs.Memory.{header, replicaAt, refs}
 use Rattle.rules.specs.Barriers.{shadesAt, replicaFor, ownWord, storeWrites}
@@ -12,7 +13,7 @@ use Rattle.heap.specs.View.{heap, Inside}
 use Rattle.heap.proofs.Soundness.{header-inside}
 use Rattle.heap.proofs.Fields.{ref-inside}
 use Rattle.heap.proofs.Answers.{word-passed, word-refused}
-use Rattle.heap.proofs.Levels.{unshaded, as-put}
+use Rattle.heap.proofs.Levels.{unshaded, shades-low, as-put, as-word}
 use Rattle.heap.proofs.Replicas.{replica-written}
 use borrow.Author.Needs.{needs}
 use Rattle.heap.proofs.stores.store_writes.Statement.{statement}
@@ -31,7 +32,7 @@ plain c = sym (c .before .shades-at .ensures) ∙ c .if1 .left
 
 -- past the replica: the one that is written as well
 abbrev entry : tie.After-replica-for → tie.Start
-entry c = c .before .before .before .before .before
+entry c = c .before .before .before .before .before .before
 
 replica : (c : tie.After-replica-for) → let a = entry c .args in
     replicaFor (heap (a .b) (a .h0 .now) (a .h1 .now) .memory) refs (a .l) (a .v) (a .i) ≡ passed (c .replica-for .result)
@@ -55,7 +56,7 @@ add-get-word : tie.Need-add-get-word
 add-get-word c = search needs
 
 get-word-requires : tie.Need-get-word-requires
-get-word-requires c κs = let x = c .before .before .before .before in field x
+get-word-requires c κs = field (c .before .before .before .before)
 
 shading-writes-requires : tie.Need-shading-writes-requires
 shading-writes-requires c κs = (c .before .before .before .before .before .pre .0, sym (c .before .before .shades-at .ensures) ∙ c .before .if1 .taken)
@@ -63,11 +64,14 @@ shading-writes-requires c κs = (c .before .before .before .before .before .pre 
 returns : tie.Need-returns
 returns c =
     let t = c .before .before in
-    rw (← as-put _ _ _ (sym (t .before .shades-at .ensures) ∙ t .if1 .taken), ← c .before .get-word .ensures _ _) (c .shading-writes .ensures)
+    rw (← as-put _ _ _ (shades-low _ (sym (t .before .shades-at .ensures) ∙ t .if1 .taken)), ← c .before .get-word .ensures _ _) (c .shading-writes .ensures)
+
+returns-2 : tie.Need-returns-2
+returns-2 c = sym (as-word _ _ _ (omega (arith, c .if2 .taken)) (plain (c .before)) _ _)
 
 replica-for-requires : tie.Need-replica-for-requires
 replica-for-requires c κs =
-    let x = c .before .before .before .before in
+    let x = c .before .before .before .before .before in
     header-inside _ _ _ _ _ (followed x .sound) (x .pre .0 .low) (x .pre .0 .high) replicaAt (search needs)
 
 own-word-requires : tie.Need-own-word-requires
@@ -79,14 +83,14 @@ enum-known-own c = search needs
 enum-told : tie.Need-enum-told
 enum-told c = search needs
 
-returns-2 : tie.Need-returns-2
+returns-3 : tie.Need-returns-3
 unfolding storeWrites
-returns-2 c =
+returns-3 c =
     let t = c .before .before .before in
-    rw (unshaded _ _ _ _ (plain (t .before)), replica t, word-refused (c .before .before .own-word .ensures) (c .enum-told .given .1))
+    rw (unshaded _ _ _ _ (plain (t .before .before)), replica t, word-refused (c .before .before .own-word .ensures) (c .enum-told .given .1))
 
 copy-word-requires : tie.Need-copy-word-requires
-copy-word-requires c κs = search needs
+copy-word-requires c κs = (entry (past (c .before)) .pre .0, sym (own (c .before)))
 
 enum-known-copy : tie.Need-enum-known-copy
 enum-known-copy c = search needs
@@ -94,19 +98,19 @@ enum-known-copy c = search needs
 enum-told-2 : tie.Need-enum-told-2
 enum-told-2 c = search needs
 
-returns-3 : tie.Need-returns-3
-unfolding storeWrites
-returns-3 c =
-    let o = c .before .before .before .before in
-    let t = past o in
-    rw (unshaded _ _ _ _ (plain (t .before)), replica t, own o, word-refused (c .before .before .copy-word .ensures) (c .enum-told2 .given .1))
-
 returns-4 : tie.Need-returns-4
 unfolding storeWrites
 returns-4 c =
+    let o = c .before .before .before .before in
+    let t = past o in
+    rw (unshaded _ _ _ _ (plain (t .before .before)), replica t, own o, word-refused (c .before .before .copy-word .ensures) (c .enum-told2 .given .1))
+
+returns-5 : tie.Need-returns-5
+unfolding storeWrites
+returns-5 c =
     let o = c .before .before .before .before .before in
     let t = past o in
-    rw (unshaded _ _ _ _ (plain (t .before)), replica t, own o, word-passed (c .before .before .before .copy-word .ensures) (c .before .copy .given .1))
+    rw (unshaded _ _ _ _ (plain (t .before .before)), replica t, own o, word-passed (c .before .before .before .copy-word .ensures) (c .before .copy .given .1))
 
 pub store-writes-spec : {M : Type 1} → statement M
 store-writes-spec =
@@ -117,13 +121,14 @@ store-writes-spec =
     get-word-requires
     shading-writes-requires
     returns
+    returns-2
     replica-for-requires
     own-word-requires
     enum-known-own
     enum-told
-    returns-2
+    returns-3
     copy-word-requires
     enum-known-copy
     enum-told-2
-    returns-3
-    returns-4)
+    returns-4
+    returns-5)
