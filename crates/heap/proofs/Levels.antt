@@ -10,6 +10,7 @@ use Rattle.rules.specs.Refusals.{passed}
 use Rattle.rules.specs.Memory.{Memory, word, refs, refField}
 use Rattle.rules.specs.Barriers.{Heap, shadesAt, barrierShades, copiesAt, replicaFor, ownWord, replicaWord, storeWrites, putWrites}
 use Rattle.rules.proofs.Ranges.{both}
+use Rattle.heap.specs.View.{wordAlone}
 
 pub unshaded : (z : Heap) (l old q : ℕ) → shadesAt l ≡ false → barrierShades z l old q ≡ passed []
 unfolding barrierShades
@@ -35,7 +36,7 @@ module _ (z : Heap) (l q : ℕ) (few : l ≤ 3) where
   as-put v i = rw (no-copy (z .memory) v i, own-itself v, own-itself 0)
 
   -- and where nothing is shaded the word alone
-  pub as-word : shadesAt l ≡ false → (v i : ℕ) → storeWrites z l v i q ≡ passed (record { first = 0; second = 0; own = q; replica = 0; copy = 0 })
+  pub as-word : shadesAt l ≡ false → (v i : ℕ) → storeWrites z l v i q ≡ passed (wordAlone q)
   unfolding storeWrites
   as-word e v i = rw (unshaded z l (word (z .memory) v (refField i)) q e, no-copy (z .memory) v i, own-itself v)
 

@@ -74,6 +74,10 @@ abbrev pub planned : Planned → Tested Writes
 planned (plan.Plan w) = passed w
 planned plan.Damage = refused 12
 
+-- what is written where that is one word, and nothing is shaded
+abbrev pub wordAlone : ℕ → Writes
+wordAlone q = record { first = null; second = null; own = q; replica = null; copy = null }
+
 -- the replica that a write at level l to v goes to as well, or null where none is written
 abbrev pub writtenReplica : Memory → ℕ → ℕ → ℕ
 writtenReplica M l v = cond (copiesAt l) (replica M v) null

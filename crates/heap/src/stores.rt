@@ -7,7 +7,7 @@ ghost use lib.Dec.{eqb};
 ghost use Rattle.rules.specs.Refusals.{passed};
 ghost use Rattle.rules.specs.Memory.{null, replicaAt, refs, followable};
 ghost use Rattle.rules.specs.Barriers.{shadesAt, ownWord, replicaWord, storeWrites, putWrites};
-ghost use Rattle.heap.specs.View.{memory, heap, checked, planned, writtenReplica, Within, Inside};
+ghost use Rattle.heap.specs.View.{memory, heap, checked, planned, wordAlone, writtenReplica, Within, Inside};
 use crate::Bounds;
 use crate::Checked;
 use crate::HEADER;
@@ -106,6 +106,19 @@ fn copy_word<'a>(
     Checked::Word(own)
 }
 
+// The plan of a write of one word, where nothing is shaded and no replica is written.
+fn word_alone(own: u32) -> Planned
+    ensures { λ r. ⌜ planned r ≡ passed (wordAlone own) ⌝ }
+{
+    Planned::Plan(Writes {
+        first: 0,
+        second: 0,
+        own,
+        replica: 0,
+        copy: 0,
+    })
+}
+
 // All that a store or a put of q over `old` writes at level l, one that shades: the records to shade, and q itself. No replica
 // is written at these levels, and no reference forwarded.
 fn shading_writes<'a>(b: Bounds, h0: &'a [u32], h1: &'a [u32], l: u32, old: u32, q: u32) -> Planned
@@ -145,13 +158,7 @@ pub fn store_writes<'a>(
         return shading_writes(b, h0, h1, l, old, q);
     }
     if l < 4 {
-        return Planned::Plan(Writes {
-            first: 0,
-            second: 0,
-            own: q,
-            replica: 0,
-            copy: 0,
-        });
+        return word_alone(q);
     }
     let t = replica_for(h0, h1, l, v);
     let Checked::Word(own) = own_word(b, h0, h1, l, v, q) else {
@@ -182,11 +189,5 @@ pub fn put_writes<'a>(b: Bounds, h0: &'a [u32], h1: &'a [u32], l: u32, old: u32,
     let Checked::Word(own) = own_word(b, h0, h1, l, 0, q) else {
         return Planned::Damage;
     };
-    Planned::Plan(Writes {
-        first: 0,
-        second: 0,
-        own,
-        replica: 0,
-        copy: 0,
-    })
+    word_alone(own)
 }

@@ -31,11 +31,14 @@ returns-2 c =
     let n = c .before .before .before in
     rw (unshaded _ _ _ _ (sym (n .before .shades-at .ensures) ∙ n .if1 .left), word-refused (c .before .before .own-word .ensures) (c .enum-told .given .1))
 
+word-alone-requires : tie.Need-word-alone-requires
+word-alone-requires c κs = search needs
+
 returns-3 : tie.Need-returns-3
 unfolding putWrites
 returns-3 c =
-    let n = c .before .before .before .before in
-    rw (unshaded _ _ _ _ (sym (n .before .shades-at .ensures) ∙ n .if1 .left), word-passed (c .before .before .before .own-word .ensures) (c .before .own .given .1))
+    let n = c .before .before .before .before .before in
+    rw (unshaded _ _ _ _ (sym (n .before .shades-at .ensures) ∙ n .if1 .left), word-passed (c .before .before .before .before .own-word .ensures) (c .before .before .own .given .1)) (c .word-alone .ensures)
 
 pub put-writes-spec : {M : Type 1} → statement M
 put-writes-spec =
@@ -48,4 +51,5 @@ put-writes-spec =
     enum-known-own
     enum-told
     returns-2
+    word-alone-requires
     returns-3)

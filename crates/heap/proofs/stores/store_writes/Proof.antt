@@ -66,8 +66,11 @@ returns c =
     let t = c .before .before in
     rw (← as-put _ _ _ (shades-low _ (sym (t .before .shades-at .ensures) ∙ t .if1 .taken)), ← c .before .get-word .ensures _ _) (c .shading-writes .ensures)
 
+word-alone-requires : tie.Need-word-alone-requires
+word-alone-requires c κs = search needs
+
 returns-2 : tie.Need-returns-2
-returns-2 c = sym (as-word _ _ _ (omega (arith, c .if2 .taken)) (plain (c .before)) _ _)
+returns-2 c = c .word-alone .ensures ∙ sym (as-word _ _ _ (omega (arith, c .before .if2 .taken)) (plain (c .before .before)) _ _)
 
 replica-for-requires : tie.Need-replica-for-requires
 replica-for-requires c κs =
@@ -121,6 +124,7 @@ store-writes-spec =
     get-word-requires
     shading-writes-requires
     returns
+    word-alone-requires
     returns-2
     replica-for-requires
     own-word-requires
