@@ -1,23 +1,24 @@
--- The starred examples, and runs computed by the checker: the script example of document 01, a whole collection, and two in which marking
--- takes as long as it can.
-use Prim.Native.Nat.{ℕ, zero, suc, _+_}
+-- The starred examples, and runs computed by the checker: the script example of document 01, a whole collection, the last birth number,
+-- and two runs in which marking takes as long as it can.
+use Prim.Native.Nat.{ℕ, zero, suc, _+_, _-_}
 use mathlib.Core.Path.{_≡_, refl}
-use mathlib.Core.List.{List, [], _∷_, _++_}
+use mathlib.Core.List.{List, [], _∷_, _++_, map}
 use lib.ListN.{replicate, drop}
-use Rattle.rules.specs.Memory.{half, frontier, withHalf, withFrontier, reference, halfOf, wordOf, inHalf, shapeWord, refsOf, plainsOf, newRecord, word, put, colour, replica, refs, plains, size, append, nextReference, sound, pointsBack, followable, followed, copyOf, otherCopy, forward}
-use Rattle.rules.specs.Control.{sessionCount, globalCount, halfAllowed, listAllowed, lengthsAllowed, sameLengths, walkLimit, inRange, making, Store}
+use Rattle.rules.specs.Refusals.{Reply}
+use Rattle.rules.specs.Memory.{half, frontier, withHalf, withFrontier, reference, halfOf, wordOf, inHalf, shapeWord, refsOf, plainsOf, newRecord, word, put, colour, replica, birthNumber, refs, plains, size, append, nextReference, sound, pointsBack, followable, followed, copyOf, otherCopy, forward}
+use Rattle.rules.specs.Control.{sessionCount, globalCount, halfAllowed, listAllowed, lengthsAllowed, sameLengths, walkLimit, inRange, making, mostBirths, withBirths, Store}
 use Rattle.rules.specs.Cycle.{atRest, atAllocate, atReclaim}
 use Rattle.rules.specs.Phases.{levelOf, nextPhase, otherHalf, fromspace, tospace, sessionAt, withSession, register, unmarked, moveOn}
 use Rattle.rules.specs.Barriers.{toShade, listRoom, shading, shade, listing, shadingAll, shadesAt, shadesOldAt, copiesAt, barrierShades, shadeBoth, replicaFor, ownWord, replicaWord, storeWrites, putBoth, sameAt, roomIn, allocationRoom, placed, allocated, allocatedReference}
 use Rattle.rules.specs.Calls as calls
 use Rattle.rules.specs.Collector as collector
-use Rattle.rules.specs.Runs.{Call, Attach, SafePoint, Allocate, Load, StoreRef, Read, Write, Clear, Step, after, spent}
-use Rattle.rules.specs.Examples.{makingOf, small, numbers, values, starred}
+use Rattle.rules.specs.Runs.{Call, Attach, SafePoint, Allocate, Load, StoreRef, Read, Write, Clear, Birth, Step, run, after, spent}
+use Rattle.rules.specs.Examples.{makingOf, small, replyNumber, replyValue, numbers, values, starred}
 use Rattle.rules.specs.Claims.{Starred}
 
 -- opens every definition that a closed run computes with
 unfoldable pub rules : Unit {0}
-unfolding small numbers values halfAllowed listAllowed lengthsAllowed sameLengths walkLimit inRange half frontier withHalf withFrontier reference halfOf wordOf inHalf shapeWord refsOf plainsOf newRecord word put colour replica refs plains size append nextReference sound pointsBack followable followed copyOf otherCopy forward levelOf nextPhase otherHalf fromspace tospace sessionAt withSession register unmarked moveOn toShade listRoom shading shade listing shadingAll shadesAt shadesOldAt copiesAt barrierShades shadeBoth replicaFor ownWord replicaWord storeWrites putBoth roomIn allocationRoom placed allocated allocatedReference calls.sessionOf calls.operandsOf calls.recordOf calls.withRegister calls.attach calls.safePoint calls.allocate calls.loadPlan calls.load calls.storePlan calls.storeCommit calls.store calls.read calls.writePlan calls.writeCommit calls.write calls.clear collector.walked collector.below collector.pastRecord collector.haveLevel collector.rest collector.handshake collector.rootMark collector.scanRecord collector.scanSession collector.heapMark collector.needsShell collector.shellOf collector.withShell collector.allocateShells collector.copyRef collector.copyPlain collector.copyField collector.copy collector.rootFlip collector.stackFlip collector.reclaim collector.step calls.same making makingOf sameAt
+unfolding small numbers values halfAllowed listAllowed lengthsAllowed sameLengths walkLimit inRange half frontier withHalf withFrontier reference halfOf wordOf inHalf shapeWord refsOf plainsOf newRecord word put colour replica birthNumber refs plains size append nextReference sound pointsBack followable followed copyOf otherCopy forward levelOf nextPhase otherHalf fromspace tospace sessionAt withSession register unmarked moveOn toShade listRoom shading shade listing shadingAll shadesAt shadesOldAt copiesAt barrierShades shadeBoth replicaFor ownWord replicaWord storeWrites putBoth roomIn allocationRoom placed allocated allocatedReference calls.sessionOf calls.operandsOf calls.recordOf calls.withRegister calls.attach calls.safePoint calls.numberLeft calls.allocate calls.loadPlan calls.load calls.storePlan calls.storeCommit calls.store calls.read calls.birth calls.writePlan calls.writeCommit calls.write calls.clear collector.walked collector.below collector.pastRecord collector.haveLevel collector.rest collector.handshake collector.rootMark collector.scanRecord collector.scanSession collector.heapMark collector.needsShell collector.shellOf collector.withShell collector.allocateShells collector.copyRef collector.copyPlain collector.copyField collector.copy collector.rootFlip collector.stackFlip collector.reclaim collector.step calls.same making makingOf sameAt
 rules = tt
 
 pub starred-hold : Starred
@@ -36,7 +37,7 @@ script-values : values script ≡ 0 ∷ 0 ∷ 0 ∷ 1 ∷ 0 ∷ 7 ∷ []
 unfolding rules script
 script-values = refl
 
--- ---- a whole collection: a record of 5 words that names one of 4, and a third of 4 that nothing names
+-- ---- a whole collection: a record of 6 words that names one of 5, and a third of 5 that nothing names
 before : List Call
 before =
     Attach 0 ∷ Allocate 0 0 1 1 ∷ Allocate 0 1 0 1 ∷ Write 0 1 0 42 ∷ StoreRef 0 0 0 1 ∷ Allocate 0 2 0 1 ∷ Clear 0 1
@@ -51,23 +52,40 @@ steps (suc n) = SafePoint 0 ∷ Step ∷ steps n
 seen : Store → List ℕ
 seen s = s .phase ∷ s .memory .frontier0 ∷ s .memory .frontier1 ∷ []
 
-begun : seen (after small before) ≡ atRest ∷ 13 ∷ 0 ∷ []
+begun : seen (after small before) ≡ atRest ∷ 16 ∷ 0 ∷ []
 unfolding rules before seen
 begun = refl
 
 -- 92 steps later the collector has one step to go: both halves are full
-last : seen (after small (before ++ steps 92)) ≡ atReclaim ∷ 13 ∷ 9 ∷ []
+last : seen (after small (before ++ steps 92)) ≡ atReclaim ∷ 16 ∷ 11 ∷ []
 unfolding rules before steps seen
 last = refl
 
 -- what nothing named is gone, and the rest is still there
-collected : seen (after small (before ++ steps 93)) ≡ atRest ∷ 0 ∷ 9 ∷ []
+collected : seen (after small (before ++ steps 93)) ≡ atRest ∷ 0 ∷ 11 ∷ []
 unfolding rules before steps seen
 collected = refl
 
 reading : drop 194 (values (before ++ steps 93 ++ (Load 0 1 0 0 ∷ Read 0 1 0 ∷ []))) ≡ 0 ∷ 42 ∷ []
 unfolding rules before steps
 reading = refl
+
+-- each still has its birth number, and the next record gets the next one, not that of the record that is gone
+births : drop 194 (values (before ++ steps 93 ++ (Birth 0 0 ∷ Load 0 1 0 0 ∷ Birth 0 1 ∷ Allocate 0 2 0 0 ∷ Birth 0 2 ∷ []))) ≡ 1 ∷ 0 ∷ 2 ∷ 0 ∷ 4 ∷ []
+unfolding rules before steps
+births = refl
+
+-- ---- the last birth number is given, then 16 comes; where there is no room either, 14
+spentNumbers : List Reply
+spentNumbers = run (withBirths small (mostBirths - 1)) (Attach 0 ∷ Allocate 0 0 4 4 ∷ Birth 0 0 ∷ Allocate 0 1 0 0 ∷ Allocate 0 1 1 0 ∷ [])
+
+last-number : map replyValue spentNumbers ≡ 0 ∷ 0 ∷ mostBirths ∷ 0 ∷ 0 ∷ []
+unfolding rules spentNumbers
+last-number = refl
+
+no-number : map replyNumber spentNumbers ≡ 0 ∷ 0 ∷ 0 ∷ 16 ∷ 14 ∷ []
+unfolding rules spentNumbers
+no-number = refl
 
 -- ---- the bound on marking: 17 are a scan of each of sixteen sessions and the step that moves on
 
@@ -91,7 +109,7 @@ seventeen : bounded (marked [] 17) ≡ 17 ∷ 0 ∷ atAllocate ∷ []
 unfolding rules everyone marked bounded
 seventeen = refl
 
--- a record of three words takes one step
-eighteen : bounded (marked (Allocate 0 0 0 0 ∷ []) 18) ≡ 18 ∷ 3 ∷ atAllocate ∷ []
+-- a record of four words takes one step
+eighteen : bounded (marked (Allocate 0 0 0 0 ∷ []) 18) ≡ 18 ∷ 4 ∷ atAllocate ∷ []
 unfolding rules everyone marked bounded
 eighteen = refl

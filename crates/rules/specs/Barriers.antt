@@ -1,5 +1,5 @@
 -- Phases and levels: shading, and what stores, puts, plain writes, same and allocation do by the session's level.
-use Prim.Native.Nat.{ℕ, _+_}
+use Prim.Native.Nat.{ℕ, suc, _+_}
 use mathlib.Core.Bool.{Bool, true, false, cond, not, _&&_, _||_}
 use mathlib.Core.List.{List, [], _∷_}
 use lib.Dec.{leb, ltb, eqb}
@@ -170,25 +170,31 @@ sameAt z l p q = cond (leb l 4) (passed (eqb p q)) (pointerEQ z p q)
 unfoldable pub roomIn : Memory → ℕ → ℕ → ℕ → Bool
 roomIn M h r p = leb (frontier M h + sizeOf r p) (length (half M h))
 
--- "14 a half that this allocation writes lacks 3 + r + p words above its frontier": the current half, from level 3 on both
+-- "14 a half that this allocation writes lacks 3 + r + p words above its frontier", 4 + r + p by request [6]: the current half, from
+-- level 3 on both
 unfoldable pub allocationRoom : Store → ℕ → ℕ → ℕ → Bool
 allocationRoom s l r p =
     cond (leb l 2) (roomIn (s .memory) (s .current) r p)
     (roomIn (s .memory) 0 r p && roomIn (s .memory) 1 r p)
 
--- a record of zero fields at the frontier of half h
-unfoldable pub placed : Memory → ℕ → ℕ → ℕ → ℕ → ℕ → Memory
-placed M h r p c v = append M h (newRecord (shapeWord r p) c v (r + p))
+-- a record of zero fields with birth number b at the frontier of half h
+unfoldable pub placed : Memory → ℕ → ℕ → ℕ → ℕ → ℕ → ℕ → Memory
+placed M h r p c v b = append M h (newRecord (shapeWord r p) c v b (r + p))
+
+-- request [6]: "counted from 1 over successful allocations"
+abbrev pub nextBirth : Store → ℕ
+nextBirth s = suc (s .births)
 
 -- "Levels 0 and 1: white, current half. 2: black, current half; replica word 0 in all three.
--- 3 to 6: both halves, fromspace copy black, tospace copy white, replica words set"
+-- 3 to 6: both halves, fromspace copy black, tospace copy white, replica words set"; request [6]: "both copies carry it unchanged"
 unfoldable pub allocated : Store → ℕ → ℕ → ℕ → Memory
 allocated s l r p =
     let M = s .memory in
-    cond (leb l 1) (placed M (s .current) r p white null)
-    (cond (leb l 2) (placed M (s .current) r p black null)
-    (placed (placed M (fromspace s) r p black (nextReference M (tospace s)))
-    (tospace s) r p white (nextReference M (fromspace s))))
+    let b = nextBirth s in
+    cond (leb l 1) (placed M (s .current) r p white null b)
+    (cond (leb l 2) (placed M (s .current) r p black null b)
+    (placed (placed M (fromspace s) r p black (nextReference M (tospace s)) b)
+    (tospace s) r p white (nextReference M (fromspace s)) b))
 
 -- "3 to 5 give the fromspace reference, 6 the tospace one"
 unfoldable pub allocatedReference : Store → ℕ → ℕ

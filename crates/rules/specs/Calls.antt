@@ -6,11 +6,11 @@ use mathlib.Core.List.{List}
 use lib.Dec.{leb, ltb, eqb}
 use lib.ListN.{getD, set, take, drop}
 use Rattle.rules.specs.Refusals.{Tested, passed, check, _>>=_, _>>_, Outcome, done, answered}
-use Rattle.rules.specs.Memory.{half, null, halfOf, wordOf, header, mostCount, word, refs, plains, refField, plainField, followed}
+use Rattle.rules.specs.Memory.{half, null, halfOf, wordOf, header, mostCount, word, birthNumber, refs, plains, refField, plainField, followed}
 use Rattle.rules.specs.Cycle.{atHeapMark}
-use Rattle.rules.specs.Control.{Store, withMemory, withGlobals, inRange, lastSession, lastRegister, lastGlobal}
+use Rattle.rules.specs.Control.{Store, withMemory, withGlobals, withBirths, inRange, mostBirths, lastSession, lastRegister, lastGlobal}
 use Rattle.rules.specs.Phases.{levelOf, sessionAt, withSession, register, withRegisters, withLevel, attachedAt, detached}
-use Rattle.rules.specs.Barriers.{heapOf, shadeBoth, replicaFor, storeWrites, putWrites, putBoth, sameAt, allocationRoom, allocated, allocatedReference}
+use Rattle.rules.specs.Barriers.{heapOf, shadeBoth, replicaFor, storeWrites, putWrites, putBoth, sameAt, allocationRoom, nextBirth, allocated, allocatedReference}
 use Rattle.rules.specs.declared.Session.{Session}
 use Rattle.rules.specs.declared.Operands.{Operands}
 use Rattle.rules.specs.declared.Writes.{Writes}
@@ -37,6 +37,10 @@ isGlobal g = leb g lastGlobal
 -- 10: "each 0 to 255"
 abbrev pub isShape : ℕ → ℕ → Bool
 isShape r p = leb r mostCount && leb p mostCount
+
+-- 16: "refuses allocation once 4,294,967,295 numbers are used", by how many are
+unfoldable pub numberLeft : ℕ → Bool
+numberLeft used = ltb used mostBirths
 
 -- 4, 5, 6, 8, 11: what a call of session n on the record in register k works with; o is its other register argument, or
 -- k again where it has none
@@ -87,7 +91,8 @@ allocate s n k r p = do
   check (isRegister k) 8
   check (isShape r p) 10
   check (allocationRoom s (x .level) r p) 14
-  done (withRegister (withMemory s (allocated s (x .level) r p)) n k (allocatedReference s (x .level)))
+  check (numberLeft (s .births)) 16
+  done (withRegister (withBirths (withMemory s (allocated s (x .level) r p)) (nextBirth s)) n k (allocatedReference s (x .level)))
 
 -- the word that the register of a load gets
 unfoldable pub loadPlan : Store → ℕ → ℕ → ℕ → ℕ → Tested ℕ
@@ -131,6 +136,12 @@ read s n k i = do
   x ← recordOf s n k k
   check (ltb i (plains (s .memory) (x .own))) 13
   answered s (Word (word (s .memory) (x .own) (plainField (refs (s .memory) (x .own)) i)))
+
+-- request [6]: "answers the number of a register's record, with read's refusals up to 12"
+unfoldable pub birth : Store → ℕ → ℕ → Tested (Outcome Store)
+birth s n k = do
+  x ← recordOf s n k k
+  answered s (Word (birthNumber (s .memory) (x .own)))
 
 -- the record that a write goes to, its count of reference fields, and its replica, or null where none is written
 pub record WritePlan : Type 0 where

@@ -1,4 +1,4 @@
--- The claims about the rules. Together with the contracts of the code they say points 1, 2 and 3, and requests [3] and [5].
+-- The claims about the rules. Together with the contracts of the code they say points 1, 2 and 3, and requests [3], [5] and [6].
 use Prim.Native.Nat.{ℕ, _+_, _≤_, _<_}
 use mathlib.Core.Path.{_≡_}
 use mathlib.Core.Logic.{_≢_, _⊎_}
@@ -6,7 +6,7 @@ use mathlib.Core.Bool.{true}
 use mathlib.Core.List.{List, [], _∷_, map, List·Memᴰ}
 use lib.ListN.{getD, length, take}
 use Rattle.rules.specs.Refusals.{passed, answer, doneOr}
-use Rattle.rules.specs.Memory.{Memory, frontier, null, reference, halfOf, shapeAt, word, replica, refs, plains, size, sound, followed}
+use Rattle.rules.specs.Memory.{Memory, frontier, null, reference, halfOf, shapeAt, word, replica, birthNumber, refs, plains, size, sound, followed}
 use Rattle.rules.specs.Cycle.{atRest, atHeapMark, atReclaim}
 use Rattle.rules.specs.Control.{Store, make, inRange, sessionCount}
 use Rattle.rules.specs.Phases.{otherHalf, sessionAt}
@@ -133,14 +133,20 @@ LiveFits =
     → ((i j : ℕ) → i < length qs → j < length qs → getD qs i 0 ≡ getD qs j 0 → i ≡ j)
     → wordsAt (freeAfter s cs) qs ≤ after s cs .lengths .half0
 
+-- the numbers that only an allocation is refused with: no room, and no birth number left
+abbrev pub allocationNumbers : List ℕ
+allocationNumbers = 14 ∷ 16 ∷ []
+
 -- the numbers that a call may be refused with; 1 to 3 are of making
 abbrev pub storeNumbers : List ℕ
-storeNumbers = 4 ∷ 5 ∷ 6 ∷ 7 ∷ 8 ∷ 9 ∷ 10 ∷ 11 ∷ 12 ∷ 13 ∷ 14 ∷ []
+storeNumbers = 4 ∷ 5 ∷ 6 ∷ 7 ∷ 8 ∷ 9 ∷ 10 ∷ 11 ∷ 12 ∷ 13 ∷ allocationNumbers
 
--- no call of any store is refused with another number, and only an allocation with 14: a number that a crate above gives meaning to
+-- no call of any store is refused with another number, and only an allocation with 14 or 16: a number that a crate above gives meaning to
 -- comes from no store call
 unfoldable pub Numbers : Type 0
-Numbers = (s : Store) (c : Call) (n : ℕ) → apply s c .reply ≡ answer (Refused n) → List·Memᴰ n storeNumbers × (n ≡ 14 → isAllocation c ≡ true)
+Numbers =
+    (s : Store) (c : Call) (n : ℕ) → apply s c .reply ≡ answer (Refused n)
+    → List·Memᴰ n storeNumbers × (List·Memᴰ n allocationNumbers → isAllocation c ≡ true)
 
 -- a register of the store is null where that of the collector-free store is: so what is said of empty registers there holds of the words here
 unfoldable pub NullRegisters : Type 0
@@ -160,7 +166,7 @@ MarkingEnds =
     (s : Store) → Made s → (cs : List Call) → spent 0 s cs ≤ frontier (after s cs .memory) (after s cs .current) + scansAndMove
 
 -- sharper, up to the step that makes tospace current: a step for each reference field and one for each record of the current half, and 17.
--- A record has two words and more beyond that.
+-- A record has three words and more beyond that.
 abbrev pub stepsOn : Memory → List ℕ → ℕ
 stepsOn M [] = 0
 stepsOn M (v ∷ vs) = refs M v + 1 + stepsOn M vs
@@ -221,3 +227,23 @@ unfoldable pub RecordsFollowed : Type 0
 RecordsFollowed =
     (s : Store) → Made s → (cs : List Call) (h : ℕ) → h < 2 → (h ≡ after s cs .current) ⊎ (after s cs .phase ≢ atReclaim)
     → (v : ℕ) → List·Memᴰ v (recordsOf (after s cs .memory) h) → followed (after s cs .memory) v ≡ passed tt
+
+-- ---- 9. Birth numbers
+-- Request [6]: "A fourth header word holds its birth number", "both copies carry it unchanged", "in the collector-free store a record's number is
+-- its place in the list". In every run the birth number of each record that either half holds is the place of the record that it stands for.
+unfoldable pub BirthNumbers : Type 0
+BirthNumbers =
+    (s : Store) → Made s → (cs : List Call) (h : ℕ) → h < 2 → (v : ℕ) → List·Memᴰ v (recordsOf (after s cs .memory) h)
+    → birthNumber (after s cs .memory) v ≡ beside (newBeside s) cs .place v
+
+-- "counted from 1 over successful allocations": in every run as many numbers are used as the collector-free list has records, to which each
+-- successful allocation adds one
+unfoldable pub BirthsCounted : Type 0
+BirthsCounted = (s : Store) → Made s → (cs : List Call) → after s cs .births ≡ length (freeAfter s cs .records)
+
+-- so no number is given twice: in every run two records of one half have different numbers
+unfoldable pub BirthsDiffer : Type 0
+BirthsDiffer =
+    (s : Store) → Made s → (cs : List Call) (h : ℕ) → h < 2 → (u v : ℕ)
+    → List·Memᴰ u (recordsOf (after s cs .memory) h) → List·Memᴰ v (recordsOf (after s cs .memory) h)
+    → birthNumber (after s cs .memory) u ≡ birthNumber (after s cs .memory) v → u ≡ v

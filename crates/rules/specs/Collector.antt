@@ -5,7 +5,7 @@ use mathlib.Core.List.{List, [], _∷_}
 use lib.Dec.{leb, ltb, eqb}
 use lib.ListN.{getD, set, length}
 use Rattle.rules.specs.Refusals.{Tested, passed, check, _>>=_, _>>_, Outcome, answered}
-use Rattle.rules.specs.Memory.{Memory, half, frontier, withFrontier, null, reference, white, black, shapeAt, colourAt, replicaAt, newRecord, word, put, colour, replica, refs, plains, size, refField, plainField, append, nextReference, followed, forward}
+use Rattle.rules.specs.Memory.{Memory, half, frontier, withFrontier, null, reference, white, black, shapeAt, colourAt, replicaAt, newRecord, word, put, colour, replica, birthNumber, refs, plains, size, refField, plainField, append, nextReference, followed, forward}
 use Rattle.rules.specs.Control.{Store, withMemory, withWalk, withList, withGlobals, withCurrent, inRange, globalCount}
 use Rattle.rules.specs.Phases.{levelOf, otherHalf, tospace, sessionAt, withSession, withRegisters, withMark, allAt, lowestUnmarked, moveOn}
 use Rattle.rules.specs.Barriers.{heapOf, shading, shade, shadingAll, shadeAll}
@@ -74,12 +74,12 @@ heapMark s =
     (passed (moveOn s)))
 
 -- 5 Allocate: "not white and without replica, it gets a shell at the other half's frontier
--- (same word 0, white, fields 0, replica words naming each other); otherwise pass over"
+-- (same word 0, white, fields 0, replica words naming each other); otherwise pass over". Request [6]: the same birth number
 unfoldable pub needsShell : Memory → ℕ → Bool
 needsShell M v = not (eqb (colour M v) white) && eqb (replica M v) null
 
 unfoldable pub shellOf : Memory → ℕ → List ℕ
-shellOf M v = newRecord (word M v shapeAt) white v (refs M v + plains M v)
+shellOf M v = newRecord (word M v shapeAt) white v (birthNumber M v) (refs M v + plains M v)
 
 unfoldable pub withShell : Memory → ℕ → ℕ → Memory
 withShell M other v = put (append M other (shellOf M v)) v replicaAt (nextReference M other)

@@ -35,6 +35,8 @@ pub record Store : Type 0 where
   pub phase : ℕ
   pub walk : Walk
   pub list : Grey
+  -- request [6]: how many birth numbers are used; every number is allowed, so test 4 doesn't look at it
+  pub births : ℕ
   pub globals : List ℕ
   pub sessions : List Session
 
@@ -49,6 +51,7 @@ withMemory s M =
       phase = s .phase;
       walk = s .walk;
       list = s .list;
+      births = s .births;
       globals = s .globals;
       sessions = s .sessions;
     }
@@ -62,6 +65,7 @@ withWalk s k i =
       phase = s .phase;
       walk = record { place = k; field = i };
       list = s .list;
+      births = s .births;
       globals = s .globals;
       sessions = s .sessions;
     }
@@ -75,6 +79,7 @@ withList s ws i j =
       phase = s .phase;
       walk = s .walk;
       list = record { words = ws; head = i; tail = j };
+      births = s .births;
       globals = s .globals;
       sessions = s .sessions;
     }
@@ -88,6 +93,7 @@ withGlobals s gs =
       phase = s .phase;
       walk = s .walk;
       list = s .list;
+      births = s .births;
       globals = gs;
       sessions = s .sessions;
     }
@@ -101,6 +107,7 @@ withSessions s xs =
       phase = s .phase;
       walk = s .walk;
       list = s .list;
+      births = s .births;
       globals = s .globals;
       sessions = xs;
     }
@@ -114,6 +121,21 @@ withCurrent s h =
       phase = s .phase;
       walk = s .walk;
       list = s .list;
+      births = s .births;
+      globals = s .globals;
+      sessions = s .sessions;
+    }
+
+abbrev pub withBirths : Store → ℕ → Store
+withBirths s n =
+    record {
+      lengths = s .lengths;
+      memory = s .memory;
+      current = s .current;
+      phase = s .phase;
+      walk = s .walk;
+      list = s .list;
+      births = n;
       globals = s .globals;
       sessions = s .sessions;
     }
@@ -160,7 +182,7 @@ mostLength = 1048576
 unfoldable pub halfAllowed : ℕ → Bool
 halfAllowed n = leb leastLength n && leb n mostLength
 
--- "a grey list of at least (half length divided by 3, rounded down) words"
+-- request [6]: "list length (one word per four of a half)", rounded down: as many records as a half can hold
 unfoldable pub listAllowed : ℕ → ℕ → Bool
 listAllowed n l = leb (n / header) l
 
@@ -195,6 +217,10 @@ inRange s =
     && leb (s .list .head) (s .list .tail) && leb (s .list .tail) (s .lengths .list)
     && levelsInRange (s .sessions)
 
+-- request [6]: "once 4,294,967,295 numbers are used"
+abbrev pub mostBirths : ℕ
+mostBirths = 4294967295
+
 -- ---- making
 
 -- nobody attached, every number 0
@@ -211,6 +237,7 @@ newStore n h0 h1 ws =
       phase = atRest;
       walk = record { place = 0; field = 0 };
       list = record { words = ws; head = 0; tail = 0 };
+      births = 0;
       globals = replicate globalCount null;
       sessions = replicate sessionCount nobody;
     }

@@ -1,4 +1,5 @@
--- Examples: the starred ones as one table. Each row has what the rules give and what document 01 says.
+-- Examples: the starred ones as one table. Each row has what the rules give and what document 01 says, with what request [6] changes of
+-- it ("list of 4 made, of 3: 3; the third record: 14; 12 and 4 words fit").
 use Prim.Native.Nat.{ℕ}
 use mathlib.Core.List.{List, [], _∷_, map}
 use lib.ListN.{replicate}
@@ -15,9 +16,9 @@ pub record Example : Type 0 where
 unfoldable pub makingOf : ℕ → ℕ → ℕ → ℕ
 makingOf h0 h1 l = refusalOf (making (record { half0 = h0; half1 = h1; list = l }))
 
--- a new store with halves of 16 words and a list of 5
+-- a new store with halves of 16 words and a list of 4
 unfoldable pub small : Store
-small = newStore (record { half0 = 16; half1 = 16; list = 5 }) (replicate 16 0) (replicate 16 0) (replicate 5 0)
+small = newStore (record { half0 = 16; half1 = 16; list = 4 }) (replicate 16 0) (replicate 16 0) (replicate 4 0)
 
 -- the refusal number of each reply, and the value of each
 abbrev pub replyNumber : Reply → ℕ
@@ -36,19 +37,19 @@ values cs = map replyValue (run small cs)
 
 unfoldable pub starred : List Example
 starred =
-    -- halves of 16, list of 5: made; list of 4: 3
-    record { given = makingOf 16 16 5 ∷ makingOf 16 16 4 ∷ []; expected = 0 ∷ 3 ∷ [] }
+    -- halves of 16, list of 4: made; list of 3: 3
+    record { given = makingOf 16 16 4 ∷ makingOf 16 16 3 ∷ []; expected = 0 ∷ 3 ∷ [] }
     -- halves of 15: 1
-    ∷ record { given = makingOf 15 15 5 ∷ []; expected = 1 ∷ [] }
+    ∷ record { given = makingOf 15 15 4 ∷ []; expected = 1 ∷ [] }
     -- halves 16 and 17: 2
-    ∷ record { given = makingOf 16 17 5 ∷ []; expected = 2 ∷ [] }
-    -- in 16 words three records with r = 1, p = 1 fit, the fourth: 14
+    ∷ record { given = makingOf 16 17 4 ∷ []; expected = 2 ∷ [] }
+    -- in 16 words two records with r = 1, p = 1 fit, the third: 14
     ∷ record {
-      given = numbers (Attach 0 ∷ Allocate 0 0 1 1 ∷ Allocate 0 1 1 1 ∷ Allocate 0 2 1 1 ∷ Allocate 0 3 1 1 ∷ []);
-      expected = 0 ∷ 0 ∷ 0 ∷ 0 ∷ 14 ∷ [];
+      given = numbers (Attach 0 ∷ Allocate 0 0 1 1 ∷ Allocate 0 1 1 1 ∷ Allocate 0 2 1 1 ∷ []);
+      expected = 0 ∷ 0 ∷ 0 ∷ 14 ∷ [];
     }
-    -- one of 13 words and one of 3 fit
-    ∷ record { given = numbers (Attach 0 ∷ Allocate 0 0 5 5 ∷ Allocate 0 1 0 0 ∷ []); expected = 0 ∷ 0 ∷ 0 ∷ [] }
+    -- one of 12 words and one of 4 fit
+    ∷ record { given = numbers (Attach 0 ∷ Allocate 0 0 4 4 ∷ Allocate 0 1 0 0 ∷ []); expected = 0 ∷ 0 ∷ 0 ∷ [] }
     -- r = 255 passes the shape test (and finds no room in 16 words), 256: 10
     ∷ record { given = numbers (Attach 0 ∷ Allocate 0 0 255 0 ∷ Allocate 0 0 256 0 ∷ []); expected = 0 ∷ 14 ∷ 10 ∷ [] }
     -- session 16: 5

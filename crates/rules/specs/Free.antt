@@ -8,8 +8,8 @@ use lib.ListN.{getD, set, length, replicate}
 use Rattle.rules.specs.Refusals.{Tested, passed, check, _>>=_, _>>_, Outcome, Reply, answer, words, settle, wordsOr, doneOr, done, answered}
 use Rattle.rules.specs.Memory.{null}
 use Rattle.rules.specs.Control.{globalCount, sessionCount, registerCount, lastSession}
-use Rattle.rules.specs.Calls.{isRegister, isGlobal, isShape}
-use Rattle.rules.specs.Runs.{Call, Attach, Detach, SafePoint, Allocate, Load, StoreRef, Read, Write, Move, Clear, SameAs, Get, Put, Stretch, Companion, Step, isAllocation, Fed, fitted, noRoom}
+use Rattle.rules.specs.Calls.{isRegister, isGlobal, isShape, numberLeft}
+use Rattle.rules.specs.Runs.{Call, Attach, Detach, SafePoint, Allocate, Load, StoreRef, Read, Write, Move, Clear, SameAs, Get, Put, Stretch, Companion, Birth, Step, isAllocation, Fed, fitted, noRoom}
 use Rattle.rules.specs.declared.Answer.the-variants.{Done, Word, Same}
 
 -- ---- what it keeps
@@ -102,7 +102,8 @@ freeDetach f n = do
   x ← freeSessionOf f n
   done (withFreeSession f n freeNobody)
 
--- "Allocate answers 14 where that was fed, changing nothing; else it appends a record of r nulls and p zeros and puts its place in the register"
+-- "Allocate answers 14 where that was fed, changing nothing; else it appends a record of r nulls and p zeros and puts its place in the register".
+-- Request [6]: "16, after 14, refuses allocation once 4,294,967,295 numbers are used, there too"
 abbrev pub fedRoom : Fed → Bool
 fedRoom fitted = true
 fedRoom noRoom = false
@@ -113,6 +114,7 @@ freeAllocate f n k r p fed = do
   check (isRegister k) 8
   check (isShape r p) 10
   check (fedRoom fed) 14
+  check (numberLeft (length (f .records))) 16
   done (withFreeRegister
       (record {
         sessions = f .sessions;
@@ -144,6 +146,14 @@ freeRead f n k i = do
   q ← freeRecordIn x k
   check (ltb i (length (recordAt f q .plains))) 13
   answered f (Word (getD (recordAt f q .plains) i 0))
+
+-- request [6]: "in the collector-free store a record's number is its place in the list"
+unfoldable pub freeBirth : Free → ℕ → ℕ → Tested (Outcome Free)
+freeBirth f n k = do
+  x ← freeSessionOf f n
+  check (isRegister k) 8
+  q ← freeRecordIn x k
+  answered f (Word q)
 
 unfoldable pub freeWrite : Free → ℕ → ℕ → ℕ → ℕ → Tested (Outcome Free)
 freeWrite f n k i a = do
@@ -213,6 +223,7 @@ freeApply f (Get n to g) fed = settle f (freeGet f n to g)
 freeApply f (Put n g from) fed = settle f (freePut f n g from)
 freeApply f (Stretch n k) fed = record { store = f; reply = words (wordsOr (freeStretch f n k)) }
 freeApply f (Companion n k) fed = record { store = f; reply = answer (doneOr (freeStretch f n k)) }
+freeApply f (Birth n k) fed = settle f (freeBirth f n k)
 freeApply f Step fed = record { store = f; reply = answer Done }
 
 -- what is fed next, and what is fed after it

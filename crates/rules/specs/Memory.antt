@@ -65,9 +65,10 @@ inHalf h v = leb 2 v && eqb (halfOf v) h
 
 -- ---- records
 
--- the words of a record before its fields: word 0 the shape, word 1 the colour, word 2 the replica
+-- the words of a record before its fields: word 0 the shape, word 1 the colour, word 2 the replica; request [6]: "A fourth header word
+-- holds its birth number"
 abbrev pub header : ℕ
-header = 3
+header = 4
 
 -- the most fields of one kind: "each 0 to 255"
 abbrev pub mostCount : ℕ
@@ -101,9 +102,9 @@ grey = 1
 abbrev pub black : ℕ
 black = 2
 
--- the words of a new record: word 0, colour, replica, and n zero fields
-unfoldable pub newRecord : ℕ → ℕ → ℕ → ℕ → List ℕ
-newRecord w c v n = w ∷ c ∷ v ∷ replicate n 0
+-- the words of a new record: word 0, colour, replica, birth number, and n zero fields
+unfoldable pub newRecord : ℕ → ℕ → ℕ → ℕ → ℕ → List ℕ
+newRecord w c v b n = w ∷ c ∷ v ∷ b ∷ replicate n 0
 
 -- word j of the record that v names
 unfoldable pub word : Memory → ℕ → ℕ → ℕ
@@ -122,12 +123,18 @@ colourAt = 1
 abbrev pub replicaAt : ℕ
 replicaAt = 2
 
+abbrev pub birthAt : ℕ
+birthAt = 3
+
 unfoldable pub colour : Memory → ℕ → ℕ
 colour M v = word M v colourAt
 
 -- "the reference of its replica in the other half, or 0"
 unfoldable pub replica : Memory → ℕ → ℕ
 replica M v = word M v replicaAt
+
+unfoldable pub birthNumber : Memory → ℕ → ℕ
+birthNumber M v = word M v birthAt
 
 unfoldable pub refs : Memory → ℕ → ℕ
 refs M v = refsOf (word M v shapeAt)

@@ -85,6 +85,7 @@ moveOn s =
       phase = nextPhase (s .phase);
       walk = record { place = 0; field = 0 };
       list = s .list;
+      births = s .births;
       globals = s .globals;
       sessions = unmarked (s .sessions);
     }

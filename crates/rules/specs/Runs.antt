@@ -11,7 +11,7 @@ use Rattle.rules.specs.Calls as calls
 use Rattle.rules.specs.Collector as collector
 use Rattle.rules.specs.declared.Answer.the-variants.{Refused, Done, Word, Same, Phase}
 
--- the calls, with their arguments in the script's order; the stretch and its companion are in no script
+-- the calls, with their arguments in the script's order; the stretch, its companion and the birth number are in no script
 pub data Call : Type 0 where
   Attach : ℕ → Call
   Detach : ℕ → Call
@@ -28,6 +28,7 @@ pub data Call : Type 0 where
   Put : ℕ → ℕ → ℕ → Call
   Stretch : ℕ → ℕ → Call
   Companion : ℕ → ℕ → Call
+  Birth : ℕ → ℕ → Call
   Step : Call
 
 -- what a call leaves
@@ -47,6 +48,7 @@ apply s (Get n to g) = settle s (calls.get s n to g)
 apply s (Put n g from) = settle s (calls.put s n g from)
 apply s (Stretch n k) = record { store = s; reply = words (wordsOr (calls.stretch s n k)) }
 apply s (Companion n k) = record { store = s; reply = answer (doneOr (calls.stretch s n k)) }
+apply s (Birth n k) = settle s (calls.birth s n k)
 apply s Step = settle s (collector.step s)
 
 -- "Each call gets the control record last handed back, and halves and list as they were left": the replies in order
@@ -78,6 +80,7 @@ isSession (Get n to g) = true
 isSession (Put n g from) = true
 isSession (Stretch n k) = true
 isSession (Companion n k) = true
+isSession (Birth n k) = true
 isSession Step = false
 
 abbrev pub isAllocation : Call → Bool
@@ -96,6 +99,7 @@ isAllocation (Get n to g) = false
 isAllocation (Put n g from) = false
 isAllocation (Stretch n k) = false
 isAllocation (Companion n k) = false
+isAllocation (Birth n k) = false
 isAllocation Step = false
 
 abbrev pub sessionCalls : List Call → List Call
@@ -108,7 +112,7 @@ sessionRun s [] = []
 sessionRun s (c ∷ cs) =
     cond (isSession c) (apply s c .reply ∷ sessionRun (apply s c .store) cs) (sessionRun (apply s c .store) cs)
 
--- what the collector-free store is fed for an allocation: whether the run answered it with 14
+-- what the collector-free store is fed for an allocation: whether the run answered it with 14. Nothing is fed for 16, which it tests itself
 pub data Fed : Type 0 where
   fitted : Fed
   noRoom : Fed
@@ -145,6 +149,7 @@ isStep (Get n to g) = false
 isStep (Put n g from) = false
 isStep (Stretch n k) = false
 isStep (Companion n k) = false
+isStep (Birth n k) = false
 isStep Step = true
 
 -- how many of the calls are collector steps

@@ -9,7 +9,7 @@ use lib.Dec.{leb, eqb}
 use lib.ListN.{length}
 use borrow.Author.Tests.{eq-eqb, ne-eqb, eqb-true, not-true, le-leb, lt-ltb, le-ltb}
 use Rattle.rules.specs.Refusals.{passed, check, _>>_}
-use Rattle.rules.specs.Memory.{Memory, half, frontier, null, shapeAt, replicaAt, white, word, put, colour, replica, refs, plains, size, append, nextReference, followed}
+use Rattle.rules.specs.Memory.{Memory, half, frontier, null, shapeAt, replicaAt, white, word, put, colour, replica, birthNumber, refs, plains, size, append, nextReference, followed}
 use Rattle.rules.specs.Control.{Store, withMemory}
 use Rattle.rules.specs.Cycle.{stage}
 use Rattle.rules.specs.Phases.{otherHalf}
@@ -89,7 +89,7 @@ module _ {K : ℕ → Type 0} {m : ℕ → ℕ} {s : Store} {f : Free} (h : Sim 
     abbrev M₂ : Memory
     M₂ = put M₁ v replicaAt (nextReference M other)
 
-    shell-one : Appended M M₁ other (word M v shapeAt) white v (refs M v + plains M v)
+    shell-one : Appended M M₁ other (word M v shapeAt) white v (birthNumber M v) (refs M v + plains M v)
     shell-one = shell-kept (h .filled) (t .start) (other-below-2 cur) (room-for t alone)
 
     shell-more : PutKept M₁ M₂ v replicaAt (nextReference M other)

@@ -8,10 +8,10 @@ use native.Mathlib.Omega.{arith}
 use lib.ListN.{length}
 use borrow.Author.Tests.{leb-true, le-leb, lt-leb}
 use Rattle.rules.specs.Memory.{Memory, half, frontier, null, shapeWord, sizeOf, white, black, nextReference, mostCount}
-use Rattle.rules.specs.Control.{Store, withMemory}
+use Rattle.rules.specs.Control.{Store, withMemory, withBirths}
 use Rattle.rules.specs.Cycle.{stage}
 use Rattle.rules.specs.Phases.{otherHalf, fromspace, tospace}
-use Rattle.rules.specs.Barriers.{roomIn, allocationRoom, placed, allocated, allocatedReference}
+use Rattle.rules.specs.Barriers.{roomIn, allocationRoom, nextBirth, placed, allocated, allocatedReference}
 use Rattle.rules.specs.Free.{Free}
 use Rattle.rules.specs.declared.Session.{Session}
 use Rattle.rules.proofs.Ranges.{both}
@@ -57,9 +57,13 @@ black-tint st a b = record {
 
 -- ---- M′ has the new record, and v is its reference
 pub record Allocation (K : ℕ → Type 0) (m : ℕ → ℕ) (s : Store) (f : Free) (r p : ℕ) (M′ : Memory) (v : ℕ) : Type 0 where
-  pub sim : Sim K (tracked (suc (length (f .records))) m (s .memory) M′) (withMemory s M′) (withRecords f (f .records ++ blankRecord r p ∷ []))
-  pub fits : (y : Session) → WordFits K (tracked (suc (length (f .records))) m (s .memory) M′) (withMemory s M′) y v (suc (length (f .records)))
-  pub grows : Grows s (withMemory s M′)
+  pub sim : Sim K (tracked (suc (length (f .records))) m (s .memory) M′) (withBirths (withMemory s M′) (nextBirth s)) (withRecords f (f .records ++ blankRecord r p ∷ []))
+  pub fits : (y : Session) → WordFits K (tracked (suc (length (f .records))) m (s .memory) M′) (withBirths (withMemory s M′) (nextBirth s)) y v (suc (length (f .records)))
+  pub grows : Grows s (withBirths (withMemory s M′) (nextBirth s))
+
+-- the count of birth numbers is no part of it
+counted-grows : {s t : Store} {n : ℕ} → Grows s t → Grows s (withBirths t n)
+counted-grows k = record { phase = k .phase; front = k .front; blacks = k .blacks; others = k .others }
 
 room-known : (M : Memory) (h r p : ℕ) → roomIn M h r p ≡ true → frontier M h + sizeOf r p ≤ length (half M h)
 unfolding roomIn
@@ -79,10 +83,10 @@ module _ {K : ℕ → Type 0} {m : ℕ → ℕ} {s : Store} {f : Free} (h : Sim 
   unfolding allocationRoom
   room-one i = room-known M (s .current) r p (rw (le-leb l 2 i) at room)
 
-  one-half : (c : ℕ) → l ≤ 2 → Tint (stage (s .phase)) c → Allocation K m s f r p (placed M (s .current) r p c null) (nextReference M (s .current))
+  one-half : (c : ℕ) → l ≤ 2 → Tint (stage (s .phase)) c → Allocation K m s f r p (placed M (s .current) r p c null (nextBirth s)) (nextReference M (s .current))
   one-half c i t =
-      let k = placed-kept (placeable (h .filled) (cur-two h) (t .small) (room-one i)) null in
-      record { sim = single-sim h r p pb t k; fits = single-fits h r p pb t k; grows = appended-grows (cur-two h) k }
+      let k = placed-kept (placeable (h .filled) (cur-two h) (t .small) (room-one i)) null (nextBirth s) in
+      record { sim = single-sim h r p pb t k; fits = single-fits h r p pb t k; grows = counted-grows (appended-grows (cur-two h) k) }
 
   -- ---- both halves
   room-both : 3 ≤ l → (g : ℕ) → g < 2 → frontier M g + sizeOf r p ≤ length (half M g)
@@ -105,21 +109,21 @@ module _ {K : ℕ → Type 0} {m : ℕ → ℕ} {s : Store} {f : Free} (h : Sim 
     from = fromspace s
 
     abbrev M₁ : Memory
-    M₁ = placed M from r p black (nextReference M (otherHalf from))
+    M₁ = placed M from r p black (nextReference M (otherHalf from)) (nextBirth s)
 
     abbrev M₂ : Memory
-    M₂ = placed M₁ (otherHalf from) r p white (nextReference M from)
+    M₂ = placed M₁ (otherHalf from) r p white (nextReference M from) (nextBirth s)
 
-    first : Appended M M₁ from (shapeWord r p) black (nextReference M (otherHalf from)) (r + p)
-    first = placed-kept (placeable (h .filled) (sides late .two) (omega arith) (room-both i from (sides late .two))) (nextReference M (otherHalf from))
+    first : Appended M M₁ from (shapeWord r p) black (nextReference M (otherHalf from)) (nextBirth s) (r + p)
+    first = placed-kept (placeable (h .filled) (sides late .two) (omega arith) (room-both i from (sides late .two))) (nextReference M (otherHalf from)) (nextBirth s)
 
-    second : Appended M₁ M₂ (otherHalf from) (shapeWord r p) white (nextReference M from) (r + p)
+    second : Appended M₁ M₂ (otherHalf from) (shapeWord r p) white (nextReference M from) (nextBirth s) (r + p)
     second =
         let e = first .front-other (otherHalf from) (other-below-2 from) (other-differs from (sides late .two)) in
-        placed-kept (placeable (first .filled) (other-below-2 from) (omega arith) (rw (e, first .lengths (otherHalf from)) (room-both i (otherHalf from) (other-below-2 from)))) (nextReference M from)
+        placed-kept (placeable (first .filled) (other-below-2 from) (omega arith) (rw (e, first .lengths (otherHalf from)) (room-both i (otherHalf from) (other-below-2 from)))) (nextReference M from) (nextBirth s)
 
-    both-grow : Grows s (withMemory s M₂)
-    both-grow = grows-then (appended-grows (cur-two h) first) (appended-grows {s = withMemory s M₁} (cur-two h) second)
+    both-grow : Grows s (withBirths (withMemory s M₂) (nextBirth s))
+    both-grow = counted-grows (grows-then (appended-grows (cur-two h) first) (appended-grows {s = withMemory s M₁} (cur-two h) second))
 
     both-from : stage (s .phase) ≤ stPreFlip2 → Allocation K m s f r p M₂ (nextReference M from)
     both-from hi = record { sim = double-sim h r p pb (sides late) first second; fits = from-fits h r p pb (sides late) first second hi; grows = both-grow }

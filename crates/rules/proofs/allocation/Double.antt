@@ -6,10 +6,11 @@ use mathlib.Core.List.{List, [], _∷_, _++_}
 use native.Mathlib.Nat.{le-refl}
 use native.Mathlib.Omega.{arith}
 use lib.ListN.{length, length-replicate}
-use Rattle.rules.specs.Memory.{Memory, frontier, null, halfOf, header, shapeWord, white, black, colour, replica, refs, plains, nextReference, mostCount}
-use Rattle.rules.specs.Control.{Store, withMemory}
+use Rattle.rules.specs.Memory.{Memory, frontier, null, halfOf, header, shapeWord, white, black, colour, replica, birthNumber, refs, plains, nextReference, mostCount}
+use Rattle.rules.specs.Control.{Store, withMemory, withBirths}
 use Rattle.rules.specs.Cycle.{stage}
 use Rattle.rules.specs.Phases.{otherHalf}
+use Rattle.rules.specs.Barriers.{nextBirth}
 use Rattle.rules.specs.Free.{Free, Record}
 use Rattle.rules.specs.declared.Session.{Session}
 use Rattle.rules.proofs.memory.Cases.{either}
@@ -27,10 +28,10 @@ use Rattle.rules.proofs.invariant.Laws.{cur-two}
 use Rattle.rules.proofs.invariant.Counted.{copied-same, copied-size}
 use Rattle.rules.proofs.relation.Tracks.{tracked, tracked-none, tracked-old, tracked-new}
 use Rattle.rules.proofs.sessions.Session.{WordFits}
-use Rattle.rules.proofs.allocation.Grown.{Grown, append-grown, both-grown, grown-colour, grown-size, grown-refs, grown-plains}
+use Rattle.rules.proofs.allocation.Grown.{Grown, append-grown, both-grown, grown-birth, grown-colour, grown-size, grown-refs, grown-plains}
 use Rattle.rules.proofs.allocation.Growth.{Placed, Joined, Tinted}
 use Rattle.rules.proofs.allocation.GrowSim.{grown-sim}
-use Rattle.rules.proofs.allocation.FreeRecords.{withRecords, blankRecord, longer-by, new-place, new-high}
+use Rattle.rules.proofs.allocation.FreeRecords.{withRecords, blankRecord, longer-by, new-place, new-length}
 
 -- where fromspace is: the current half but in Reclaim
 pub record Sides (cur st from : ℕ) : Type 0 where
@@ -42,8 +43,8 @@ pub record Sides (cur st from : ℕ) : Type 0 where
 -- the two records, one after the other: M₁ has the first, M₂ both
 module _ {K : ℕ → Type 0} {m : ℕ → ℕ} {s : Store} {f : Free} (h : Sim K m s f) {M₁ M₂ : Memory} {from : ℕ} (r p : ℕ) (pb : p ≤ mostCount)
     (sides : Sides (s .current) (stage (s .phase)) from)
-    (one : Appended (s .memory) M₁ from (shapeWord r p) black (nextReference (s .memory) (otherHalf from)) (r + p))
-    (more : Appended M₁ M₂ (otherHalf from) (shapeWord r p) white (nextReference (s .memory) from) (r + p)) where
+    (one : Appended (s .memory) M₁ from (shapeWord r p) black (nextReference (s .memory) (otherHalf from)) (nextBirth s) (r + p))
+    (more : Appended M₁ M₂ (otherHalf from) (shapeWord r p) white (nextReference (s .memory) from) (nextBirth s) (r + p)) where
   abbrev M : Memory
   M = s .memory
 
@@ -127,6 +128,11 @@ module _ {K : ℕ → Type 0} {m : ℕ → ℕ} {s : Store} {f : Free} (h : Sim 
   replica-b : replica M₂ b ≡ a
   replica-b = ap (replica M₂) (sym next-b) ∙ more .new-replica
 
+  birth-both : {u : ℕ} → New u → birthNumber M₂ u ≡ nextBirth s
+  birth-both n = which n
+      (λ e. rw e (grown-birth later (one .made) ∙ one .new-birth))
+      (λ e. rw (e, ← next-b) (more .new-birth))
+
   refs-both : {u : ℕ} → New u → refs M₂ u ≡ r
   refs-both n = which n
       (λ e. rw e (grown-refs later (one .made) ∙ one .new-refs ∙ refs-shape r p pb))
@@ -155,7 +161,8 @@ module _ {K : ℕ → Type 0} {m : ℕ → ℕ} {s : Store} {f : Free} (h : Sim 
         (λ e. rw e (tracked-new (suc (length rs)) m M M₂ from (sides .two) (omega (arith, front-from))))
         (λ e. rw e (tracked-new (suc (length rs)) m M M₂ to to-two (omega (arith, front-to))));
     low = omega arith;
-    high = new-high rs (blankRecord r p);
+    high = omega (arith, new-length rs (blankRecord r p));
+    born = λ n. birth-both n ∙ ap suc (h .births);
     nrefs = λ n. rw (new-place rs (blankRecord r p), refs-both n) (length-replicate r null);
     nplains = λ n. rw (new-place rs (blankRecord r p), plains-both n) (length-replicate {A = ℕ} p 0);
     apart = λ {u} {v} n t side e. let z = h .identity .high v t in omega arith;
@@ -235,11 +242,11 @@ module _ {K : ℕ → Type 0} {m : ℕ → ℕ} {s : Store} {f : Free} (h : Sim 
     room = λ l l′. absurd (omega (arith, sides .late));
   }
 
-  pub double-sim : Sim K m′ (withMemory s M₂) (withRecords f rs′)
-  double-sim = grown-sim h grown (longer-by rs r p) placing joining tinting
+  pub double-sim : Sim K m′ (withBirths (withMemory s M₂) (nextBirth s)) (withRecords f rs′)
+  double-sim = grown-sim h grown (longer-by rs r p) placing joining tinting (nextBirth s) (ap suc (h .births) ∙ new-length rs (blankRecord r p))
 
   -- up to level 5 the fromspace reference may be put in a register, at level 6 the tospace one
-  pub from-fits : stage (s .phase) ≤ stPreFlip2 → (y : Session) → WordFits K m′ (withMemory s M₂) y a (suc (length rs))
+  pub from-fits : stage (s .phase) ≤ stPreFlip2 → (y : Session) → WordFits K m′ (withBirths (withMemory s M₂) (nextBirth s)) y a (suc (length rs))
   from-fits l y = record {
     ok = ok-start start-a;
     is = sym (placing .new new-a);
@@ -250,7 +257,7 @@ module _ {K : ℕ → Type 0} {m : ℕ → ℕ} {s : Store} {f : Free} (h : Sim 
     kept = λ z. h .kept .to-come (suc (length rs)) (le-refl _);
   }
 
-  pub to-fits : stPreFlip2 ≤ stage (s .phase) → (y : Session) → WordFits K m′ (withMemory s M₂) y b (suc (length rs))
+  pub to-fits : stPreFlip2 ≤ stage (s .phase) → (y : Session) → WordFits K m′ (withBirths (withMemory s M₂) (nextBirth s)) y b (suc (length rs))
   to-fits l y = record {
     ok = ok-start start-b;
     is = sym (placing .new new-b);

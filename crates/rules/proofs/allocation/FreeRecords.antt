@@ -43,5 +43,5 @@ longer-not rs = record { more = le-refl _; old = λ k l b. refl; refs = λ k i. 
 pub new-place : (rs : List Record) (x : Record) → recOf (rs ++ x ∷ []) (suc (length rs)) ≡ x
 new-place rs x = let e : suc (length rs) - 1 ≡ length rs = omega arith in rw e (getD-append-seam rs x [] noRecord)
 
-pub new-high : (rs : List Record) (x : Record) → suc (length rs) ≤ length (rs ++ x ∷ [])
-new-high rs x = omega (arith, length-append rs (x ∷ []))
+pub new-length : (rs : List Record) (x : Record) → suc (length rs) ≡ length (rs ++ x ∷ [])
+new-length rs x = omega (arith, length-append rs (x ∷ []))

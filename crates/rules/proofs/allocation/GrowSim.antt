@@ -1,13 +1,15 @@
--- New records keep the invariant, where they meet what it asks of them.
+-- New records keep the invariant, where they meet what it asks of them and the birth numbers used are counted.
 use Prim.Native.Nat.{ℕ}
+use mathlib.Core.Path.{_≡_}
 use mathlib.Core.List.{List}
+use lib.ListN.{length}
 use Rattle.rules.specs.Memory.{Memory}
-use Rattle.rules.specs.Control.{Store, withMemory}
+use Rattle.rules.specs.Control.{Store, withMemory, withBirths}
 use Rattle.rules.specs.Cycle.{stage}
 use Rattle.rules.specs.Free.{Free, Record}
 use Rattle.rules.proofs.invariant.Sim.{Sim}
 use Rattle.rules.proofs.invariant.Laws.{cur-two}
-use Rattle.rules.proofs.invariant.Range.{range-memory}
+use Rattle.rules.proofs.invariant.Range.{range-memory, range-births}
 use Rattle.rules.proofs.allocation.Grown.{Grown}
 use Rattle.rules.proofs.allocation.Growth.{Longer, Placed, Joined, Tinted}
 use Rattle.rules.proofs.allocation.GrowValues.{grown-identity, grown-values, grown-roots, grown-field-halves}
@@ -20,10 +22,11 @@ module _ {K : ℕ → Type 0} {m m′ : ℕ → ℕ} {s : Store} {f : Free} {M�
       → Placed (s .memory) M′ New m m′ (s .current) q (f .records) rs′
       → Joined (s .memory) M′ New Re m′ (s .current) (stage (s .phase))
       → Tinted (s .memory) M′ New (s .current) (stage (s .phase))
-      → Sim K m′ (withMemory s M′) (withRecords f rs′)
-  grown-sim h g l p j c = record {
-    range = range-memory (h .range) (g .filled) (g .lengths);
+      → (n : ℕ) → n ≡ length rs′ → Sim K m′ (withBirths (withMemory s M′) n) (withRecords f rs′)
+  grown-sim h g l p j c n e = record {
+    range = range-births (range-memory (h .range) (g .filled) (g .lengths)) n;
     filled = g .filled;
+    births = e;
     identity = grown-identity g l p (h .identity);
     values = grown-values g l p (h .identity .null-place) (h .values);
     roots = grown-roots g l p (h .roots);

@@ -11,7 +11,7 @@ use Rattle.rules.proofs.memory.Cases.{either}
 use Rattle.rules.proofs.invariant.Words.{In, Ok, ok-null, ok-start, Names, field, recOf}
 use Rattle.rules.proofs.invariant.Groups.{Identity, Values, Roots, FieldHalves}
 use Rattle.rules.proofs.invariant.Carried.{roots-carried}
-use Rattle.rules.proofs.allocation.Grown.{Grown, grown-refs, grown-plains, grown-field, grown-plain, new-ref, new-plain, grown-ok, old-or-new}
+use Rattle.rules.proofs.allocation.Grown.{Grown, grown-birth, grown-refs, grown-plains, grown-field, grown-plain, new-ref, new-plain, grown-ok, old-or-new}
 use Rattle.rules.proofs.allocation.Growth.{Longer, Placed}
 
 -- a place past the last has no record
@@ -25,6 +25,7 @@ module _ {M M′ : Memory} {New Re : ℕ → Type 0} (g : Grown M M′ New Re)
     null-place = p .none ∙ i .null-place;
     low = λ v t. either (g .split t) (λ o. rw (p .old o) (i .low v o)) (λ n. rw (p .new n) (p .low));
     high = λ v t. either (g .split t) (λ o. rw (p .old o) (omega (arith, i .high v o, l .more))) (λ n. rw (p .new n) (p .high));
+    born = λ v t. either (g .split t) (λ o. rw (p .old o) (grown-birth g o ∙ i .born v o)) (λ n. rw (p .new n) (p .born n));
     nrefs = λ v t. either (g .split t)
         (λ o. rw (p .old o, l .old (m v) (i .low v o) (i .high v o), grown-refs g o) (i .nrefs v o))
         (λ n. rw (p .new n) (p .nrefs n));

@@ -5,7 +5,7 @@ use mathlib.Core.Logic.{_≢_, _⊎_, inl, inr}
 use native.Mathlib.Nat.{le-refl}
 use native.Mathlib.Omega.{arith}
 use lib.ListN.{length}
-use Rattle.rules.specs.Memory.{Memory, half, frontier, halfOf, wordOf, header, shapeAt, replicaAt, word, colour, replica, refs, plains, size, nextReference, colourAt}
+use Rattle.rules.specs.Memory.{Memory, half, frontier, halfOf, wordOf, header, shapeAt, replicaAt, word, colour, replica, birthNumber, refs, plains, size, nextReference, colourAt, birthAt}
 use Rattle.rules.proofs.memory.Cases.{eq-or, either}
 use Rattle.rules.proofs.memory.Encoding.{half-below-2}
 use Rattle.rules.proofs.memory.Records.{Start, Filled, refs-same, plains-same, size-same, size-least, size-fields, ref-inside, plain-inside}
@@ -49,6 +49,10 @@ module _ {M M′ : Memory} {New Re : ℕ → Type 0} (g : Grown M M′ New Re) w
   unfolding colour
   grown-colour {u} t = g .same t colourAt (omega (arith, size-least M u)) (omega arith)
 
+  pub grown-birth : {u : ℕ} → Start M u → birthNumber M′ u ≡ birthNumber M u
+  unfolding birthNumber
+  grown-birth {u} t = g .same t birthAt (omega (arith, size-least M u)) (omega arith)
+
   pub grown-field : {u : ℕ} → Start M u → (i : ℕ) → i < refs M u → field M′ u i ≡ field M u i
   grown-field {u} t i l = g .same t (header + i) (ref-inside M u i l) (omega arith)
 
@@ -74,9 +78,9 @@ module _ {M M′ : Memory} {New Re : ℕ → Type 0} (g : Grown M M′ New Re) w
   old-or-new t f k = either (g .split (t .start)) (λ o. f (record { start = o; side = t .side })) (λ n. k n (t .side))
 
 -- ---- one record at a frontier
-pub append-grown : {M M′ : Memory} {h w c v n : ℕ} → Appended M M′ h w c v n → Grown M M′ (λ u. u ≡ nextReference M h) (λ u. ⊥)
+pub append-grown : {M M′ : Memory} {h w c v b n : ℕ} → Appended M M′ h w c v b n → Grown M M′ (λ u. u ≡ nextReference M h) (λ u. ⊥)
 unfolding replica
-append-grown {M} {M′} {h} {w} {c} {v} {n} a = record {
+append-grown {M} {M′} {h} {n = n} a = record {
   to = a .to;
   split = a .split;
   made = λ e. rw e (a .made);

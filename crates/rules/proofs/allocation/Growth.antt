@@ -4,7 +4,7 @@ use mathlib.Core.Path.{_≡_}
 use mathlib.Core.Logic.{_≢_}
 use mathlib.Core.List.{List}
 use lib.ListN.{getD, length}
-use Rattle.rules.specs.Memory.{Memory, null, frontier, halfOf, white, grey, black, colour, replica, refs, plains}
+use Rattle.rules.specs.Memory.{Memory, null, frontier, halfOf, white, grey, black, colour, replica, birthNumber, refs, plains}
 use Rattle.rules.specs.Phases.{otherHalf}
 use Rattle.rules.specs.Free.{Record}
 use Rattle.rules.proofs.memory.Records.{Start}
@@ -20,13 +20,14 @@ pub record Longer (rs rs′ : List Record) : Type 0 where
   pub refs : (p i : ℕ) → getD (recOf rs′ p .refs) i null ≡ getD (recOf rs p .refs) i null
   pub plains : (p i : ℕ) → getD (recOf rs′ p .plains) i 0 ≡ getD (recOf rs p .plains) i 0
 
--- the tracked place: new records have the place q
+-- the tracked place: new records have the place q, which is their birth number
 pub record Placed (M M′ : Memory) (New : ℕ → Type 0) (m m′ : ℕ → ℕ) (cur q : ℕ) (rs rs′ : List Record) : Type 0 where
   pub none : m′ null ≡ m null
   pub old : {u : ℕ} → Start M u → m′ u ≡ m u
   pub new : {u : ℕ} → New u → m′ u ≡ q
   pub low : 0 < q
   pub high : q ≤ length rs′
+  pub born : {u : ℕ} → New u → birthNumber M′ u ≡ q
   pub nrefs : {u : ℕ} → New u → length (recOf rs′ q .refs) ≡ refs M′ u
   pub nplains : {u : ℕ} → New u → length (recOf rs′ q .plains) ≡ plains M′ u
   pub apart : {u v : ℕ} → New u → Start M v → halfOf v ≡ halfOf u → m v ≢ q

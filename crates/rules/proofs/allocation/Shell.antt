@@ -4,7 +4,7 @@ use mathlib.Core.Path.{_≡_, refl, sym, _∙_}
 use mathlib.Core.Logic.{_≢_, _⊎_, inl}
 use mathlib.Core.List.{List}
 use native.Mathlib.Omega.{arith}
-use Rattle.rules.specs.Memory.{Memory, frontier, null, halfOf, shapeAt, replicaAt, white, word, colour, replica, refs, plains, size, nextReference}
+use Rattle.rules.specs.Memory.{Memory, frontier, null, halfOf, shapeAt, replicaAt, white, word, colour, replica, birthNumber, refs, plains, size, nextReference}
 use Rattle.rules.specs.Control.{Store, withMemory}
 use Rattle.rules.specs.Cycle.{stage}
 use Rattle.rules.specs.Phases.{otherHalf}
@@ -24,7 +24,7 @@ use Rattle.rules.proofs.invariant.Laws.{cur-two}
 use Rattle.rules.proofs.invariant.Originals.{original, original-in}
 use Rattle.rules.proofs.invariant.Counted.{copied-same, copied-none, copied-size}
 use Rattle.rules.proofs.relation.Tracks.{tracked, tracked-none, tracked-old, tracked-new}
-use Rattle.rules.proofs.allocation.Grown.{Grown, append-grown, replica-grown, both-grown, grown-colour, grown-size}
+use Rattle.rules.proofs.allocation.Grown.{Grown, append-grown, replica-grown, both-grown, grown-birth, grown-colour, grown-size}
 use Rattle.rules.proofs.allocation.Growth.{Placed, Joined, Tinted}
 use Rattle.rules.proofs.allocation.GrowSim.{grown-sim}
 use Rattle.rules.proofs.allocation.FreeRecords.{longer-not}
@@ -32,7 +32,7 @@ use Rattle.rules.proofs.allocation.FreeRecords.{longer-not}
 -- M₁ has the shell, M₂ also the replica word that names it
 module _ {K : ℕ → Type 0} {m : ℕ → ℕ} {s : Store} {f : Free} (h : Sim K m s f) {M₁ M₂ : Memory} {v : ℕ} (at-allocate : stage (s .phase) ≡ stAllocate)
     (this : In (s .memory) (s .current) v) (marked : colour (s .memory) v ≢ white) (alone : replica (s .memory) v ≡ null)
-    (one : Appended (s .memory) M₁ (otherHalf (s .current)) (word (s .memory) v shapeAt) white v (refs (s .memory) v + plains (s .memory) v))
+    (one : Appended (s .memory) M₁ (otherHalf (s .current)) (word (s .memory) v shapeAt) white v (birthNumber (s .memory) v) (refs (s .memory) v + plains (s .memory) v))
     (more : PutKept M₁ M₂ v replicaAt (nextReference (s .memory) (otherHalf (s .current)))) where
   abbrev M : Memory
   M = s .memory
@@ -100,6 +100,9 @@ module _ {K : ℕ → Type 0} {m : ℕ → ℕ} {s : Store} {f : Free} (h : Sim 
   unfolding replica
   replica-v = more .new
 
+  birth-y : birthNumber M₂ y ≡ birthNumber M v
+  birth-y = grown-birth later (one .made) ∙ one .new-birth
+
   refs-y : refs M₂ y ≡ refs M v
   unfolding refs
   refs-y = more .same-refs (one .made) ∙ one .new-refs
@@ -126,6 +129,7 @@ module _ {K : ℕ → Type 0} {m : ℕ → ℕ} {s : Store} {f : Free} (h : Sim 
     new = λ n. rw (is-y n) (tracked-new (m v) m M M₂ other other-two (omega (arith, front-other, size-least M v)));
     low = h .identity .low v (this .start);
     high = h .identity .high v (this .start);
+    born = λ n. rw (is-y n) (birth-y ∙ h .identity .born v (this .start));
     nrefs = λ n. rw (is-y n, refs-y) (h .identity .nrefs v (this .start));
     nplains = λ n. rw (is-y n, plains-y) (h .identity .nplains v (this .start));
     apart = λ n t side. unpaired t (side ∙ rw (is-y n) half-y);
@@ -192,7 +196,7 @@ module _ {K : ℕ → Type 0} {m : ℕ → ℕ} {s : Store} {f : Free} (h : Sim 
   }
 
   pub shell-sim : Sim K (tracked (m v) m (s .memory) M₂) (withMemory s M₂) f
-  shell-sim = grown-sim h grown (longer-not rs) placing joining tinting
+  shell-sim = grown-sim h grown (longer-not rs) placing joining tinting (s .births) (h .births)
 
   -- the record has its replica, and its size
   pub shell-replica : replica M₂ v ≢ null

@@ -1,15 +1,16 @@
 -- One new record in the current half, without replica (levels 0 to 2).
 use Prim.Native.Nat.{ℕ, suc, _+_, _≤_, _<_}
-use mathlib.Core.Path.{_≡_, refl, sym, _∙_}
+use mathlib.Core.Path.{_≡_, refl, sym, ap, _∙_}
 use mathlib.Core.Logic.{_≢_, _⊎_}
 use mathlib.Core.List.{List, [], _∷_, _++_}
 use native.Mathlib.Nat.{le-refl}
 use native.Mathlib.Omega.{arith}
 use lib.ListN.{length, length-replicate}
 use Rattle.rules.specs.Memory.{Memory, frontier, null, halfOf, shapeWord, white, grey, black, colour, replica, nextReference, mostCount}
-use Rattle.rules.specs.Control.{Store, withMemory}
+use Rattle.rules.specs.Control.{Store, withMemory, withBirths}
 use Rattle.rules.specs.Cycle.{stage}
 use Rattle.rules.specs.Phases.{otherHalf}
+use Rattle.rules.specs.Barriers.{nextBirth}
 use Rattle.rules.specs.Free.{Free, Record}
 use Rattle.rules.specs.declared.Session.{Session}
 use Rattle.rules.proofs.memory.Cases.{either}
@@ -27,7 +28,7 @@ use Rattle.rules.proofs.sessions.Session.{WordFits}
 use Rattle.rules.proofs.allocation.Grown.{grown-colour, grown-size, Grown, append-grown}
 use Rattle.rules.proofs.allocation.Growth.{Placed, Joined, Tinted}
 use Rattle.rules.proofs.allocation.GrowSim.{grown-sim}
-use Rattle.rules.proofs.allocation.FreeRecords.{withRecords, blankRecord, longer-by, new-place, new-high}
+use Rattle.rules.proofs.allocation.FreeRecords.{withRecords, blankRecord, longer-by, new-place, new-length}
 
 -- ---- the colours that it may have by phase
 pub record Tint (st c : ℕ) : Type 0 where
@@ -41,7 +42,7 @@ pub record Tint (st c : ℕ) : Type 0 where
 
 -- M′ has it
 module _ {K : ℕ → Type 0} {m : ℕ → ℕ} {s : Store} {f : Free} (h : Sim K m s f) (r p : ℕ) (pb : p ≤ mostCount) {M′ : Memory} {c : ℕ} (tint : Tint (stage (s .phase)) c)
-    (kept : Appended (s .memory) M′ (s .current) (shapeWord r p) c null (r + p)) where
+    (kept : Appended (s .memory) M′ (s .current) (shapeWord r p) c null (nextBirth s) (r + p)) where
   abbrev M : Memory
   M = s .memory
 
@@ -87,7 +88,8 @@ module _ {K : ℕ → Type 0} {m : ℕ → ℕ} {s : Store} {f : Free} (h : Sim 
     old = tracked-old (suc (length rs)) m M M′;
     new = λ e. rw e (tracked-new (suc (length rs)) m M M′ cur (cur-two h) (omega (arith, kept .front)));
     low = omega arith;
-    high = new-high rs (blankRecord r p);
+    high = omega (arith, new-length rs (blankRecord r p));
+    born = λ e. rw e (kept .new-birth ∙ ap suc (h .births));
     nrefs = λ e. rw (new-place rs (blankRecord r p), e, kept .new-refs, refs-shape r p pb) (length-replicate r null);
     nplains = λ e. rw (new-place rs (blankRecord r p), e, kept .new-plains, plains-shape r p pb) (length-replicate {A = ℕ} p 0);
     apart = λ {u} {v} n t side e. let b = h .identity .high v t in omega arith;
@@ -134,11 +136,11 @@ module _ {K : ℕ → Type 0} {m : ℕ → ℕ} {s : Store} {f : Free} (h : Sim 
     room = λ a b. total-marks;
   }
 
-  pub single-sim : Sim K m′ (withMemory s M′) (withRecords f rs′)
-  single-sim = grown-sim h grown (longer-by rs r p) placing joining tinting
+  pub single-sim : Sim K m′ (withBirths (withMemory s M′) (nextBirth s)) (withRecords f rs′)
+  single-sim = grown-sim h grown (longer-by rs r p) placing joining tinting (nextBirth s) (ap suc (h .births) ∙ new-length rs (blankRecord r p))
 
   -- its reference may be put in a register
-  pub single-fits : (y : Session) → WordFits K m′ (withMemory s M′) y x (suc (length rs))
+  pub single-fits : (y : Session) → WordFits K m′ (withBirths (withMemory s M′) (nextBirth s)) y x (suc (length rs))
   single-fits y = record {
     ok = ok-start (kept .made);
     is = sym (placing .new refl);

@@ -46,6 +46,7 @@ module _ {K : ℕ → Type 0} {m : ℕ → ℕ} {s : Store} {f : Free} {M′ : M
         null-place = g .null-place;
         low = g .low;
         high = λ a q. rw (length-set (f .records) (m v - 1) x) (g .high a q);
+        born = g .born;
         nrefs = λ a q. by-place h w (m a)
             (λ e r. rw (r, w .refs-number) (sym (h .identity .nrefs v (w .here .start)) ∙ rw (← place-same h w (F .back q) e) (g .nrefs a q)))
             (λ d r. rw r (g .nrefs a q));
@@ -213,6 +214,7 @@ module _ {K : ℕ → Type 0} {m : ℕ → ℕ} {s : Store} {f : Free} {M′ : M
   field-write-sim = record {
     range = changed h w .range;
     filled = changed h w .filled;
+    births = rw (length-set (f .records) (m v - 1) x) (h .births);
     identity = write-identity;
     values = write-values;
     roots = changed h w .roots;

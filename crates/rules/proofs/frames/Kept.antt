@@ -2,7 +2,7 @@
 use Prim.Native.Nat.{ℕ, _≤_, _<_}
 use mathlib.Core.Path.{_≡_}
 use native.Mathlib.Omega.{arith}
-use Rattle.rules.specs.Memory.{Memory, colour, replica, refs, plains, header, colourAt, replicaAt, refField, plainField}
+use Rattle.rules.specs.Memory.{Memory, colour, replica, birthNumber, refs, plains, header, colourAt, replicaAt, birthAt, refField, plainField}
 use Rattle.rules.proofs.memory.Records.{Start, size-least, ref-inside, plain-inside}
 use Rattle.rules.proofs.invariant.Words.{In, Ok, Clean, field, plainOf, fwd}
 use Rattle.rules.proofs.invariant.Carried.{in-carried, ok-carried, fwd-carried, clean-carried}
@@ -15,6 +15,9 @@ ColoursSame M M′ = (v : ℕ) → Start M v → colour M′ v ≡ colour M v
 
 abbrev pub ReplicasSame : Memory → Memory → Type 0
 ReplicasSame M M′ = (v : ℕ) → Start M v → replica M′ v ≡ replica M v
+
+abbrev pub BirthsSame : Memory → Memory → Type 0
+BirthsSame M M′ = (v : ℕ) → Start M v → birthNumber M′ v ≡ birthNumber M v
 
 abbrev pub RefsSame : Memory → Memory → ℕ → Type 0
 RefsSame M M′ h = (v i : ℕ) → In M h v → i < refs M v → field M′ v i ≡ field M v i
@@ -53,6 +56,10 @@ module _ {M M′ : Memory} {Q : ℕ → ℕ → Type 0} (F : Frame M M′ Q) whe
 
   pub replicas-kept : ((v : ℕ) → ¬ Q v replicaAt) → ReplicasSame M M′
   replicas-kept n v t = replica-kept t (n v)
+
+  pub births-kept : ((v : ℕ) → ¬ Q v birthAt) → BirthsSame M M′
+  unfolding birthNumber
+  births-kept n v t = F .same t birthAt (omega (arith, size-least M v)) (n v)
 
   -- no word past the header changes
   pub fields-kept : (h : ℕ) → ((v j : ℕ) → header ≤ j → ¬ Q v j) → RefsSame M M′ h

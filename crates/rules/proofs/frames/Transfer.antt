@@ -16,15 +16,15 @@ use Rattle.rules.proofs.invariant.Carried.{Within, identity-carried, va
 use Rattle.rules.proofs.invariant.Counted.{copied-same}
 use Rattle.rules.proofs.frames.Frame.{Frame}
 use Rattle.rules.proofs.frames.Change.{refs-kept, plains-kept, size-kept}
-use Rattle.rules.proofs.frames.Kept.{ReplicasSame, RefsSame, PlainsSame, in-back, ok-to, fwd-kept}
+use Rattle.rules.proofs.frames.Kept.{ReplicasSame, BirthsSame, RefsSame, PlainsSame, in-back, ok-to, fwd-kept}
 
 module _ {M M′ : Memory} {Q : ℕ → ℕ → Type 0} (F : Frame M M′ Q) where
   within : Within M M′
   within = record { back = F .back; refs = λ t. refs-kept F (F .back t); plains = λ t. plains-kept F (F .back t) }
 
-  -- shapes alone
-  pub identity-kept : {m : ℕ → ℕ} {rs : List Record} → Identity M m rs → Identity M′ m rs
-  identity-kept g = identity-carried within g
+  -- shapes and birth numbers
+  pub identity-kept : {m : ℕ → ℕ} {rs : List Record} → BirthsSame M M′ → Identity M m rs → Identity M′ m rs
+  identity-kept same g = identity-carried within same g
 
   -- the fields of the current half
   pub values-kept : {m : ℕ → ℕ} {cur : ℕ} {rs : List Record} → RefsSame M M′ cur → PlainsSame M M′ cur → Values M m cur rs → Values M′ m cur rs

@@ -2,7 +2,7 @@
 use Prim.Native.Nat.{ℕ, _≤_}
 use mathlib.Core.Path.{_≡_, _∙_}
 use native.Mathlib.Omega.{arith}
-use Rattle.rules.specs.Memory.{Memory, header, colourAt, replicaAt}
+use Rattle.rules.specs.Memory.{Memory, header, colourAt, replicaAt, birthAt}
 use Rattle.rules.specs.Control.{Store, withMemory}
 use Rattle.rules.specs.Cycle.{stage}
 use Rattle.rules.specs.Phases.{otherHalf}
@@ -16,7 +16,7 @@ use Rattle.rules.proofs.invariant.Laws.{cur-two}
 use Rattle.rules.proofs.invariant.Pairs.{replica-shape}
 use Rattle.rules.proofs.invariant.Range.{range-memory}
 use Rattle.rules.proofs.frames.Frame.{Frame}
-use Rattle.rules.proofs.frames.Kept.{ColoursSame, ReplicasSame, RefsSame, PlainsSame, colours-kept, replicas-kept, fields-kept, plain-fields-kept}
+use Rattle.rules.proofs.frames.Kept.{ColoursSame, ReplicasSame, RefsSame, PlainsSame, colours-kept, replicas-kept, births-kept, fields-kept, plain-fields-kept}
 use Rattle.rules.proofs.frames.Transfer.{identity-kept, values-kept, roots-kept, field-halves-kept, pairs-kept, agreement-kept}
 use Rattle.rules.proofs.frames.Marks.{colours-group-kept, grey-list-kept, walking-kept, kept-kept}
 
@@ -41,7 +41,7 @@ colour-changed {m = m} {s = s} {f = f} {M′ = M′} {Q = Q} h F only =
     record {
       range = range-memory (h .range) (F .filled) (F .lengths);
       filled = F .filled;
-      identity = identity-kept F (h .identity);
+      identity = identity-kept F (births-kept F (λ v q. let e = only v birthAt q in absurd (omega arith))) (h .identity);
       values = values-kept F (fields-kept F cur n) (plain-fields-kept F cur n) (h .values);
       roots = roots-kept F (h .roots);
       field-halves = field-halves-kept F (fields-kept F cur n) (λ l. fields-kept F (otherHalf cur) n) (h .field-halves);
@@ -74,7 +74,7 @@ replica-changed {m = m} {s = s} {f = f} {M′ = M′} {Q = Q} h F only =
     record {
       range = range-memory (h .range) (F .filled) (F .lengths);
       filled = F .filled;
-      identity = identity-kept F (h .identity);
+      identity = identity-kept F (births-kept F (λ v q. let e = only v birthAt q in absurd (omega arith))) (h .identity);
       values = values-kept F (fields-kept F cur n) (plain-fields-kept F cur n) (h .values);
       roots = roots-kept F (h .roots);
       field-halves = field-halves-kept F (fields-kept F cur n) (λ l. fields-kept F (otherHalf cur) n) (h .field-halves);
@@ -106,7 +106,7 @@ field-changed {m = m} {s = s} {f = f} {M′ = M′} {Q = Q} h F only =
     record {
       range = range-memory (h .range) (F .filled) (F .lengths);
       filled = F .filled;
-      identity = identity-kept F (h .identity);
+      identity = identity-kept F (births-kept F (λ v q. let e = only v birthAt q in absurd (omega arith))) (h .identity);
       roots = roots-kept F (h .roots);
       pairs = pairs-kept F (cur-two h) r (h .pairs);
       colours = colours-group-kept F c r (h .colours);

@@ -4,7 +4,7 @@ use mathlib.Core.Path.{_≡_, sym, _∙_}
 use mathlib.Core.Logic.{_≢_}
 use mathlib.Core.List.{List}
 use lib.ListN.{getD}
-use Rattle.rules.specs.Memory.{Memory, null, white, refs, plains, colour, replica, copyOf}
+use Rattle.rules.specs.Memory.{Memory, null, white, refs, plains, colour, replica, birthNumber, copyOf}
 use Rattle.rules.specs.Free.{Record, FreeSession}
 use Rattle.rules.specs.declared.Session.{Session}
 use Rattle.rules.proofs.memory.Records.{Start}
@@ -40,11 +40,12 @@ pub record Within (M M′ : Memory) : Type 0 where
   pub plains : {v : ℕ} → Start M′ v → plains M′ v ≡ plains M v
 
 module _ {M M′ : Memory} (w : Within M M′) where
-  pub identity-carried : {m : ℕ → ℕ} {rs : List Record} → Identity M m rs → Identity M′ m rs
-  identity-carried g = record {
+  pub identity-carried : {m : ℕ → ℕ} {rs : List Record} → ((v : ℕ) → Start M v → birthNumber M′ v ≡ birthNumber M v) → Identity M m rs → Identity M′ m rs
+  identity-carried same g = record {
     null-place = g .null-place;
     low = λ v t. g .low v (w .back t);
     high = λ v t. g .high v (w .back t);
+    born = λ v t. same v (w .back t) ∙ g .born v (w .back t);
     nrefs = λ v t. rw (w .refs t) (g .nrefs v (w .back t));
     nplains = λ v t. rw (w .plains t) (g .nplains v (w .back t));
     apart = λ v w′ a b. g .apart v w′ (w .back a) (w .back b);

@@ -6,7 +6,7 @@ use mathlib.Core.Logic.{_≢_, _⊎_}
 use mathlib.Core.Bool.{true, false}
 use mathlib.Core.List.{List, [], _∷_}
 use lib.ListN.{getD, length}
-use Rattle.rules.specs.Memory.{Memory, null, halfOf, wordOf, refs, plains, replica, frontier}
+use Rattle.rules.specs.Memory.{Memory, null, halfOf, wordOf, refs, plains, replica, birthNumber, frontier}
 use Rattle.rules.specs.Control.{globalCount, sessionCount, registerCount}
 use Rattle.rules.specs.Phases.{otherHalf, levelOf, absent}
 use Rattle.rules.specs.Free.{Record, FreeSession, freeAbsent}
@@ -21,6 +21,8 @@ pub record Identity (M : Memory) (m : ℕ → ℕ) (rs : List Record) : Type 0 w
   pub null-place : m null ≡ 0
   pub low : (v : ℕ) → Start M v → 0 < m v
   pub high : (v : ℕ) → Start M v → m v ≤ length rs
+  -- its birth number is that place
+  pub born : (v : ℕ) → Start M v → birthNumber M v ≡ m v
   pub nrefs : (v : ℕ) → Start M v → length (recOf rs (m v) .refs) ≡ refs M v
   pub nplains : (v : ℕ) → Start M v → length (recOf rs (m v) .plains) ≡ plains M v
   pub apart : (v w : ℕ) → Start M v → Start M w → halfOf v ≡ halfOf w → m v ≡ m w → v ≡ w

@@ -24,6 +24,7 @@ module _ {K : ℕ → Type 0} {m n : ℕ → ℕ} {s : Store} {f : Free} (h : Si
     null-place = same null (ok-null refl) ∙ h .identity .null-place;
     low = λ v t. rw (at-start t) (h .identity .low v t);
     high = λ v t. rw (at-start t) (h .identity .high v t);
+    born = λ v t. rw (at-start t) (h .identity .born v t);
     nrefs = λ v t. rw (at-start t) (h .identity .nrefs v t);
     nplains = λ v t. rw (at-start t) (h .identity .nplains v t);
     apart = λ v w t t′ side e. h .identity .apart v w t t′ side (sym (at-start t) ∙ e ∙ at-start t′);
@@ -62,6 +63,7 @@ module _ {K : ℕ → Type 0} {m n : ℕ → ℕ} {s : Store} {f : Free} (h : Si
   placed-sim = record {
     range = h .range;
     filled = h .filled;
+    births = h .births;
     identity = placed-identity;
     values = placed-values;
     roots = roots-carried (h .roots .reg-ok) (h .roots .global-ok) same (h .roots);

@@ -8,7 +8,7 @@ use lib.Dec.{eqb, leb, leb→le}
 use lib.ListN.{length, getD}
 use borrow.Author.Tests.{ne-eqb}
 use Rattle.rules.specs.Memory.{Memory, half, frontier}
-use Rattle.rules.specs.Control.{Store, Walk, Grey, withMemory, withWalk, withList, withGlobals, withSessions, withCurrent, walkLimit, lastLevel, mostFields}
+use Rattle.rules.specs.Control.{Store, Walk, Grey, withMemory, withWalk, withList, withGlobals, withBirths, withSessions, withCurrent, walkLimit, lastLevel, mostFields}
 use Rattle.rules.specs.Phases.{sessionAt, absent, moveOn}
 use Rattle.rules.specs.Cycle.{nextPhase, stage, lastPhase, phaseCount, atRootMark, atRootFlip}
 use Rattle.rules.specs.declared.Session.{Session}
@@ -78,10 +78,10 @@ module _ {s : Store} (k : InRange s) where
   }
 
   -- anything but the memory and the lengths
-  range-control : {cur ph : ℕ} {w : Walk} {l : Grey} (gs : List ℕ) {xs : List Session} → Numbers s cur ph w l xs
-      → InRange (record { lengths = s .lengths; memory = s .memory; current = cur; phase = ph; walk = w; list = l; globals = gs; sessions = xs })
+  range-control : {cur ph : ℕ} {w : Walk} {l : Grey} (b : ℕ) (gs : List ℕ) {xs : List Session} → Numbers s cur ph w l xs
+      → InRange (record { lengths = s .lengths; memory = s .memory; current = cur; phase = ph; walk = w; list = l; births = b; globals = gs; sessions = xs })
   unfolding sessionAt
-  range-control gs a = record {
+  range-control b gs a = record {
     lent0 = k .lent0;
     lent1 = k .lent1;
     lent2 = k .lent2 ∙ sym (a .same);
@@ -104,7 +104,7 @@ module _ {s : Store} (k : InRange s) where
   pub range-with : {p i : ℕ} {ws : List ℕ} {head tail : ℕ} {xs : List Session} → p ≤ walkLimit (s .phase) (s .lengths .half0) → i ≤ mostFields
       → length ws ≡ length (s .list .words) → head ≤ tail → tail ≤ length (s .list .words) → ((n : ℕ) → getD xs n absent .level ≤ lastLevel)
       → InRange (withSessions (withList (withWalk s p i) ws head tail) xs)
-  range-with a b c d e g = range-control (s .globals) (record {
+  range-with a b c d e g = range-control (s .births) (s .globals) (record {
     half = k .half;
     phases = k .phases;
     places = a;
@@ -132,9 +132,9 @@ module _ {s : Store} (k : InRange s) where
   pub range-sessions : (xs : List Session) → ((n : ℕ) → getD xs n absent .level ≤ lastLevel) → InRange (withSessions s xs)
   range-sessions xs g = range-with (k .places) (k .fields) refl (k .begins) own-ends g
 
-  -- other globals, another current half, the next phase
-  pub range-globals : (gs : List ℕ) → InRange (withGlobals s gs)
-  range-globals gs = range-control gs (record {
+  -- other globals, another count of birth numbers, another current half, the next phase
+  own-numbers : Numbers s (s .current) (s .phase) (s .walk) (s .list) (s .sessions)
+  own-numbers = record {
     half = k .half;
     phases = k .phases;
     places = k .places;
@@ -143,10 +143,16 @@ module _ {s : Store} (k : InRange s) where
     begins = k .begins;
     ends = k .ends;
     levels = own-levels;
-  })
+  }
+
+  pub range-globals : (gs : List ℕ) → InRange (withGlobals s gs)
+  range-globals gs = range-control (s .births) gs own-numbers
+
+  pub range-births : (n : ℕ) → InRange (withBirths s n)
+  range-births n = range-control n (s .globals) own-numbers
 
   pub range-current : (h : ℕ) → h ≤ 1 → InRange (withCurrent s h)
-  range-current h l = range-control (s .globals) (record {
+  range-current h l = range-control (s .births) (s .globals) (record {
     half = l;
     phases = k .phases;
     places = k .places;
@@ -159,7 +165,7 @@ module _ {s : Store} (k : InRange s) where
 
   pub range-moved : InRange (moveOn s)
   unfolding moveOn
-  range-moved = range-control (s .globals) (record {
+  range-moved = range-control (s .births) (s .globals) (record {
     half = k .half;
     phases = next-most (s .phase) (k .phases);
     places = zero-le;

@@ -1,5 +1,7 @@
 -- The invariant: a store s beside a collector-free store f, with the tracked place m of each reference.
 use Prim.Native.Nat.{ℕ}
+use mathlib.Core.Path.{_≡_}
+use lib.ListN.{length}
 use Rattle.rules.specs.Control.{Store}
 use Rattle.rules.specs.Cycle.{stage}
 use Rattle.rules.specs.Free.{Free}
@@ -11,6 +13,7 @@ use Rattle.rules.proofs.invariant.Marking.{Colours, GreyList, Cleaned, 
 pub record Sim (K : ℕ → Type 0) (m : ℕ → ℕ) (s : Store) (f : Free) : Type 0 where
   pub range : InRange s
   pub filled : Filled (s .memory)
+  pub births : s .births ≡ length (f .records)
   pub identity : Identity (s .memory) m (f .records)
   pub values : Values (s .memory) m (s .current) (f .records)
   pub roots : Roots (s .memory) m (s .sessions) (f .sessions) (s .globals) (f .globals)

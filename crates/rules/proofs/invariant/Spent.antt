@@ -125,7 +125,7 @@ session-grows s n x e = record {
 -- ---- records
 
 -- a record put at a frontier
-module _ {M M′ : Memory} {h w c v n : ℕ} (a : Appended M M′ h w c v n) where
+module _ {M M′ : Memory} {h w c v b n : ℕ} (a : Appended M M′ h w c v b n) where
   done-old : {u : ℕ} → Start M u → done M u ≤ done M′ u
   unfolding colour
   done-old {u} t =
@@ -139,7 +139,7 @@ module _ {M M′ : Memory} {h w c v n : ℕ} (a : Appended M M′ h w c v n) whe
       (λ e. let z : total M′ g (done M′) ≡ total M g (done M′) + done M′ (nextReference M h) = rw e (total-append a (done M′)) in omega arith)
       (λ d. omega (arith, total-kept (a .same-starts g two d) (done M′)))
 
-pub appended-grows : {s : Store} {M′ : Memory} {h w c v n : ℕ} → s .current < 2 → Appended (s .memory) M′ h w c v n → Grows s (withMemory s M′)
+pub appended-grows : {s : Store} {M′ : Memory} {h w c v b n : ℕ} → s .current < 2 → Appended (s .memory) M′ h w c v b n → Grows s (withMemory s M′)
 appended-grows {s} {h = h} two a = record {
   phase = refl;
   front = eq-or (s .current) h (λ e. rw e (omega (arith, a .front))) (λ d. omega (arith, a .front-other (s .current) two d));

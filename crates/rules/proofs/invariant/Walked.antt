@@ -61,6 +61,7 @@ pub walk-sim : {K : ℕ → Type 0} {m : ℕ → ℕ} {s : Store} {f : Free} →
 walk-sim h {k} {i} t = record {
   range = range-walk (h .range) k i (t .places) (t .fields);
   filled = h .filled;
+  births = h .births;
   identity = h .identity;
   values = h .values;
   roots = h .roots;

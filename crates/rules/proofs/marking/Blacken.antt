@@ -55,6 +55,7 @@ module _ {K : ℕ → Type 0} {m : ℕ → ℕ} {s : Store} {f : Free} (h : Sim 
       record {
         range = range-with r (r .places) (omega arith) refl (omega arith) (omega (arith, r .ends, r .lent2)) (r .levels);
         filled = g .filled;
+        births = h .births;
         identity = g .identity;
         values = g .values;
         roots = g .roots;

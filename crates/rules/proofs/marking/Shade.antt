@@ -58,6 +58,7 @@ module _ {K : ℕ → Type 0} {m : ℕ → ℕ} {s : Store} {f : Free} (h : Sim 
         range = range-with r (r .places) (r .fields) (length-set (s .list .words) (s .list .tail) v) (omega (arith, r .begins)) shade-room
             (r .levels);
         filled = g .filled;
+        births = h .births;
         identity = g .identity;
         values = g .values;
         roots = g .roots;

@@ -10,7 +10,7 @@ use lib.Dec.{eqb}
 use lib.ListN.{length, getD, length-replicate, getD-replicate}
 use lib.Seq.{sets, length-sets, getD-drop}
 use borrow.Author.Tests.{eq-eqb, ne-eqb}
-use Rattle.rules.specs.Memory.{Memory, half, frontier, withHalf, reference, halfOf, wordOf, refsOf, plainsOf, newRecord, word, append, nextReference, colour, replica, refs, plains, size, header, shapeAt, mostShape, colourAt, replicaAt, black}
+use Rattle.rules.specs.Memory.{Memory, half, frontier, withHalf, reference, halfOf, wordOf, refsOf, plainsOf, newRecord, word, append, nextReference, colour, replica, birthNumber, refs, plains, size, header, shapeAt, mostShape, colourAt, replicaAt, birthAt, black}
 use Rattle.rules.proofs.memory.Cases.{lt-or, eq-or, either}
 use Rattle.rules.proofs.memory.Encoding.{half-reference, word-reference, half-below-2, reference-again}
 use Rattle.rules.proofs.memory.Chain.{pos, sizeAt, pos-suc, pos-lt, lt-of-pos, le-of-pos, sets-before, sets-in, pos-sets}
@@ -44,25 +44,29 @@ module _ (M : Memory) (h : ℕ) (ws : List ℕ) where
 
 -- ---- the words of a new record
 
-length-record : (w c v n : ℕ) → length (newRecord w c v n) ≡ header + n
+length-record : (w c v b n : ℕ) → length (newRecord w c v b n) ≡ header + n
 unfolding newRecord
-length-record w c v n = rw length-replicate (omega arith)
+length-record w c v b n = rw length-replicate (omega arith)
 
-record-zero : (w c v n i : ℕ) → i < n → getD (newRecord w c v n) (header + i) 0 ≡ 0
+record-zero : (w c v b n i : ℕ) → i < n → getD (newRecord w c v b n) (header + i) 0 ≡ 0
 unfolding newRecord
-record-zero w c v n i l = sym (getD-drop header (newRecord w c v n) i 0) ∙ getD-replicate n i 0 0 l
+record-zero w c v b n i l = sym (getD-drop header (newRecord w c v b n) i 0) ∙ getD-replicate n i 0 0 l
 
-record-shape : (w c v n : ℕ) → getD (newRecord w c v n) shapeAt 0 ≡ w
+record-shape : (w c v b n : ℕ) → getD (newRecord w c v b n) shapeAt 0 ≡ w
 unfolding newRecord
-record-shape w c v n = refl
+record-shape w c v b n = refl
 
-record-colour : (w c v n : ℕ) → getD (newRecord w c v n) colourAt 0 ≡ c
+record-colour : (w c v b n : ℕ) → getD (newRecord w c v b n) colourAt 0 ≡ c
 unfolding newRecord
-record-colour w c v n = refl
+record-colour w c v b n = refl
 
-record-replica : (w c v n : ℕ) → getD (newRecord w c v n) replicaAt 0 ≡ v
+record-replica : (w c v b n : ℕ) → getD (newRecord w c v b n) replicaAt 0 ≡ v
 unfolding newRecord
-record-replica w c v n = refl
+record-replica w c v b n = refl
+
+record-birth : (w c v b n : ℕ) → getD (newRecord w c v b n) birthAt 0 ≡ b
+unfolding newRecord
+record-birth w c v b n = refl
 
 -- ---- a record of word 0 w, colour c and n fields may be put at the frontier of half h
 pub record Appendable (M : Memory) (h w c n : ℕ) : Type 0 where
@@ -74,7 +78,7 @@ pub record Appendable (M : Memory) (h w c n : ℕ) : Type 0 where
   pub room : frontier M h + (header + n) ≤ length (half M h)
 
 -- M′ is M with that record put there
-pub record Appended (M M′ : Memory) (h w c v n : ℕ) : Type 0 where
+pub record Appended (M M′ : Memory) (h w c v b n : ℕ) : Type 0 where
   pub before : Appendable M h w c n
   pub filled : Filled M′
   -- old starts, and the new one
@@ -87,6 +91,7 @@ pub record Appended (M M′ : Memory) (h w c v n : ℕ) : Type 0 where
   -- words of the new one
   pub new-colour : colour M′ (nextReference M h) ≡ c
   pub new-replica : replica M′ (nextReference M h) ≡ v
+  pub new-birth : birthNumber M′ (nextReference M h) ≡ b
   pub new-field : (i : ℕ) → i < n → word M′ (nextReference M h) (header + i) ≡ 0
   pub new-refs : refs M′ (nextReference M h) ≡ refsOf w
   pub new-plains : plains M′ (nextReference M h) ≡ plainsOf w
@@ -100,9 +105,9 @@ pub record Appended (M M′ : Memory) (h w c v n : ℕ) : Type 0 where
   -- the records of half h, by number
   pub chain : (k : ℕ) → k ≤ before .filled .count h → pos (half M′ h) k ≡ pos (half M h) k
 
-module _ {M : Memory} {h w c n : ℕ} (a : Appendable M h w c n) (v : ℕ) where
+module _ {M : Memory} {h w c n : ℕ} (a : Appendable M h w c n) (v b : ℕ) where
   abbrev vs : List ℕ
-  vs = newRecord w c v n
+  vs = newRecord w c v b n
 
   abbrev M′ : Memory
   M′ = append M h vs
@@ -125,7 +130,7 @@ module _ {M : Memory} {h w c n : ℕ} (a : Appendable M h w c n) (v : ℕ) where
   chain-end = chain-to last (le-refl last) ∙ at-end
 
   append-front : frontier M′ h ≡ frontier M h + (header + n)
-  append-front = frontier-here M h vs ∙ rw (length-record w c v n)
+  append-front = frontier-here M h vs ∙ rw (length-record w c v b n)
 
   append-front-other : (g : ℕ) → g < 2 → g ≢ h → frontier M′ g ≡ frontier M g
   append-front-other g l d = frontier-there M h vs g (a .side) l d
@@ -136,7 +141,7 @@ module _ {M : Memory} {h w c n : ℕ} (a : Appendable M h w c n) (v : ℕ) where
   unfolding word nextReference
   word-new j l =
       rw (half-reference h (frontier M h) (a .side), word-reference h (frontier M h) (a .side), append-here M h vs)
-      (sets-in (half M h) vs (frontier M h) j (rw (length-record w c v n) (a .room)) (rw (length-record w c v n) l))
+      (sets-in (half M h) vs (frontier M h) j (rw (length-record w c v b n) (a .room)) (rw (length-record w c v b n) l))
 
   word-old : {u : ℕ} → Start M u → (i : ℕ) → i < size M u → word M′ u i ≡ word M u i
   unfolding word
@@ -153,15 +158,19 @@ module _ {M : Memory} {h w c n : ℕ} (a : Appendable M h w c n) (v : ℕ) where
   colour-old {u} s = word-old s colourAt (omega (arith, size-least M u))
 
   shape-new : word M′ (nextReference M h) shapeAt ≡ w
-  shape-new = word-new shapeAt (omega arith) ∙ record-shape w c v n
+  shape-new = word-new shapeAt (omega arith) ∙ record-shape w c v b n
 
   colour-new : colour M′ (nextReference M h) ≡ c
   unfolding colour
-  colour-new = word-new colourAt (omega arith) ∙ record-colour w c v n
+  colour-new = word-new colourAt (omega arith) ∙ record-colour w c v b n
 
   replica-new : replica M′ (nextReference M h) ≡ v
   unfolding replica
-  replica-new = word-new replicaAt (omega arith) ∙ record-replica w c v n
+  replica-new = word-new replicaAt (omega arith) ∙ record-replica w c v b n
+
+  birth-new : birthNumber M′ (nextReference M h) ≡ b
+  unfolding birthNumber
+  birth-new = word-new birthAt (omega arith) ∙ record-birth w c v b n
 
   refs-new : refs M′ (nextReference M h) ≡ refsOf w
   unfolding refs
@@ -250,7 +259,7 @@ module _ {M : Memory} {h w c n : ℕ} (a : Appendable M h w c n) (v : ℕ) where
     colours = λ t. either (start-split t) (λ s. rw (colour-old s) (a .filled .colours s)) (λ e. rw (e, colour-new) (a .tint));
   }
 
-  pub append-kept : Appended M (append M h (newRecord w c v n)) h w c v n
+  pub append-kept : Appended M (append M h (newRecord w c v b n)) h w c v b n
   unfolding nextReference last
   append-kept = record {
     before = a;
@@ -262,7 +271,8 @@ module _ {M : Memory} {h w c n : ℕ} (a : Appendable M h w c n) (v : ℕ) where
     same = word-old;
     new-colour = colour-new;
     new-replica = replica-new;
-    new-field = λ i l. word-new (header + i) (omega arith) ∙ record-zero w c v n i l;
+    new-birth = birth-new;
+    new-field = λ i l. word-new (header + i) (omega arith) ∙ record-zero w c v b n i l;
     new-refs = refs-new;
     new-plains = plains-new;
     new-size = size-new;

@@ -129,7 +129,7 @@ total-none {M} k {h} two w z =
     total-equal M two w (λ v. 0) z ∙ total-numbers k two (λ v. 0) ∙ sum-cut (λ n. 0) 0 (k .count h) zero-le (λ n l. refl) ∙ sum-zero (λ n. 0)
 
 -- a new record adds its weight
-module _ {M M′ : Memory} {h w c v n : ℕ} (a : Appended M M′ h w c v n) where
+module _ {M M′ : Memory} {h w c v b n : ℕ} (a : Appended M M′ h w c v b n) where
   last : ℕ
   last = a .before .filled .count h
 

@@ -96,6 +96,7 @@ module _ {K : ℕ → Type 0} {m : ℕ → ℕ} {s : Store} {f : Free} (h : Sim 
   clear-sim = record {
     range = range-walk (rest-kept .range) place′ 0 (walked-limit h (h .walking .at-reclaim e) l (omega arith) (omega arith)) zero-le;
     filled = rest-kept .filled;
+    births = h .births;
     identity = rest-kept .identity;
     values = rest-kept .values;
     roots = rest-kept .roots;

@@ -87,6 +87,7 @@ module _ {K : ℕ → Type 0} {m : ℕ → ℕ} {s : Store} {f : Free} (h : Sim 
   flip-moves l = rw (to-other h (omega arith)) (record {
     range = range-current (range-moved (h .range)) (other h) (omega (arith, other-below-2 (s .current)));
     filled = h .filled;
+    births = h .births;
     identity = h .identity;
     values = values-flip;
     roots = roots-unmarked (h .roots);

@@ -152,6 +152,7 @@ module _ {K : ℕ → Type 0} {m : ℕ → ℕ} {s : Store} {f : Free} (h : Sim 
   moves = record {
     range = range-moved (h .range);
     filled = h .filled;
+    births = h .births;
     identity = h .identity;
     values = h .values;
     roots = roots-unmarked (h .roots);

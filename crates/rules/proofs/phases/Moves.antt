@@ -49,6 +49,7 @@ module _ {K : ℕ → Type 0} {m : ℕ → ℕ} {s : Store} {f : Free} (h : Sim 
   rest-empties e = record {
     range = range-emptied (h .range);
     filled = h .filled;
+    births = h .births;
     identity = h .identity;
     values = h .values;
     roots = h .roots;

@@ -4,7 +4,7 @@ use Prim.Native.Nat.{ℕ, _≤_, _<_}
 use mathlib.Core.Path.{_≡_, refl, sym, _∙_}
 use mathlib.Core.Bool.{true}
 use native.Mathlib.Omega.{arith}
-use Rattle.rules.specs.Memory.{Memory, null, halfOf, withFrontier, colour, replica, refs, frontier, colourAt, replicaAt}
+use Rattle.rules.specs.Memory.{Memory, null, halfOf, withFrontier, colour, replica, birthNumber, refs, frontier, colourAt, replicaAt, birthAt}
 use Rattle.rules.specs.Control.{Store, withMemory}
 use Rattle.rules.specs.Cycle.{stage}
 use Rattle.rules.specs.Phases.{otherHalf, nextPhase, moveOn}
@@ -62,6 +62,10 @@ module _ {K : ℕ → Type 0} {m : ℕ → ℕ} {s : Store} {f : Free} (h : Sim 
   same-replica : (v : ℕ) → replica M′ v ≡ replica M v
   unfolding replica
   same-replica v = gone .same v replicaAt
+
+  same-birth : (v : ℕ) → birthNumber M′ v ≡ birthNumber M v
+  unfolding birthNumber
+  same-birth v = gone .same v birthAt
 
   same-field : (v i : ℕ) → field M′ v i ≡ field M v i
   same-field v i = gone .same v _
@@ -143,7 +147,8 @@ module _ {K : ℕ → Type 0} {m : ℕ → ℕ} {s : Store} {f : Free} (h : Sim 
   reclaim-moves l = record {
     range = range-moved (range-memory (h .range) (gone .filled) (gone .lengths));
     filled = gone .filled;
-    identity = identity-carried within (h .identity);
+    births = h .births;
+    identity = identity-carried within (λ v t. same-birth v) (h .identity);
     values = values-empty;
     roots = roots-unmarked roots-empty;
     levels = levels-on (h .range) (have-level h l);

@@ -1,7 +1,7 @@
 -- The kinds of calls: allocations, other session calls, and calls that are no session calls.
 use mathlib.Core.Path.{_≡_, refl, sym, _∙_}
 use mathlib.Core.Bool.{true, false, true≢false}
-use Rattle.rules.specs.Runs.{Call, Attach, Detach, SafePoint, Allocate, Load, StoreRef, Read, Write, Move, Clear, SameAs, Get, Put, Stretch, Companion, Step, isSession, isAllocation, Fed}
+use Rattle.rules.specs.Runs.{Call, Attach, Detach, SafePoint, Allocate, Load, StoreRef, Read, Write, Move, Clear, SameAs, Get, Put, Stretch, Companion, Birth, Step, isSession, isAllocation, Fed}
 use Rattle.rules.specs.Free.{Free, freeApply}
 
 -- a call by what is fed for it; only an allocation goes by it
@@ -26,6 +26,7 @@ kind (Get n to g) = unfed refl refl (λ f x y. refl)
 kind (Put n g from) = unfed refl refl (λ f x y. refl)
 kind (Stretch n k) = unfed refl refl (λ f x y. refl)
 kind (Companion n k) = unfed refl refl (λ f x y. refl)
+kind (Birth n k) = unfed refl refl (λ f x y. refl)
 kind Step = silent refl refl
 
 -- an allocation is a session call

@@ -1,5 +1,5 @@
--- How a row of tests ends, and that each number in it is one that a call may be refused with: one of `storeNumbers`, and 14 only of an
--- allocation.
+-- How a row of tests ends, and that each number in it is one that a call may be refused with: one of `storeNumbers`, and one of
+-- `allocationNumbers` only of an allocation.
 use Prim.Native.Nat.{ℕ}
 use mathlib.Core.Path.{_≡_}
 use mathlib.Core.Bool.{Bool, true, false, cond, not, _||_}
@@ -12,7 +12,7 @@ use Rattle.rules.specs.Phases.{sessionAt}
 use Rattle.rules.specs.Barriers as barriers
 use Rattle.rules.specs.Calls as calls
 use Rattle.rules.specs.Collector as collector
-use Rattle.rules.specs.Claims.{storeNumbers}
+use Rattle.rules.specs.Claims.{storeNumbers, allocationNumbers}
 use Rattle.rules.specs.declared.Session.{Session}
 
 -- where a test fails, P holds of its number; where all pass, Q holds of what they pass with
@@ -54,9 +54,9 @@ abbrev pub listed : ℕ → List ℕ → Bool
 listed n [] = false
 listed n (k ∷ ks) = eqb n k || listed n ks
 
--- a number that a call may be refused with; room says whether it may be 14
+-- a number that a call may be refused with; room says whether it may be one of an allocation
 pub data Allowed (room : Bool) (n : ℕ) : Type 0 where
-  allowed : listed n storeNumbers ≡ true → (not (eqb n 14) || room) ≡ true → Allowed room n
+  allowed : listed n storeNumbers ≡ true → (not (listed n allocationNumbers) || room) ≡ true → Allowed room n
 
 -- a row of tests with such numbers
 abbrev pub Row : Bool → {A : Type 0} → Tested A → Type 0

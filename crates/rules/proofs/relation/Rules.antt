@@ -13,7 +13,7 @@ use Rattle.rules.specs.Control.{Store, inRange, lastSession}
 use Rattle.rules.specs.Phases.{sessionAt, withSession, moveOn}
 use Rattle.rules.specs.Calls as calls
 use Rattle.rules.specs.Collector as collector
-use Rattle.rules.specs.Runs.{Call, Attach, Detach, SafePoint, Allocate, Load, StoreRef, Read, Write, Move, Clear, SameAs, Get, Put, Stretch, Companion, Step, apply, isAllocation}
+use Rattle.rules.specs.Runs.{Call, Attach, Detach, SafePoint, Allocate, Load, StoreRef, Read, Write, Move, Clear, SameAs, Get, Put, Stretch, Companion, Birth, Step, apply, isAllocation}
 use Rattle.rules.specs.declared.Session.{Session}
 use Rattle.rules.specs.declared.Answer.the-variants.{Refused}
 use Rattle.rules.proofs.relation.Replies.{isRefusal}
@@ -29,7 +29,7 @@ pub record Passed (s : Store) (o : Outcome Store) : Type 0 where
 leaves : {s : Store} (o : Outcome Store) → Stays s (o .store) → isRefusal (o .reply) ≡ false → Passed s o
 leaves o h e = record { stays = h; reply = e }
 
--- the rule of a call of s; room says whether it may be refused with 14
+-- the rule of a call of s; room says whether it may be refused with the numbers of an allocation
 abbrev pub RuleEnds : Bool → Store → Tested (Outcome Store) → Type 0
 RuleEnds room s t = Ends (Allowed room) (Passed s) t
 
@@ -71,6 +71,10 @@ module _ (s : Store) where
   unfolding calls.read
   read-ends n k i = search (rule, record-row)
 
+  pub birth-ends : (n k : ℕ) → RuleEnds false s (calls.birth s n k)
+  unfolding calls.birth
+  birth-ends n k = search (rule, record-row)
+
   pub write-ends : (n k i a : ℕ) → RuleEnds false s (calls.write s n k i a)
   unfolding calls.write calls.writePlan calls.writeCommit
   write-ends n k i a = search (rule, record-row, replica-row)
@@ -99,10 +103,10 @@ module _ (s : Store) where
   unfolding calls.stretch
   stretch-row n k = search (rule, record-row)
 
-  -- the one call that may be refused with 14
+  -- the one call that may be refused with 14 and 16
   pub allocate-ends : (n k r p : ℕ) → RuleEnds true s (calls.allocate s n k r p)
   unfolding calls.allocate
-  allocate-ends n k r p = search (rule, of-session) depth 7
+  allocate-ends n k r p = search (rule, of-session) depth 8
 
   -- ---- the collector step
 
@@ -192,6 +196,7 @@ call-ends s (Get n to g) = settled (get-ends s n to g)
 call-ends s (Put n g from) = settled (put-ends s n g from)
 call-ends s (Stretch n k) = success _ (leaves _ (unwritten refl) refl)
 call-ends s (Companion n k) = companion (stretch-row s n k)
+call-ends s (Birth n k) = settled (birth-ends s n k)
 call-ends s Step = settled (step-ends s)
 
 pub call-stays : (s : Store) (c : Call) → Stays s (apply s c .store)

@@ -10,7 +10,7 @@ use Rattle.rules.specs.Refusals.{Tested, refused, passed, _>>=_, Reply, 
 use Rattle.rules.specs.Memory.{Memory}
 use Rattle.rules.specs.Control.{Store}
 use Rattle.rules.specs.Collector.{walked, step}
-use Rattle.rules.specs.Runs.{Call, Attach, Detach, SafePoint, Allocate, Load, StoreRef, Read, Write, Move, Clear, SameAs, Get, Put, Stretch, Companion, Step, apply, isSession, isAllocation, isStep, fedBy, spentBy}
+use Rattle.rules.specs.Runs.{Call, Attach, Detach, SafePoint, Allocate, Load, StoreRef, Read, Write, Move, Clear, SameAs, Get, Put, Stretch, Companion, Birth, Step, apply, isSession, isAllocation, isStep, fedBy, spentBy}
 use Rattle.rules.specs.Free.{Free, FreeSession, freeSessionOf, freeApply}
 use Rattle.rules.specs.Tracking.{Beside, track, besideCall}
 use Rattle.rules.specs.declared.Answer.the-variants.{Refused, Done, Phase}
@@ -19,11 +19,11 @@ use Rattle.rules.proofs.invariant.Spent.{Spent}
 use Rattle.rules.proofs.relation.Tracks.{tracked, Tracks, tracks-none}
 use Rattle.rules.proofs.relation.Alike.{Alike, Both, refused-both, passed-both}
 use Rattle.rules.proofs.relation.Rows.{of-passed}
-use Rattle.rules.proofs.relation.Rules.{RuleEnds, attach-ends, detach-ends, safe-point-ends, allocate-ends, load-ends, store-ends, read-ends, write-ends, move-ends, clear-ends, same-ends, get-ends, put-ends}
+use Rattle.rules.proofs.relation.Rules.{RuleEnds, attach-ends, detach-ends, safe-point-ends, allocate-ends, load-ends, store-ends, read-ends, birth-ends, write-ends, move-ends, clear-ends, same-ends, get-ends, put-ends}
 use Rattle.rules.proofs.relation.Replies.{refusal-number, unrefused}
 use Rattle.rules.proofs.sessions.Registers.{move-alike, clear-alike, get-alike}
 use Rattle.rules.proofs.sessions.Attaching.{attach-alike, detach-alike, safe-point-alike}
-use Rattle.rules.proofs.sessions.Reading.{load-alike, read-alike, stretch-both}
+use Rattle.rules.proofs.sessions.Reading.{load-alike, read-alike, birth-alike, stretch-both}
 use Rattle.rules.proofs.sessions.Same.{same-alike}
 use Rattle.rules.proofs.fields.Storing.{store-alike}
 use Rattle.rules.proofs.fields.Writing.{write-alike}
@@ -173,4 +173,5 @@ module _ {K : ℕ → Type 0} (b : Beside) (h : Sim K (b .place) (b .store) (b .
   one-call (Companion n k) =
       let z = companion-reply (stretch-both h n k) in
       of-kept b (Companion n k) refl (kept-same h (Companion n k) refl _ (z .0) (z .1) (z .2))
+  one-call (Birth n k) = of-kept b (Birth n k) refl (settled h (Birth n k) refl (birth-ends s n k) (birth-alike h n k _))
   one-call Step = step-call

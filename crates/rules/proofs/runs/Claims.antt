@@ -1,13 +1,14 @@
--- The claims about runs: answers, no damage, ranges, halves without gaps, two runs, what is freed, what crates above go by.
+-- The claims about runs: answers, no damage, ranges, halves without gaps, two runs, what is freed, what crates above go by, replicas that
+-- point back, birth numbers.
 use Prim.Native.Nat.{ℕ}
-use mathlib.Core.Path.{sym, _∙_}
+use mathlib.Core.Path.{_≡_, sym, ap, _∙_}
 use mathlib.Core.List.{List, List·Memᴰ}
 use Rattle.rules.specs.Control.{Store}
-use Rattle.rules.specs.Runs.{Call}
+use Rattle.rules.specs.Runs.{Call, after}
 use Rattle.rules.specs.Phases.{sessionAt}
 use Rattle.rules.specs.Free.{freeSession, freeRegister}
 use Rattle.rules.specs.Tracking.{newBeside, beside, recordsOf}
-use Rattle.rules.specs.Claims.{Made, Answers, NoDamage, StaysInRange, Filled, TwoRuns, Freed, StaysFreed, NextAnswer, SafePointAnswer, LiveFits, NullRegisters, RecordsFollowed}
+use Rattle.rules.specs.Claims.{Made, Answers, NoDamage, StaysInRange, Filled, TwoRuns, Freed, StaysFreed, NextAnswer, SafePointAnswer, LiveFits, NullRegisters, RecordsFollowed, BirthNumbers, BirthsCounted, BirthsDiffer}
 use Rattle.rules.proofs.Ranges.{in-range-tested}
 use Rattle.rules.proofs.memory.Listing.{listing-start}
 use Rattle.rules.proofs.invariant.Laws.{place-null}
@@ -95,3 +96,26 @@ records-followed s made cs h two at v =
     let k = holds s made cs in
     rw (← beside-store (newBeside s) cs) (λ (i : List·Memᴰ v (recordsOf (beside (newBeside s) cs .store .memory) h)).
     let t = listing-start (k .filled) two i in followed-start (follow-record k (rw (beside-store (newBeside s) cs) at) (t .0) (t .1)))
+
+-- ---- birth numbers
+
+pub birth-numbers : BirthNumbers
+unfolding BirthNumbers
+birth-numbers s made cs h two v =
+    let k = holds s made cs in
+    rw (← beside-store (newBeside s) cs) (λ (i : List·Memᴰ v (recordsOf (beside (newBeside s) cs .store .memory) h)).
+    k .identity .born v (listing-start (k .filled) two i .0))
+
+pub births-counted : BirthsCounted
+unfolding BirthsCounted
+births-counted s made cs = rw (← beside-store (newBeside s) cs) (holds s made cs .births)
+
+pub births-differ : BirthsDiffer
+unfolding BirthsDiffer
+births-differ s made cs h two u v i j e =
+    let k = holds s made cs in
+    let M = beside (newBeside s) cs .store .memory in
+    let b : M ≡ after s cs .memory = ap (λ t. t .memory) (beside-store (newBeside s) cs) in
+    let t = listing-start (k .filled) two (rw (← b) at i) in
+    let w = listing-start (k .filled) two (rw (← b) at j) in
+    k .identity .apart u v (t .0) (w .0) (t .1 ∙ sym (w .1)) (sym (k .identity .born u (t .0)) ∙ rw (← b) at e ∙ k .identity .born v (w .0))

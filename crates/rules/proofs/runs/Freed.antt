@@ -84,6 +84,7 @@ module _ {K : ℕ → Type 0} (b : Beside) (h : Holds K b) (z : b .store .phase 
   living-holds = let k = begun-holds in record {
     range = k .range;
     filled = k .filled;
+    births = k .births;
     identity = k .identity;
     values = k .values;
     roots = k .roots;

@@ -136,10 +136,12 @@ module _ (K : ℕ → Type 0) (to-come : (q : ℕ) → 0 < q → K q) (h0 h1 ws 
   new-sim = record {
     range = new-range;
     filled = empty-filled (λ h two. bare h);
+    births = rw no-records;
     identity = record {
       null-place = refl;
       low = λ v t. absurd (none t);
       high = λ v t. absurd (none t);
+      born = λ v t. absurd (none t);
       nrefs = λ v t. absurd (none t);
       nplains = λ v t. absurd (none t);
       apart = λ v w t. absurd (none t);

@@ -84,6 +84,7 @@ module _ {K : ℕ → Type 0} {m : ℕ → ℕ} {s : Store} {f : Free} (h : Sim 
   global-sim g l {v} {q} t = record {
     range = range-globals (h .range) (set (s .globals) g v);
     filled = h .filled;
+    births = h .births;
     identity = h .identity;
     values = h .values;
     roots = global-roots h g l t;

@@ -1,4 +1,4 @@
--- The calls that read a record: load, read, the stretch and its companion.
+-- The calls that read a record: load, read, the birth number, the stretch and its companion.
 use Prim.Native.Nat.{ℕ, zero, suc, _+_, _-_, _≤_, _<_}
 use mathlib.Core.Path.{_≡_, refl, sym, ap, _∙_}
 use mathlib.Core.Bool.{_&&_, and-comm, and-self}
@@ -14,7 +14,7 @@ use Rattle.rules.specs.Control.{Store}
 use Rattle.rules.specs.Phases.{sessionAt, register}
 use Rattle.rules.specs.Calls as calls
 use Rattle.rules.specs.Calls.{isRegister}
-use Rattle.rules.specs.Free.{Free, freeLoad, freeRead, freeStretch}
+use Rattle.rules.specs.Free.{Free, freeLoad, freeRead, freeBirth, freeStretch}
 use Rattle.rules.specs.declared.Answer.the-variants.{Word}
 use Rattle.rules.proofs.Ranges.{both}
 use Rattle.rules.proofs.memory.Records.{Start, Filled, start-inside, size-fields}
@@ -44,6 +44,12 @@ module _ {K : ℕ → Type 0} {m : ℕ → ℕ} {s : Store} {f : Free} (h : Sim 
       (λ a b z p. let w = held-values n k a z in
       both-check-eq _ _ 13 (ap (ltb i) (sym (w .nplains))) tt
       (λ l. alike-done h (ap (λ u. answer (Word u)) (sym (w .plain i (ltb-true _ _ l)))) refl refl (λ c z. z)))
+
+  -- its place is the collector-free register
+  pub birth-alike : (n k q : ℕ) → Alike K q m s (calls.birth s n k) (freeBirth f n k)
+  unfolding calls.birth freeBirth
+  birth-alike n k q = both-record h n k k (isRegister k) (and-self (isRegister k)) _ _
+      (λ a b z p. alike-done h (ap (λ u. answer (Word u)) (h .identity .born _ z)) refl refl (λ c z. z))
 
 -- ---- the stretch
 

@@ -100,6 +100,7 @@ module _ {K : ℕ → Type 0} {m : ℕ → ℕ} {s : Store} {f : Free} (h : Sim 
   session-sim n l {x} {y} t = record {
     range = new-range h n l t;
     filled = h .filled;
+    births = h .births;
     identity = h .identity;
     values = h .values;
     roots = new-roots h n l t;
