@@ -1,10 +1,10 @@
 -- A run of every directory call, collector steps between them, computed by the checker: what the calls answer, and that the table
--- answers the same.
-use Prim.Native.Nat.{ℕ}
+-- answers the same; and one in which the birth numbers run out.
+use Prim.Native.Nat.{ℕ, _-_}
 use mathlib.Core.Path.{_≡_, refl}
 use mathlib.Core.List.{List, [], _∷_, _++_, map}
 use lib.ListN.{replicate}
-use Rattle.rules.specs.Control.{Store, newStore}
+use Rattle.rules.specs.Control.{Store, newStore, withBirths, mostBirths}
 use Rattle.rules.specs.Barriers.{putWrites}
 use Rattle.rules.specs.Calls as calls
 use Rattle.rules.specs.Runs.{Step}
@@ -13,9 +13,9 @@ use Rattle.directory_rules.specs.Table.{Request, Open, Add, Remove, Make
 use Rattle.directory_rules.specs.Directory.{directoryCall, fedNumber, program, append, adding, making, grouping, pairing, joining, leaving, removing, listing, entries, members}
 use Rattle.directory_rules.specs.Runs.{Item, call, request, directoryRun, tableRun, feedsOf}
 
--- halves of 64 words
+-- halves of 76 words
 box : Store
-box = newStore (record { half0 = 64; half1 = 64; list = 21 }) (replicate 64 0) (replicate 64 0) (replicate 21 0)
+box = newStore (record { half0 = 76; half1 = 76; list = 19 }) (replicate 76 0) (replicate 76 0) (replicate 19 0)
 
 requests : List Request
 requests =
@@ -53,3 +53,22 @@ directory-example = refl
 table-example : tableRun newTable (feedsOf box (items requests)) ≡ answers
 unfolding directory
 table-example = refl
+
+-- ---- one birth number left: the store's 16 passes through, and the table is as before
+
+lastOf : Store
+lastOf = withBirths box (mostBirths - 1)
+
+fewer : List Request
+fewer = Open ∷ Add 7 ∷ Add 3 ∷ Make 2 ∷ Add 7 ∷ Remove 3 ∷ Remove 7 ∷ Add 7 ∷ []
+
+refusals : List Given
+refusals = map only (0 ∷ 0 ∷ 16 ∷ 16 ∷ 24 ∷ 23 ∷ 0 ∷ 16 ∷ [])
+
+directory-numbers : directoryRun lastOf (items fewer) ≡ refusals
+unfolding directory lastOf fewer refusals
+directory-numbers = refl
+
+table-numbers : tableRun newTable (feedsOf lastOf (items fewer)) ≡ refusals
+unfolding directory lastOf fewer refusals
+table-numbers = refl

@@ -12,8 +12,6 @@ pub mod Held
 pub mod Commute
 -- a new record in a register
 pub mod Grown
--- what an allocation is fed, from the number of its refusal
-pub mod Feeds
 -- acts on it
 pub mod Perform
 -- an act that makes a call

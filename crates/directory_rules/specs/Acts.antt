@@ -6,6 +6,7 @@ use lib.Dec.{eqb}
 use Rattle.rules.specs.Refusals.{Tested, refused, passed, Reply, answer, words}
 use Rattle.rules.specs.Control.{Store}
 use Rattle.rules.specs.Runs.{Call, Attach, SafePoint, Allocate, Load, StoreRef, Read, Write, Move, Clear, Get, Put, apply, isAllocation}
+use Rattle.rules.specs.Claims.{allocationNumbers}
 use Rattle.rules.specs.declared.Answer.the-variants.{Refused, Done, Word, Same, Phase}
 use Rattle.directory_rules.specs.Table.{among}
 
@@ -125,13 +126,9 @@ callsMade s (ask c f) = callOf c ∷ callsMade (apply s (callOf c) .store) (f (a
 
 -- ---- refused allocations
 
--- the numbers that refuse an allocation for want of room
-abbrev pub roomNumbers : List ℕ
-roomNumbers = 14 ∷ []
-
--- the number by which an allocation was refused for that, or 0
+-- the number by which an allocation was refused as only an allocation is (no room, no birth number left), or 0
 abbrev pub refusedBy : Reply → ℕ
-refusedBy (answer (Refused n)) = cond (among n roomNumbers) n 0
+refusedBy (answer (Refused n)) = cond (among n allocationNumbers) n 0
 refusedBy (answer Done) = 0
 refusedBy (answer (Word w)) = 0
 refusedBy (answer (Same b)) = 0
@@ -139,8 +136,8 @@ refusedBy (answer (Phase p)) = 0
 refusedBy (words ws) = 0
 
 -- the same of the first allocation of an act, or 0 where it makes none
-abbrev pub roomNumber : {A : Type 0} → Store → Act A → ℕ
-roomNumber s (stop n) = 0
-roomNumber s (give a) = 0
-roomNumber s (ask c f) =
-    cond (isAllocation (callOf c)) (refusedBy (apply s (callOf c) .reply)) (roomNumber (apply s (callOf c) .store) (f (apply s (callOf c) .reply)))
+abbrev pub allocationNumber : {A : Type 0} → Store → Act A → ℕ
+allocationNumber s (stop n) = 0
+allocationNumber s (give a) = 0
+allocationNumber s (ask c f) =
+    cond (isAllocation (callOf c)) (refusedBy (apply s (callOf c) .reply)) (allocationNumber (apply s (callOf c) .store) (f (apply s (callOf c) .reply)))

@@ -9,11 +9,11 @@ use Rattle.rules.specs.Refusals.{answer}
 use Rattle.rules.specs.Memory.{null}
 use Rattle.rules.specs.Control.{Store}
 use Rattle.rules.specs.Phases.{sessionAt}
-use Rattle.rules.specs.Runs.{Call, Attach, Detach, SafePoint, Allocate, Load, StoreRef, Read, Write, Move, Clear, SameAs, Get, Put, Stretch, Companion, Step, apply}
-use Rattle.rules.specs.Claims.{Made}
+use Rattle.rules.specs.Runs.{Call, Attach, Detach, SafePoint, Allocate, Load, StoreRef, Read, Write, Move, Clear, SameAs, Get, Put, Stretch, Companion, Birth, Step, apply}
+use Rattle.rules.specs.Claims.{Made, allocationNumbers}
 use Rattle.rules.specs.declared.Answer.the-variants.{Refused}
 use Rattle.directory_rules.specs.Table.{Request, Open, Add, Remove, Make, Join, Leave, Members, newTable, among, unknown, already, notMember, lentBy}
-use Rattle.directory_rules.specs.Acts.{ownSession, roomNumbers, callsMade}
+use Rattle.directory_rules.specs.Acts.{ownSession, callsMade}
 use Rattle.directory_rules.specs.Directory.{directoryCall, programOn}
 use Rattle.directory_rules.specs.Runs.{Item, allowed, afterItems, directoryRun, feedsOf, tableRun}
 
@@ -24,9 +24,9 @@ use Rattle.directory_rules.specs.Runs.{Item, allowed, afterItems, direct
 unfoldable pub TableAnswers : Type 0
 TableAnswers = (s : Store) → Made s → (xs : List Item) → allowed xs ≡ true → directoryRun s xs ≡ tableRun newTable (feedsOf s xs)
 
--- the numbers that come before anything is written: want of room, unknown, already, not a member
+-- the numbers that come before anything is written: those of the allocation, unknown, already, not a member
 abbrev pub byTests : ℕ → Bool
-byTests n = among n (unknown ∷ already ∷ notMember ∷ roomNumbers)
+byTests n = among n (unknown ∷ already ∷ notMember ∷ allocationNumbers)
 
 -- a call refused so has done its safe point and no more
 unfoldable pub SafePointOnly : Type 0
@@ -76,6 +76,7 @@ pub record Beyond (s t : Store) : Type 0 where
   pub phase : s .phase ≡ t .phase
   pub walk : s .walk ≡ t .walk
   pub list : s .list ≡ t .list
+  pub births : s .births ≡ t .births
   pub globals : s .globals ≡ t .globals
   pub others : (n : ℕ) → n ≢ ownSession → sessionAt s n ≡ sessionAt t n
   pub attached : sessionAt s ownSession .attached ≡ sessionAt t ownSession .attached
@@ -104,6 +105,7 @@ sized (Get n to g) xs = xs
 sized (Put n g from) xs = xs
 sized (Stretch n k) xs = xs
 sized (Companion n k) xs = xs
+sized (Birth n k) xs = xs
 sized Step xs = xs
 
 abbrev pub allocations : List Call → List ℕ

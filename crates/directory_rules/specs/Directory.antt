@@ -11,7 +11,7 @@ use lib.ListN.{length, drop}
 use Rattle.rules.specs.Refusals.{Tested, refused, passed}
 use Rattle.rules.specs.Control.{Store}
 use Rattle.directory_rules.specs.Table.{Request, Open, Add, Remove, Make, Join, Leave, Members, Given, unknown, already, notMember, isNumber, refusedWith, nothing}
-use Rattle.directory_rules.specs.Acts.{Ask, attach, safePoint, allocate, load, store, read, write, move, get, put, Act, stop, give, ask, _>>=_, _>>_, demand, must, Found, ended, failed, word, foundIn, atNull, ending, perform, roomNumber}
+use Rattle.directory_rules.specs.Acts.{Ask, attach, safePoint, allocate, load, store, read, write, move, get, put, Act, stop, give, ask, _>>=_, _>>_, demand, must, Found, ended, failed, word, foundIn, atNull, ending, perform, allocationNumber}
 use Rattle.directory_rules.specs.declared.Via.{Via}
 use Rattle.directory_rules.specs.declared.Via.the-variants.{Next, First, Top}
 use Rattle.directory_rules.specs.declared.Place.{Place}
@@ -319,4 +319,4 @@ directoryCall s q =
 
 -- the number by which the store refused the call's allocation for want of room, or 0
 unfoldable pub fedNumber : Store → Request → ℕ
-fedNumber s q = roomNumber s (programOn s q)
+fedNumber s q = allocationNumber s (programOn s q)

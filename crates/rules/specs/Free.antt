@@ -108,6 +108,16 @@ abbrev pub fedRoom : Fed → Bool
 fedRoom fitted = true
 fedRoom noRoom = false
 
+abbrev pub freeAllocated : Free → ℕ → ℕ → ℕ → ℕ → Free
+freeAllocated f n k r p =
+    withFreeRegister
+    (record {
+      sessions = f .sessions;
+      globals = f .globals;
+      records = f .records ++ (record { refs = replicate r null; plains = replicate p 0 } ∷ []);
+    })
+    n k (suc (length (f .records)))
+
 unfoldable pub freeAllocate : Free → ℕ → ℕ → ℕ → ℕ → Fed → Tested (Outcome Free)
 freeAllocate f n k r p fed = do
   x ← freeSessionOf f n
@@ -115,13 +125,7 @@ freeAllocate f n k r p fed = do
   check (isShape r p) 10
   check (fedRoom fed) 14
   check (numberLeft (length (f .records))) 16
-  done (withFreeRegister
-      (record {
-        sessions = f .sessions;
-        globals = f .globals;
-        records = f .records ++ (record { refs = replicate r null; plains = replicate p 0 } ∷ []);
-      })
-      n k (suc (length (f .records))))
+  done (freeAllocated f n k r p)
 
 unfoldable pub freeLoad : Free → ℕ → ℕ → ℕ → ℕ → Tested (Outcome Free)
 freeLoad f n to k i = do

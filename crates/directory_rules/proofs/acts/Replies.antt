@@ -9,12 +9,13 @@ use borrow.Author.Tests.{eqb-true}
 use Rattle.rules.specs.Refusals.{Reply, answer, words}
 use Rattle.rules.specs.Control.{Store}
 use Rattle.rules.specs.Runs.{Call, isAllocation, apply}
-use Rattle.rules.specs.Claims.{storeNumbers, Numbers}
+use Rattle.rules.specs.Claims.{storeNumbers, allocationNumbers, Numbers}
 use Rattle.rules.specs.declared.Answer.the-variants.{Refused, Done, Word, Same, Phase}
 use Rattle.rules.proofs.Ranges.{both}
 use Rattle.rules.proofs.memory.Cases.{bool-or}
 use Rattle.rules.proofs.relation.Replies.{isRefusal}
-use Rattle.rules.proofs.claims.Numbers.{numbers}
+use Rattle.rules.proofs.relation.Rows.{listed}
+use Rattle.rules.proofs.claims.Numbers.{member, numbers}
 use Rattle.directory_rules.specs.Acts.{Act, stop, give, _>>=_, orStop, Found, ended, failed, word, foundIn, atNull}
 use Rattle.directory_rules.specs.Claims.{byTests}
 
@@ -79,12 +80,12 @@ every-at : (f : ℕ → Bool) {n : ℕ} {ns : List ℕ} → List·Memᴰ n ns �
 every-at f {n} {ns} (List·Memᴰ·head {x} {xs} e) h = rw e (both (f x) (every f xs) h .0)
 every-at f (List·Memᴰ·tail {x} {xs} i) h = every-at f i (both (f x) (every f xs) h .1)
 
-number-fits : (n : ℕ) → List·Memᴰ n storeNumbers → n ≢ 14 → Fits true n
+number-fits : (n : ℕ) → List·Memᴰ n storeNumbers → ¬ List·Memᴰ n allocationNumbers → Fits true n
 number-fits n i d =
-    let e = every-at (λ k. not (byTests k) || eqb k 14) i refl in
-    bool-or (byTests n) (λ t. absurd (d (eqb-true n 14 (rw t at e)))) (λ t. rw t)
+    let e = every-at (λ k. not (byTests k) || listed k allocationNumbers) i refl in
+    bool-or (byTests n) (λ t. absurd (d (member n allocationNumbers (rw t at e)))) (λ t. rw t)
 
-reply-fits : (c : Call) → isAllocation c ≡ false → (r : Reply) → ((n : ℕ) → r ≡ answer (Refused n) → List·Memᴰ n storeNumbers × (n ≡ 14 → isAllocation c ≡ true)) → ReplyFits true r
+reply-fits : (c : Call) → isAllocation c ≡ false → (r : Reply) → ((n : ℕ) → r ≡ answer (Refused n) → List·Memᴰ n storeNumbers × (List·Memᴰ n allocationNumbers → isAllocation c ≡ true)) → ReplyFits true r
 reply-fits c a (answer (Refused n)) h = refusal n (number-fits n (h n refl .0) (λ e. true≢false (sym (h n refl .1 e) ∙ a)))
 reply-fits c a (answer Done) h = other (answer Done) refl
 reply-fits c a (answer (Word w)) h = other (answer (Word w)) refl

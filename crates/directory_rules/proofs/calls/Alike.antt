@@ -3,7 +3,6 @@ use Prim.Native.Nat.{ℕ}
 use mathlib.Core.Path.{_≡_, refl}
 use mathlib.Core.Bool.{Bool, true, false, cond, not}
 use Rattle.rules.specs.Refusals.{Tested, refused, passed, check, _>>=_ as _>>>=_, _>>_ as _>>>_}
-use Rattle.rules.specs.Runs.{Fed}
 use Rattle.rules.specs.Free.{Free}
 use Rattle.directory_rules.specs.Table.{Table}
 use Rattle.directory_rules.specs.Acts.{Act, stop, give, _>>=_, _>>_, demand, Performed}
@@ -18,7 +17,7 @@ pub data Alike (n : ℕ) (y : Layout) (t : Table) {A B : Type 0} (R : Free → A
   refuse : {g : Free} {m : ℕ} → p ≡ record { store = g; result = refused m } → Within n g y t → Alike n y t R p (refused m)
   pass : {g : Free} {x : A} {b : B} → p ≡ record { store = g; result = passed x } → R g x b → Alike n y t R p (passed b)
 
-module _ {n : ℕ} {y : Layout} {t : Table} {A B C D : Type 0} {R : Free → A → B → Type 0} {S : Free → C → D → Type 0} (fed : Fed) (f : Free) where
+module _ {n : ℕ} {y : Layout} {t : Table} {A B C D : Type 0} {R : Free → A → B → Type 0} {S : Free → C → D → Type 0} (fed : ℕ) (f : Free) where
   -- one after another
   pub alike-then : (a : Act A) (k : A → Act C) {tb : Tested B} {l : B → Tested D} → Alike n y t R (freePerform fed f a) tb
       → ((g : Free) (x : A) (b : B) → R g x b → Alike n y t S (freePerform fed g (k x)) (l b))
@@ -26,7 +25,7 @@ module _ {n : ℕ} {y : Layout} {t : Table} {A B C D : Type 0} {R : Free → A �
   alike-then a k (refuse e h) c = refuse (then-refused fed f a k e) h
   alike-then a k (pass e r) c = rw (then-passed fed f a k e) (c _ _ _ r)
 
-module _ {n : ℕ} {y : Layout} {t : Table} {C D : Type 0} {S : Free → C → D → Type 0} (fed : Fed) {f : Free} (within : Within n f y t) where
+module _ {n : ℕ} {y : Layout} {t : Table} {C D : Type 0} {S : Free → C → D → Type 0} (fed : ℕ) {f : Free} (within : Within n f y t) where
   -- a test on both sides
   pub alike-demand : (b : Bool) (m : ℕ) (k : Act C) {u : Tested D} → (b ≡ true → Alike n y t S (freePerform fed f k) u)
       → Alike n y t S (freePerform fed f (demand b m >> k)) (check b m >>> u)

@@ -4,7 +4,6 @@ use mathlib.Core.Path.{_≡_, refl, sym, _∙_}
 use mathlib.Core.Bool.{Bool, true, false}
 use Rattle.rules.specs.Control.{registerCount}
 use Rattle.rules.specs.Refusals.{Tested, check, answer, _>>_ as _>>>_}
-use Rattle.rules.specs.Runs.{Fed}
 use Rattle.rules.specs.Free.{Free, freeSession, freeSessionOf}
 use Rattle.rules.specs.declared.Answer.the-variants.{Refused, Done}
 use Rattle.directory_rules.specs.Table.{Request, Table, Given, nothing, notOpen, givenBy}
@@ -38,15 +37,15 @@ within-cleared {n} few h =
       cleared = nulled-all n few (h .core .store .shaped) (h .above);
     }
 
-safe-open : (fed : Fed) (f : Free) → freeSession f ownSession .attached ≡ true → freeAsk fed f safePoint ≡ record { store = f; reply = answer Done }
+safe-open : (fed : ℕ) (f : Free) → freeSession f ownSession .attached ≡ true → freeAsk fed f safePoint ≡ record { store = f; reply = answer Done }
 unfolding freeSessionOf
 safe-open fed f e = rw e
 
-safe-shut : (fed : Fed) (f : Free) → freeSession f ownSession .attached ≡ false → freeAsk fed f safePoint ≡ record { store = f; reply = answer (Refused notOpen) }
+safe-shut : (fed : ℕ) (f : Free) → freeSession f ownSession .attached ≡ false → freeAsk fed f safePoint ≡ record { store = f; reply = answer (Refused notOpen) }
 unfolding freeSessionOf
 safe-shut fed f e = rw e
 
-module _ {n : ℕ} {y : Layout} {t : Table} (fed : Fed) (f : Free) where
+module _ {n : ℕ} {y : Layout} {t : Table} (fed : ℕ) (f : Free) where
   pub alike-plainly : (a : Act (Unit {0})) {tn : Tested Table} → Carries n y t (freePerform fed f a) tn
       → Alike n y t (Result (λ u. nothing) n) (freePerform fed f (plainly a)) tn
   alike-plainly a (refuse e h) = refuse (then-refused fed f a (λ u. give nothing) e) h

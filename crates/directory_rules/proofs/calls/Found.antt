@@ -5,7 +5,6 @@ use mathlib.Core.Logic.{_⊎_, inl, inr}
 use mathlib.Core.Bool.{Bool, true, false, false≢true, true≢false}
 use mathlib.Core.List.{List, [], _∷_, _++_, map, append-nil, List·Memᴰ, List·Memᴰ·head, Memᴰ·append-left, Memᴰ·append-right}
 use native.Mathlib.Omega.{arith}
-use Rattle.rules.specs.Runs.{Fed}
 use Rattle.rules.specs.Free.{Free}
 use Rattle.rules.proofs.memory.Cases.{bool-or, either}
 use Rattle.directory_rules.specs.Table.{Table, among, lastNumber}
@@ -80,7 +79,7 @@ module _ {f : Free} {sl : Slot} {qs : List ℕ} {key left : ℕ} {p : Performed 
 
 -- ---- the walks over the entries
 
-pub entries-walked : {m half : ℕ} (fed : Fed) {f : Free} {y : Layout} {t : Table} → Within m f y t → Short half y → (key least : ℕ)
+pub entries-walked : {m half : ℕ} (fed : ℕ) {f : Free} {y : Layout} {t : Table} → Within m f y t → Short half y → (key least : ℕ)
     → Walked f top (y .groups ++ y .people) key least half (freePerform fed f (entries half key least))
 entries-walked {half = half} fed within short key least =
     entries-walks fed (within-ready within) (within .core .store .own) (λ z. omega arith) half key least (within .core .entries) (short .entries)

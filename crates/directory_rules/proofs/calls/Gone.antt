@@ -8,7 +8,6 @@ use lib.Dec.{eqb}
 use lib.ListN.{length}
 use Rattle.rules.specs.Control.{registerCount}
 use Rattle.rules.specs.Refusals.{passed}
-use Rattle.rules.specs.Runs.{Fed}
 use Rattle.rules.specs.Free.{Free}
 use Rattle.rules.proofs.memory.Cases.{bool-or}
 use Rattle.directory_rules.specs.Table.{Table, withPairs}
@@ -85,7 +84,7 @@ shorter true xs ls a b = a
 shorter false xs ls a b = b
 
 -- the group at place q, of number a
-module _ (fed : Fed) {r half : ℕ} (many : groupRegister < r) (few : r ≤ registerCount) (n : ℕ) {f : Free} {y : Layout} {t : Table} (within : Within r f y t)
+module _ (fed : ℕ) {r half : ℕ} (many : groupRegister < r) (few : r ≤ registerCount) (n : ℕ) {f : Free} {y : Layout} {t : Table} (within : Within r f y t)
     (short : Short half y) {q : ℕ} (mine : List·Memᴰ q (y .groups)) (a : ℕ) (is : numberAt f q ≡ groupMark + a) where
   cut-leaves : {p : Performed Free Place} (s : Sought r y t f n q p)
       → Leaves r 2 half n (a ∷ []) f y t (freePerform fed (s .after) (cutFound (s .position)))

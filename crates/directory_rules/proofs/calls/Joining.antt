@@ -7,7 +7,6 @@ use native.Mathlib.Omega.{arith}
 use lib.Dec.{eqb}
 use Rattle.rules.specs.Control.{registerCount}
 use Rattle.rules.specs.Refusals.{Tested, passed, check, _>>_ as _>>>_}
-use Rattle.rules.specs.Runs.{Fed}
 use Rattle.rules.specs.Free.{Free}
 use Rattle.directory_rules.specs.Table.{Table, Join, paired, already, withPairs, tableNext}
 use Rattle.directory_rules.specs.Acts.{_>>_}
@@ -15,7 +14,6 @@ use Rattle.directory_rules.specs.Directory.{absent, append, pairing, joi
 use Rattle.directory_rules.specs.declared.Place.{Place}
 use Rattle.directory_rules.proofs.tables.Pairs.{paired-members}
 use Rattle.directory_rules.proofs.free.Slots.{field, slotAfter}
-use Rattle.directory_rules.proofs.free.Feeds.{Feeds}
 use Rattle.directory_rules.proofs.free.Perform.{freePerform}
 use Rattle.directory_rules.proofs.chains.Core.{Layout, Short, Represents}
 use Rattle.directory_rules.proofs.chains.Entries.{links-there}
@@ -31,8 +29,8 @@ use Rattle.directory_rules.proofs.calls.Append.{append-ends}
 abbrev joined : Table → ℕ → ℕ → ℕ → Tested Table
 joined t n g k = check (not (paired n g (t .pairs))) already >>> (check (eqb k 0) k >>> passed (withPairs t (t .pairs ++ (record { person = n; group = g } ∷ []))))
 
-module _ {m k : ℕ} {fed : Fed} (many : groupRegister < m) (few : m ≤ registerCount) {y : Layout} {t : Table} (feeds : Feeds k fed) (n g : ℕ) where
-  behind-members : (h : Free) (x : Place) (u : Unit {0}) → Paired m y t n g h x u → Carries m y t (freePerform fed h (absent x already >> append x n)) (joined t n g k)
+module _ {m : ℕ} (fed : ℕ) (many : groupRegister < m) (few : m ≤ registerCount) {y : Layout} {t : Table} (n g : ℕ) where
+  behind-members : (h : Free) (x : Place) (u : Unit {0}) → Paired m y t n g h x u → Carries m y t (freePerform fed h (absent x already >> append x n)) (joined t n g fed)
   behind-members h x u r =
       let c = r .within .core in
       let links = y .links (r .group) in
@@ -40,17 +38,17 @@ module _ {m k : ℕ} {fed : Fed} (many : groupRegister < m) (few : m ≤ registe
       alike-absent fed (r .within) x (paired n g (t .pairs)) already found (append x n)
       (λ e. append-ends (r .within) (omega arith) few (x .at) (x .via) n (r .at .low)
       (r .at .slot ∙ ap (slotAfter (field (r .group) firstField)) (r .at .absent e)) (links-there c (r .member) links [] (sym (append-nil links))) (r .within .opened)
-      (core-link c n g (r .group) (r .member) (r .number) (sym (paired-members n g (t .pairs)) ∙ sym found ∙ e)) feeds (x .found) (x .left))
+      (core-link c n g (r .group) (r .member) (r .number) (sym (paired-members n g (t .pairs)) ∙ sym found ∙ e)) fed (x .found) (x .left))
 
-  joining-alike : {half : ℕ} {f : Free} → Short half y → Within m f y t → Carries m y t (freePerform fed f (joining half n g)) (pairTests t n g >>> joined t n g k)
+  joining-alike : {half : ℕ} {f : Free} → Short half y → Within m f y t → Carries m y t (freePerform fed f (joining half n g)) (pairTests t n g >>> joined t n g fed)
   unfolding joining
   joining-alike {half} {f} short within =
       alike-then fed f (pairing half n g) (λ w. absent w already >> append w n) (pairing-alike fed many few short within n g) behind-members
 
-pub joining-kept : {half k : ℕ} {fed : Fed} {f : Free} {y : Layout} {t : Table} → Feeds k fed → Represents f y t → Short half y → (n g : ℕ)
-    → RequestKept half fed k f t (Join n g)
+pub joining-kept : {half : ℕ} (fed : ℕ) {f : Free} {y : Layout} {t : Table} → Represents f y t → Short half y → (n g : ℕ)
+    → RequestKept half fed f t (Join n g)
 unfolding program tableNext
-joining-kept {half} {k} {fed} {f} {y} {t} feeds r short n g =
-    rw (known-first t n g (joined t n g k))
+joining-kept {half} fed {f} {y} {t} r short n g =
+    rw (known-first t n g (joined t n g fed))
     (around fed f (Join n g) (omega arith) (plainly (joining half n g)) r
-    (λ h. alike-plainly fed f (joining half n g) (joining-alike (omega arith) (omega arith) feeds n g short h)))
+    (λ h. alike-plainly fed f (joining half n g) (joining-alike fed (omega arith) (omega arith) n g short h)))

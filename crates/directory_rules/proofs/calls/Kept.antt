@@ -5,7 +5,6 @@ use mathlib.Core.Bool.{true}
 use native.Mathlib.Omega.{arith}
 use Rattle.rules.specs.Memory.{null}
 use Rattle.rules.specs.Refusals.{Tested}
-use Rattle.rules.specs.Runs.{Fed}
 use Rattle.rules.specs.Free.{Free, freeSession}
 use Rattle.directory_rules.specs.Table.{Request, Table, Given, tableNext, tableGiven, tableAfter}
 use Rattle.directory_rules.specs.Acts.{ownSession, Performed}
@@ -21,9 +20,9 @@ pub record Kept (q : Request) (t : Table) (next : Tested Table) (p : Performed F
   pub layout : Layout
   pub represents : Represents (p .store) layout (tableAfter t next)
 
--- such is a call; its allocation is fed, and the table is fed the number n
-abbrev pub RequestKept : ℕ → Fed → ℕ → Free → Table → Request → Type 0
-RequestKept half fed n f t q = Kept q t (tableNext t q n) (freePerform fed f (program half q))
+-- such is a call; its allocation is fed the number that the table is fed
+abbrev pub RequestKept : ℕ → ℕ → Free → Table → Request → Type 0
+RequestKept half fed f t q = Kept q t (tableNext t q fed) (freePerform fed f (program half q))
 
 -- within a call that uses n registers: the table is carried, the session is attached, its other registers are null
 pub record Within (n : ℕ) (f : Free) (y : Layout) (t : Table) : Type 0 where

@@ -4,7 +4,6 @@ use mathlib.Core.Path.{refl}
 use native.Mathlib.Omega.{arith}
 use Rattle.rules.specs.Control.{registerCount}
 use Rattle.rules.specs.Refusals.{Tested, passed, check, _>>_ as _>>>_}
-use Rattle.rules.specs.Runs.{Fed}
 use Rattle.rules.specs.Free.{Free}
 use Rattle.directory_rules.specs.Table.{Table, Leave, paired, unpair, notMember, withPairs, tableNext}
 use Rattle.directory_rules.specs.Acts.{_>>_}
@@ -22,7 +21,7 @@ use Rattle.directory_rules.proofs.calls.Pairing.{Paired, pairTests, pai
 abbrev left : Table → ℕ → ℕ → Tested Table
 left t n g = check (paired n g (t .pairs)) notMember >>> passed (withPairs t (unpair n g (t .pairs)))
 
-module _ {m : ℕ} (fed : Fed) (many : groupRegister < m) (few : m ≤ registerCount) {y : Layout} {t : Table} (n g : ℕ) where
+module _ {m : ℕ} (fed : ℕ) (many : groupRegister < m) (few : m ≤ registerCount) {y : Layout} {t : Table} (n g : ℕ) where
   behind-members : (h : Free) (x : Place) (u : Unit {0}) → Paired m y t n g h x u
       → Carries m y t (freePerform fed h (present x notMember >> cut (x .at) (x .via))) (left t n g)
   behind-members h x u r =
@@ -36,10 +35,10 @@ module _ {m : ℕ} (fed : Fed) (many : groupRegister < m) (few : m ≤ registerC
   leaving-alike {half} {f} short within =
       alike-then fed f (pairing half n g) (λ w. present w notMember >> cut (w .at) (w .via)) (pairing-alike fed many few short within n g) behind-members
 
-pub leaving-kept : {half : ℕ} (fed : Fed) (k : ℕ) {f : Free} {y : Layout} {t : Table} → Represents f y t → Short half y → (n g : ℕ)
-    → RequestKept half fed k f t (Leave n g)
+pub leaving-kept : {half : ℕ} (fed : ℕ) {f : Free} {y : Layout} {t : Table} → Represents f y t → Short half y → (n g : ℕ)
+    → RequestKept half fed f t (Leave n g)
 unfolding program tableNext
-leaving-kept {half} fed k {f} {y} {t} r short n g =
+leaving-kept {half} fed {f} {y} {t} r short n g =
     rw (known-first t n g (left t n g))
     (around fed f (Leave n g) (omega arith) (plainly (leaving half n g)) r
     (λ h. alike-plainly fed f (leaving half n g) (leaving-alike fed (omega arith) (omega arith) n g short h)))

@@ -7,7 +7,6 @@ use lib.ListN.{length}
 use borrow.Author.Tests.{lt-ltb, le-ltb}
 use Rattle.rules.specs.Control.{registerCount}
 use Rattle.rules.specs.Refusals.{passed}
-use Rattle.rules.specs.Runs.{Fed}
 use Rattle.rules.specs.Free.{Free}
 use Rattle.directory_rules.specs.Table.{Table}
 use Rattle.directory_rules.specs.Acts.{Act, Found, load, must, _>>=_, _>>_}
@@ -28,7 +27,7 @@ use Rattle.directory_rules.proofs.walks.Reading.{reads-end, reads-word}
 use Rattle.directory_rules.proofs.calls.Kept.{Within, within-ready}
 use Rattle.directory_rules.proofs.calls.Gone.{gone-same, Leaves, leaves-then, leaves-one}
 
-module _ (fed : Fed) (half n : ℕ) where
+module _ (fed : ℕ) (half n : ℕ) where
   -- what is done for the word of an entry
   abbrev each : ℕ → Found → Act (Unit {0})
   each left = eachGroup (members half n >>= λ w. cutFound w >> must (load groupRegister groupRegister nextField) >> leavingAll left half n)

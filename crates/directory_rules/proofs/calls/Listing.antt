@@ -11,7 +11,6 @@ use lib.Seq.{take-all, take-length, drop-length, length-take-le}
 use borrow.Author.Tests.{leb-true, leb-false}
 use Rattle.rules.specs.Control.{registerCount}
 use Rattle.rules.specs.Refusals.{passed, check, _>>_ as _>>>_}
-use Rattle.rules.specs.Runs.{Fed}
 use Rattle.rules.specs.Free.{Free}
 use Rattle.directory_rules.specs.Table.{Table, Given, Members, among, membersOf, isNumber, unknown, listed, givenBy, tableNext}
 use Rattle.directory_rules.specs.Acts.{Act, give, load, must, _>>=_, _>>_}
@@ -68,7 +67,7 @@ least-first a b = go (leb a b) refl
 abbrev withFirst : ℕ → Free → Free
 withFirst q f = setReg f 0 (held f (field q firstField))
 
-module _ {m half : ℕ} (fed : Fed) (many : groupRegister < m) {y : Layout} {t : Table} (short : Short half y) (q : ℕ) (member : List·Memᴰ q (y .groups))
+module _ {m half : ℕ} (fed : ℕ) (many : groupRegister < m) {y : Layout} {t : Table} (short : Short half y) (q : ℕ) (member : List·Memᴰ q (y .groups))
     {f : Free} (within : Within m f y t) (own : reg f groupRegister ≡ q) where
   first-only : OnlyRegs 1 f (withFirst q f)
   first-only = set-only f 0 (held f (field q firstField)) (within .core .store .shaped) 1 (omega arith)
@@ -106,7 +105,7 @@ takingFor out k = takingFirst (least k (length out)) >>= λ xs. give (givenWith 
 abbrev listingFor : ℕ → List ℕ → Act Given
 listingFor half out = must (load 0 groupRegister firstField) >> (counting half 0 >>= takingFor out)
 
-module _ {m half : ℕ} (fed : Fed) (many : groupRegister < m) {y : Layout} {t : Table} (short : Short half y) (g : ℕ) (out : List ℕ)
+module _ {m half : ℕ} (fed : ℕ) (many : groupRegister < m) {y : Layout} {t : Table} (short : Short half y) (g : ℕ) (out : List ℕ)
     (h : Free) (x : Place) (u : Unit {0}) (r : Grouped m half y t g h x u) where
   abbrev q : ℕ
   q = r .group .record-at
@@ -136,7 +135,7 @@ module _ {m half : ℕ} (fed : Fed) (many : groupRegister < m) {y : Layout} {t :
   behind-group : Alike m y t (Result (givenBy (Members g out)) m) (freePerform fed h (listingFor half out)) (passed t)
   behind-group = all-listed (counted fed many short q member (r .within) (r .own))
 
-listing-alike : {m half : ℕ} (fed : Fed) → groupRegister < m → m ≤ registerCount → {f : Free} {y : Layout} {t : Table} → Short half y → Within m f y t → (g : ℕ) (out : List ℕ)
+listing-alike : {m half : ℕ} (fed : ℕ) → groupRegister < m → m ≤ registerCount → {f : Free} {y : Layout} {t : Table} → Short half y → Within m f y t → (g : ℕ) (out : List ℕ)
     → Alike m y t (Result (givenBy (Members g out)) m) (freePerform fed f (listing half g out))
     (check (isNumber g) unknown >>> (check (among g (t .groups)) unknown >>> passed t))
 unfolding listing
@@ -144,8 +143,8 @@ listing-alike {half = half} fed many few {f} short within g out =
     alike-demand fed within (isNumber g) unknown (grouping half g >>= λ w. listingFor half out)
     (λ e. alike-then fed f (grouping half g) (λ w. listingFor half out) (grouping-alike fed many few short within g) (behind-group fed many short g out))
 
-pub listing-kept : {half : ℕ} (fed : Fed) (k : ℕ) {f : Free} {y : Layout} {t : Table} → Represents f y t → Short half y → (g : ℕ) (out : List ℕ)
-    → RequestKept half fed k f t (Members g out)
+pub listing-kept : {half : ℕ} (fed : ℕ) {f : Free} {y : Layout} {t : Table} → Represents f y t → Short half y → (g : ℕ) (out : List ℕ)
+    → RequestKept half fed f t (Members g out)
 unfolding program tableNext
-listing-kept {half} fed k {f} r short g out =
+listing-kept {half} fed {f} r short g out =
     around fed f (Members g out) (omega arith) (listing half g out) r (λ h. listing-alike fed (omega arith) (omega arith) short h g out)

@@ -6,10 +6,11 @@ use mathlib.Core.Bool.{false, not}
 use mathlib.Core.List.{[], _∷_, _++_}
 use native.Mathlib.Omega.{arith}
 use lib.Dec.{eqb}
+use borrow.Author.Tests.{ne-eqb}
 use Rattle.rules.specs.Control.{registerCount}
 use Rattle.rules.specs.Refusals.{passed, check, answer, _>>_ as _>>>_}
-use Rattle.rules.specs.Runs.{Fed, fitted, noRoom}
 use Rattle.rules.specs.Free.{Free}
+use Rattle.rules.proofs.memory.Cases.{eq-or}
 use Rattle.rules.specs.declared.Answer.the-variants.{Done}
 use Rattle.directory_rules.specs.Table.{Table, Make, among, isNumber, unknown, already, withGroups, tableNext}
 use Rattle.directory_rules.specs.Acts.{Act, store, must, _>>=_, _>>_}
@@ -22,7 +23,6 @@ use Rattle.directory_rules.proofs.free.Registers.{only-held, only-there
 use Rattle.directory_rules.proofs.free.Held.{grow-there, written-there}
 use Rattle.directory_rules.proofs.free.Commute.{only-written, written-reg, written-ready}
 use Rattle.directory_rules.proofs.free.Grown.{grown, grown-only, grown-ready, grown-at, grown-other}
-use Rattle.directory_rules.proofs.free.Feeds.{Feeds, room, no-room}
 use Rattle.directory_rules.proofs.free.Perform.{freeAsk, freePerform}
 use Rattle.directory_rules.proofs.free.Must.{must-done}
 use Rattle.directory_rules.proofs.free.Steps.{store-step, link-step, fresh-grows, fresh-refused}
@@ -89,12 +89,12 @@ module _ {m : ℕ} (many : groupRegister < m) (few : m ≤ registerCount) {f : F
   second-reg : (k : ℕ) → reg second k ≡ reg first k
   second-reg = written-reg first own (held f end)
 
-  named : freeAsk fitted first (store groupRegister nextField at) ≡ record { store = second; reply = answer Done }
-  named = store-step fitted first-ready groupRegister nextField at (omega arith) (omega arith) (grown-at ready groupRegister 2 word (omega arith)) own-there
+  named : freeAsk 0 first (store groupRegister nextField at) ≡ record { store = second; reply = answer Done }
+  named = store-step 0 first-ready groupRegister nextField at (omega arith) (omega arith) (grown-at ready groupRegister 2 word (omega arith)) own-there
       ∙ rw (first-other at (λ e. omega arith), next)
 
-  linked : freePerform fitted second (link at via groupRegister) ≡ record { store = third; result = passed tt }
-  linked = link-step fitted (written-ready first own (held f end) first-ready) at via groupRegister low (omega arith)
+  linked : freePerform 0 second (link at via groupRegister) ≡ record { store = third; result = passed tt }
+  linked = link-step 0 (written-ready first own (held f end) first-ready) at via groupRegister low (omega arith)
       (entry-slot f second at via (y .groups) slot (second-reg (otherOf at) ∙ first-other (otherOf at) (λ e. omega arith)))
       (second-reg groupRegister ∙ grown-at ready groupRegister 2 word (omega arith)) end-there
 
@@ -106,17 +106,17 @@ module _ {m : ℕ} (many : groupRegister < m) (few : m ≤ registerCount) {f : F
     above = λ k l. written-reg second end (newPlace f) k ∙ second-reg k ∙ first-other k (λ e. omega arith) ∙ within .above k l;
   }
 
-  group-ends : {k : ℕ} {fed : Fed} → Feeds k fed
-      → Carries m y t (freePerform fed f (newGroup g at via)) (check (eqb k 0) k >>> passed (withGroups t (t .groups ++ (g ∷ []))))
-  group-ends room =
-      pass
-      (then-passed fitted f (fresh groupRegister 2 word) (λ x. naming at via) (fresh-grows ready groupRegister 2 word (omega arith) (omega arith))
-      ∙ must-done fitted first (store groupRegister nextField at) (λ x. link at via groupRegister) named ∙ linked)
-      (record { is = refl; layout = withGroup y (newPlace f); within = ends })
-  group-ends no-room =
-      refuse (then-refused noRoom f (fresh groupRegister 2 word) (λ x. naming at via) (fresh-refused ready groupRegister 2 word (omega arith) (omega arith))) within
+  group-ends : (fed : ℕ)
+      → Carries m y t (freePerform fed f (newGroup g at via)) (check (eqb fed 0) fed >>> passed (withGroups t (t .groups ++ (g ∷ []))))
+  group-ends fed = eq-or fed 0
+      (λ e. rw e (pass
+      (then-passed 0 f (fresh groupRegister 2 word) (λ x. naming at via) (fresh-grows ready groupRegister 2 word (omega arith) (omega arith))
+      ∙ must-done 0 first (store groupRegister nextField at) (λ x. link at via groupRegister) named ∙ linked)
+      (record { is = refl; layout = withGroup y (newPlace f); within = ends })))
+      (λ d. rw (ne-eqb fed 0 d)
+      (refuse (then-refused fed f (fresh groupRegister 2 word) (λ x. naming at via) (fresh-refused d ready groupRegister 2 word (omega arith) (omega arith))) within))
 
-module _ {m half k : ℕ} {fed : Fed} {f : Free} {y : Layout} {t : Table} (many : groupRegister < m) (few : m ≤ registerCount) (feeds : Feeds k fed) (short : Short half y)
+module _ {m half : ℕ} (fed : ℕ) {f : Free} {y : Layout} {t : Table} (many : groupRegister < m) (few : m ≤ registerCount) (short : Short half y)
     (within : Within m f y t) (g : ℕ) where
   abbrev behind : Place → Act (Unit {0})
   behind w = absent w already >> newGroup g (w .at) (w .via)
@@ -124,7 +124,7 @@ module _ {m half k : ℕ} {fed : Fed} {f : Free} {y : Layout} {t : Table} (many 
   -- behind the walk over the groups
   behind-groups : Walked f top (y .groups ++ y .people) (groupMark + g) groupMark half (freePerform fed f (groupEntry half g))
       → Carries m y t (freePerform fed f (groupEntry half g >>= behind))
-      (check (not (among g (t .groups))) already >>> (check (eqb k 0) k >>> passed (withGroups t (t .groups ++ (g ∷ [])))))
+      (check (not (among g (t .groups))) already >>> (check (eqb fed 0) fed >>> passed (withGroups t (t .groups ++ (g ∷ [])))))
   behind-groups w =
       let h : Within m (w .after) y t = within-regs (w .regs) (omega arith) within in
       let found : w .found ≡ among g (t .groups) = group-found (within .core) g w in
@@ -133,17 +133,17 @@ module _ {m half k : ℕ} {fed : Fed} {f : Free} {y : Layout} {t : Table} (many 
       (λ e.
       let s : slotAfter top (w .xs) ≡ slotAfter top (y .groups) = ap (slotAfter top) (groups-passed (within .core) g w e) in
       group-ends many few h g (w .at) (w .via) (w .low) (sym found ∙ e) (w .slot ∙ s)
-      (w .here ∙ ap (held f) s ∙ sym (only-held (w .regs) (slotAfter top (y .groups)))) feeds))
+      (w .here ∙ ap (held f) s ∙ sym (only-held (w .regs) (slotAfter top (y .groups)))) fed))
 
   making-alike : Carries m y t (freePerform fed f (making half g))
-      (check (isNumber g) unknown >>> (check (not (among g (t .groups))) already >>> (check (eqb k 0) k >>> passed (withGroups t (t .groups ++ (g ∷ []))))))
+      (check (isNumber g) unknown >>> (check (not (among g (t .groups))) already >>> (check (eqb fed 0) fed >>> passed (withGroups t (t .groups ++ (g ∷ []))))))
   unfolding making
   making-alike = alike-demand fed within (isNumber g) unknown (groupEntry half g >>= behind)
       (λ e. behind-groups (entries-walked fed within short (groupMark + g) groupMark))
 
-pub making-kept : {half k : ℕ} {fed : Fed} {f : Free} {y : Layout} {t : Table} → Feeds k fed → Represents f y t → Short half y → (g : ℕ)
-    → RequestKept half fed k f t (Make g)
+pub making-kept : {half : ℕ} (fed : ℕ) {f : Free} {y : Layout} {t : Table} → Represents f y t → Short half y → (g : ℕ)
+    → RequestKept half fed f t (Make g)
 unfolding program tableNext
-making-kept {half} {fed = fed} {f} feeds r short g =
+making-kept {half} fed {f} r short g =
     around fed f (Make g) (omega arith) (plainly (making half g)) r
-    (λ h. alike-plainly fed f (making half g) (making-alike (omega arith) (omega arith) feeds short h g))
+    (λ h. alike-plainly fed f (making half g) (making-alike fed (omega arith) (omega arith) short h g))

@@ -8,7 +8,6 @@ use native.Mathlib.Omega.{arith}
 use lib.ListN.{length, getD, length-append}
 use Rattle.rules.specs.Control.{registerCount}
 use Rattle.rules.specs.Refusals.{passed}
-use Rattle.rules.specs.Runs.{Fed}
 use Rattle.rules.specs.Free.{Free}
 use Rattle.directory_rules.specs.Table.{Table, among, paired, unpair, withPairs}
 use Rattle.directory_rules.specs.Acts.{load, Performed}
@@ -82,7 +81,7 @@ module _ {m : ℕ} {f : Free} {y : Layout} {t : Table} (within : Within m f y t)
         };
       }
 
-  pub members-sought : (fed : Fed) {half : ℕ} → Short half y → (n q : ℕ) → List·Memᴰ q (y .groups) → reg f groupRegister ≡ q
+  pub members-sought : (fed : ℕ) {half : ℕ} → Short half y → (n q : ℕ) → List·Memᴰ q (y .groups) → reg f groupRegister ≡ q
       → Sought m y t f n q (freePerform fed f (members half n))
   members-sought fed {half} short n q i e =
       let c = within .core in
@@ -133,7 +132,7 @@ module _ {m : ℕ} {f : Free} {y : Layout} {t : Table} (within : Within m f y t)
   loaded-reg : (k : ℕ) → k ≢ x .at → reg loaded k ≡ reg f k
   loaded-reg = reg-other f (x .at) next (c .store .shaped)
 
-  linked : (fed : Fed) → freePerform fed loaded (link (x .at) (x .via) (x .at)) ≡ record { store = written loaded slot next; result = passed tt }
+  linked : (fed : ℕ) → freePerform fed loaded (link (x .at) (x .via) (x .at)) ≡ record { store = written loaded slot next; result = passed tt }
   linked fed = link-step fed loaded-ready (x .at) (x .via) (x .at) (w .low) (omega (arith, w .low))
       (slot-same f loaded (x .at) (x .via) (loaded-reg (otherOf (x .at)) (λ e. omega (arith, w .low))) (loaded-reg groupRegister (λ e. omega (arith, w .low))) ∙ w .slot)
       (reg-same f (x .at) next (c .store .shaped) (omega (arith, w .low)))
@@ -143,7 +142,7 @@ module _ {m : ℕ} {f : Free} {y : Layout} {t : Table} (within : Within m f y t)
   kept-reg : (k : ℕ) → 2 ≤ k → reg (written loaded slot next) k ≡ reg f k
   kept-reg k b = written-reg loaded slot next k ∙ loaded-reg k (λ e. omega (arith, w .low))
 
-  pub cut-ends : (fed : Fed) → CutEnds m y t f n g q (freePerform fed f (cut (x .at) (x .via)))
+  pub cut-ends : (fed : ℕ) → CutEnds m y t f n g q (freePerform fed f (cut (x .at) (x .via)))
   cut-ends fed = record {
     after = written loaded slot next;
     links = w .before ++ l .rest;

@@ -9,7 +9,6 @@ use lib.Seq.{getD-set-same, getD-set-other}
 use Rattle.rules.specs.Memory.{null}
 use Rattle.rules.specs.Control.{registerCount}
 use Rattle.rules.specs.Refusals.{passed, check, answer, _>>_ as _>>>_}
-use Rattle.rules.specs.Runs.{Fed}
 use Rattle.rules.specs.Free.{Free, FreeSession, freeSession, freeRegister, freeNobody, freeAbsent, freeAttach, recordAt, withFreeAttached, withFreeSession}
 use Rattle.rules.specs.declared.Answer.the-variants.{Refused, Done}
 use Rattle.rules.proofs.memory.Lists.{zeros}
@@ -64,7 +63,7 @@ module _ {f : Free} {y : Layout} {t : Table} (r : Represents f y t) where
     cleared = λ k. ap (λ (x : FreeSession). getD (x .registers) k null) own-session ∙ zeros registerCount k;
   }
 
-module _ (fed : Fed) (f : Free) where
+module _ (fed : ℕ) (f : Free) where
   attach-again : freeSession f ownSession .attached ≡ true → freeAsk fed f attach ≡ record { store = f; reply = answer (Refused openAlready) }
   unfolding freeAttach
   attach-again e = rw e
@@ -83,6 +82,6 @@ module _ (fed : Fed) (f : Free) where
       go false e = rw (must-done fed f attach (λ u. give nothing) (attach-first (r .opened ∙ e)))
           (record { given = refl; layout = y; represents = opened-represents r })
 
-pub opening-kept : (half : ℕ) (fed : Fed) (n : ℕ) {f : Free} {y : Layout} {t : Table} → Represents f y t → RequestKept half fed n f t Open
+pub opening-kept : (half fed : ℕ) {f : Free} {y : Layout} {t : Table} → Represents f y t → RequestKept half fed f t Open
 unfolding program tableNext
-opening-kept half fed n {f} r = open-kept fed f r
+opening-kept half fed {f} r = open-kept fed f r

@@ -9,7 +9,6 @@ use lib.ListN.{length, length-append}
 use borrow.Author.Tests.{leb-true}
 use Rattle.rules.specs.Control.{registerCount}
 use Rattle.rules.specs.Refusals.{Tested, check, _>>_ as _>>>_}
-use Rattle.rules.specs.Runs.{Fed}
 use Rattle.rules.specs.Free.{Free}
 use Rattle.rules.proofs.Ranges.{both}
 use Rattle.directory_rules.specs.Table.{Table, among, isNumber, lastNumber, unknown, known, notOpen}
@@ -53,7 +52,7 @@ entries-from : {f : Free} {y : Layout} {t : Table} {key : ℕ} {before : List �
     → Chain f (y .label) entryLabel (slotAfter top before) (x .record-at ∷ (x .rest ++ y .people))
 entries-from {y = y} {before = before} c x = chain-rest before (x .record-at ∷ (x .rest ++ y .people)) (rw (x .split, append-assoc) at (c .entries))
 
-module _ {m half : ℕ} (fed : Fed) (many : groupRegister < m) (few : m ≤ registerCount) {f : Free} {y : Layout} {t : Table} (short : Short half y) (within : Within m f y t) (g : ℕ) where
+module _ {m half : ℕ} (fed : ℕ) (many : groupRegister < m) (few : m ≤ registerCount) {f : Free} {y : Layout} {t : Table} (short : Short half y) (within : Within m f y t) (g : ℕ) where
   abbrev keeping : Place → Act Place
   keeping w = present w unknown >> (must (move groupRegister (w .at)) >> give w)
 
@@ -116,7 +115,7 @@ going half n w = seek (w .left) (w .at) (w .via) n 0 >>= inGroup half n
 left-from : {gs : List ℕ} {half : ℕ} (ps before rest : List ℕ) (q : ℕ) → gs ≡ before ++ (q ∷ rest) → length (gs ++ ps) ≤ half → length (q ∷ (rest ++ ps)) ≤ half - length before
 left-from {gs} ps before rest q e l = omega (arith, length-append gs ps, length-append before (q ∷ rest), length-append rest ps, ap length e)
 
-module _ {m half : ℕ} (fed : Fed) (many : groupRegister < m) {y : Layout} {t : Table} (short : Short half y) (n g : ℕ) (small : n ≤ lastNumber)
+module _ {m half : ℕ} (fed : ℕ) (many : groupRegister < m) {y : Layout} {t : Table} (short : Short half y) (n g : ℕ) (small : n ≤ lastNumber)
     (h : Free) (x : Place) (u : Unit {0}) (r : Grouped m half y t g h x u) where
   abbrev ahead : List ℕ
   ahead = r .group .record-at ∷ r .group .rest
@@ -153,7 +152,7 @@ module _ {m half : ℕ} (fed : Fed) (many : groupRegister < m) {y : Layout} {t :
 abbrev pub pairTests : Table → ℕ → ℕ → Tested (Unit {0})
 pairTests t n g = check (isNumber n && isNumber g) unknown >>> (check (among g (t .groups)) unknown >>> check (among n (t .people)) unknown)
 
-module _ {m half : ℕ} (fed : Fed) (many : groupRegister < m) (few : m ≤ registerCount) {f : Free} {y : Layout} {t : Table} (short : Short half y) (within : Within m f y t) (n g : ℕ) where
+module _ {m half : ℕ} (fed : ℕ) (many : groupRegister < m) (few : m ≤ registerCount) {f : Free} {y : Layout} {t : Table} (short : Short half y) (within : Within m f y t) (n g : ℕ) where
   pub pairing-alike : Alike m y t (Paired m y t n g) (freePerform fed f (pairing half n g)) (pairTests t n g)
   unfolding pairing
   pairing-alike = alike-demand fed within (isNumber n && isNumber g) unknown (grouping half g >>= going half n)

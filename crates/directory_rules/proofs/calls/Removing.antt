@@ -6,7 +6,6 @@ use native.Mathlib.Omega.{arith}
 use borrow.Author.Tests.{leb-true}
 use Rattle.rules.specs.Control.{registerCount}
 use Rattle.rules.specs.Refusals.{passed, check, _>>_ as _>>>_}
-use Rattle.rules.specs.Runs.{Fed}
 use Rattle.rules.specs.Free.{Free}
 use Rattle.directory_rules.specs.Table.{Table, Remove, among, isNumber, lastNumber, unknown, without, withoutPerson, withPeople, withPairs, tableNext}
 use Rattle.directory_rules.specs.Acts.{Act, move, get, load, must, _>>=_, _>>_}
@@ -49,7 +48,7 @@ dropping half n at via =
     keepBefore at via >> (must (move personRegister at) >> (must (get groupRegister) >> (leavingAll half half n >> last via)))
 
 -- the person is out of all groups: it leaves the entries
-module _ {r half n : ℕ} {f g : Free} {y : Layout} {t : Table} (fed : Fed) (many : personRegister < r) (within : Within r f y t) (gone : Gone r 3 half n (t .groups) f y t g)
+module _ {r half n : ℕ} {f g : Free} {y : Layout} {t : Table} (fed : ℕ) (many : personRegister < r) (within : Within r f y t) (gone : Gone r 3 half n (t .groups) f y t g)
     (q : ℕ) (xs ys : List ℕ) (split : y .people ≡ xs ++ (q ∷ ys)) (number : numberAt f q ≡ n) where
   abbrev slot : Slot
   slot = slotAfter top (y .groups ++ xs)
@@ -84,7 +83,7 @@ module _ {r half n : ℕ} {f g : Free} {y : Layout} {t : Table} (fed : Fed) (man
         })
 
 -- the person at hand, at place q
-module _ {r half n : ℕ} {f : Free} {y : Layout} {t : Table} (fed : Fed) (many : personRegister < r) (few : r ≤ registerCount) (short : Short half y) (within : Within r f y t)
+module _ {r half n : ℕ} {f : Free} {y : Layout} {t : Table} (fed : ℕ) (many : personRegister < r) (few : r ≤ registerCount) (short : Short half y) (within : Within r f y t)
     (q : ℕ) (xs ys : List ℕ) (split : y .people ≡ xs ++ (q ∷ ys)) (number : numberAt f q ≡ n) (at : ℕ) (via : Via) (low : at ≤ 1)
     (slot : slotOf f at via ≡ slotAfter top (y .groups ++ xs)) (person : reg f at ≡ q) where
   drops : Carries r y t (freePerform fed f (dropping half n at via)) (passed (removed t n))
@@ -95,7 +94,7 @@ module _ {r half n : ℕ} {f : Free} {y : Layout} {t : Table} (fed : Fed) (many 
       rw (b .steps (leavingAll half half n >> last via) ∙ then-passed fed (b .after) (leavingAll half half n) (λ x. last via) (l .ended))
       (last-alike fed many h (l .gone) q xs ys split (only-number (b .regs) q ∙ number) (b .person ∙ person) (b .before))
 
-module _ {r half : ℕ} (fed : Fed) (many : personRegister < r) (few : r ≤ registerCount) {f : Free} {y : Layout} {t : Table} (short : Short half y) (within : Within r f y t) (n : ℕ) where
+module _ {r half : ℕ} (fed : ℕ) (many : personRegister < r) (few : r ≤ registerCount) {f : Free} {y : Layout} {t : Table} (short : Short half y) (within : Within r f y t) (n : ℕ) where
   abbrev behind : Place → Act (Unit {0})
   behind w = present w unknown >> dropping half n (w .at) (w .via)
 
@@ -119,9 +118,9 @@ module _ {r half : ℕ} (fed : Fed) (many : personRegister < r) (few : r ≤ reg
   removing-alike = alike-demand fed within (isNumber n) unknown (entries half n 0 >>= behind)
       (λ e. behind-entries (entries-walked fed within short n 0) (leb-true n lastNumber e))
 
-pub removing-kept : {half : ℕ} (fed : Fed) (k : ℕ) {f : Free} {y : Layout} {t : Table} → Represents f y t → Short half y → (n : ℕ)
-    → RequestKept half fed k f t (Remove n)
+pub removing-kept : {half : ℕ} (fed : ℕ) {f : Free} {y : Layout} {t : Table} → Represents f y t → Short half y → (n : ℕ)
+    → RequestKept half fed f t (Remove n)
 unfolding program tableNext
-removing-kept {half} fed k {f} r short n =
+removing-kept {half} fed {f} r short n =
     around fed f (Remove n) (omega arith) (plainly (removing half n)) r
     (λ h. alike-plainly fed f (removing half n) (removing-alike fed (omega arith) (omega arith) short h n))

@@ -4,7 +4,6 @@ use mathlib.Core.Path.{_≡_, refl, ap, _∙_}
 use mathlib.Core.List.{List}
 use native.Mathlib.Omega.{arith}
 use Rattle.rules.specs.Refusals.{passed}
-use Rattle.rules.specs.Runs.{Fed}
 use Rattle.rules.specs.Free.{Free}
 use Rattle.directory_rules.specs.Acts.{Act, move, get, load, store, put, must, _>>_, Performed}
 use Rattle.directory_rules.specs.Directory.{keepBefore, linkPerson, otherOf, nextField, groupRegister, beforeRegister, personRegister}
@@ -40,7 +39,7 @@ record KeptBefore (f : Free) (sl : Slot) (at : ℕ) (via : Via) (p : Performed F
   here : reg after at ≡ reg f at
   before : Before after sl via
 
-keeps-before : (fed : Fed) {f : Free} → Ready f → (at : ℕ) (via : Via) → at ≤ 1 → (xs : List ℕ) → slotOf f at via ≡ slotAfter top xs
+keeps-before : (fed : ℕ) {f : Free} → Ready f → (at : ℕ) (via : Via) → at ≤ 1 → (xs : List ℕ) → slotOf f at via ≡ slotAfter top xs
     → KeptBefore f (slotAfter top xs) at via (freePerform fed f (keepBefore at via))
 keeps-before fed {f} ready at Next low xs slot =
     let v = reg f (otherOf at) in
@@ -55,7 +54,7 @@ keeps-before fed {f} ready at First low xs slot = absurd (never-first (reg f gro
 keeps-before fed {f} ready at Top low xs slot = record { after = f; ended = refl; regs = only-same 4 f; here = refl; before = by-top slot }
 
 -- the person at hand and what names it kept, and the first entry in the group's register
-pub record Begun (fed : Fed) (r : ℕ) (f : Free) (sl : Slot) (at : ℕ) (via : Via) : Type 0 where
+pub record Begun (fed : ℕ) (r : ℕ) (f : Free) (sl : Slot) (at : ℕ) (via : Via) : Type 0 where
   pub after : Free
   pub steps : (b : Act (Unit {0}))
       → freePerform fed f (keepBefore at via >> (must (move personRegister at) >> (must (get groupRegister) >> b))) ≡ freePerform fed after b
@@ -64,7 +63,7 @@ pub record Begun (fed : Fed) (r : ℕ) (f : Free) (sl : Slot) (at : ℕ) (via : 
   pub person : reg after personRegister ≡ reg f at
   pub before : Before after sl via
 
-pub begun : (fed : Fed) {r : ℕ} → personRegister < r → {f : Free} → Ready f → (at : ℕ) (via : Via) → at ≤ 1 → (xs : List ℕ) → slotOf f at via ≡ slotAfter top xs
+pub begun : (fed : ℕ) {r : ℕ} → personRegister < r → {f : Free} → Ready f → (at : ℕ) (via : Via) → at ≤ 1 → (xs : List ℕ) → slotOf f at via ≡ slotAfter top xs
     → Begun fed r f (slotAfter top xs) at via
 begun fed {r} many {f} ready at via low xs slot =
     let k = keeps-before fed ready at via low xs slot in
@@ -90,7 +89,7 @@ begun fed {r} many {f} ready at via low xs slot =
 
 -- ---- after the groups
 
-person-links : (fed : Fed) {f : Free} → Ready f → {sl : Slot} {via : Via} → Before f sl via → There f sl
+person-links : (fed : ℕ) {f : Free} → Ready f → {sl : Slot} {via : Via} → Before f sl via → There f sl
     → freePerform fed f (linkPerson via) ≡ record { store = written f sl (reg f personRegister); result = passed tt }
 person-links fed {f} ready (by-next e) w =
     must-last fed f (store beforeRegister nextField personRegister)
@@ -106,7 +105,7 @@ pub record Writes (r : ℕ) (f : Free) (sl : Slot) (v : ℕ) (p : Performed Free
   pub ended : p ≡ record { store = after; result = passed tt }
   pub regs : OnlyRegs r (written f sl v) after
 
-pub person-unnamed : (fed : Fed) {r : ℕ} → personRegister < r → {f : Free} → Ready f → {q : ℕ} → reg f personRegister ≡ q → Good f q → {sl : Slot} {via : Via} → Before f sl via → There f sl
+pub person-unnamed : (fed : ℕ) {r : ℕ} → personRegister < r → {f : Free} → Ready f → {q : ℕ} → reg f personRegister ≡ q → Good f q → {sl : Slot} {via : Via} → Before f sl via → There f sl
     → Writes r f sl (held f (field q nextField)) (freePerform fed f (must (load personRegister personRegister nextField) >> linkPerson via))
 person-unnamed fed {r} many {f} ready {q} person good {sl} {via} before there =
     let v = held f (field q nextField) in

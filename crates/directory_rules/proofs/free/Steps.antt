@@ -1,7 +1,8 @@
--- What each store call of the directory's session does on the collector-free store, where its tests pass; of a read at null and of a record
--- without room, how it is refused.
+-- What each store call of the directory's session does on the collector-free store, where its tests pass; of a read at null and of an
+-- allocation that is fed a refusal, how it is refused.
 use Prim.Native.Nat.{ℕ, _-_, _≤_, _<_}
 use mathlib.Core.Path.{_≡_, refl, _∙_}
+use mathlib.Core.Logic.{_≢_}
 use mathlib.Core.List.{[], _∷_}
 use native.Mathlib.Omega.{arith}
 use lib.ListN.{length, set, replicate}
@@ -10,15 +11,14 @@ use borrow.Author.Tests.{le-leb, lt-ltb, ne-eqb}
 use Rattle.rules.specs.Memory.{null, mostCount}
 use Rattle.rules.specs.Control.{lastRegister}
 use Rattle.rules.specs.Refusals.{refused, passed, answer}
-use Rattle.rules.specs.Runs.{Fed, fitted, noRoom}
-use Rattle.rules.specs.Free.{Free, freeSession, recordAt, freeSessionOf, freeRecordIn, freeLoad, freeStore, freeRead, freeMove, freeClear, freeGet, freePut, freeAllocate, freeWrite, withRecord, withFreeRegister}
+use Rattle.rules.specs.Free.{Free, freeSession, recordAt, freeSessionOf, freeRecordIn, freeLoad, freeStore, freeRead, freeMove, freeClear, freeGet, freePut, freeWrite, withRecord, withFreeRegister}
 use Rattle.rules.specs.declared.Answer.the-variants.{Refused, Done, Word}
 use Rattle.rules.proofs.allocation.FreeRecords.{new-place}
 use Rattle.directory_rules.specs.Acts.{ownSession, allocate, load, store, read, write, move, clear, get, put}
 use Rattle.directory_rules.specs.Directory.{fresh, link, otherOf, nextField, firstField, numberField, groupRegister}
 use Rattle.directory_rules.specs.declared.Via.{Via}
 use Rattle.directory_rules.specs.declared.Via.the-variants.{Next, First, Top}
-use Rattle.directory_rules.proofs.free.Perform.{freeAsk, freePerform}
+use Rattle.directory_rules.proofs.free.Perform.{allocateFed, freeAsk, freePerform}
 use Rattle.directory_rules.proofs.free.Session.{reg, setReg, Ready}
 use Rattle.directory_rules.proofs.free.Grown.{grown-ready, grown-at}
 use Rattle.directory_rules.proofs.free.Must.{must-done, must-refused, must-last}
@@ -37,7 +37,7 @@ record-null : (f : Free) (k : ℕ) → reg f k ≡ null → freeRecordIn (freeSe
 unfolding freeRecordIn
 record-null f k none = rw none
 
-module _ (fed : Fed) {f : Free} (ready : Ready f) where
+module _ (fed : ℕ) {f : Free} (ready : Ready f) where
   pub load-step : (to k i : ℕ) {q : ℕ} → to ≤ lastRegister → k ≤ lastRegister → reg f k ≡ q → There f (field q i)
       → freeAsk fed f (load to k i) ≡ record { store = setReg f to (held f (field q i)); reply = answer Done }
   unfolding freeLoad
@@ -90,21 +90,21 @@ module _ (fed : Fed) {f : Free} (ready : Ready f) where
 -- ---- a new record
 
 allocate-step : {f : Free} → Ready f → (k r : ℕ) → k ≤ lastRegister → r ≤ mostCount
-    → freeAsk fitted f (allocate k r 1) ≡ record { store = setReg (grow f r 0) k (newPlace f); reply = answer Done }
-unfolding freeAllocate
+    → freeAsk 0 f (allocate k r 1) ≡ record { store = setReg (grow f r 0) k (newPlace f); reply = answer Done }
+unfolding allocateFed
 allocate-step ready k r a few = rw (own-passes ready, le-leb k lastRegister a, le-leb r mostCount few)
 
-allocate-refused : {f : Free} → Ready f → (k r : ℕ) → k ≤ lastRegister → r ≤ mostCount
-    → freeAsk noRoom f (allocate k r 1) ≡ record { store = f; reply = answer (Refused 14) }
-unfolding freeAllocate
-allocate-refused ready k r a few = rw (own-passes ready, le-leb k lastRegister a, le-leb r mostCount few)
+allocate-refused : {f : Free} {fed : ℕ} → fed ≢ 0 → Ready f → (k r : ℕ) → k ≤ lastRegister → r ≤ mostCount
+    → freeAsk fed f (allocate k r 1) ≡ record { store = f; reply = answer (Refused fed) }
+unfolding allocateFed
+allocate-refused {fed = fed} d ready k r a few = rw (own-passes ready, le-leb k lastRegister a, le-leb r mostCount few, ne-eqb fed 0 d)
 
 -- record q with another word
 abbrev reworded : Free → ℕ → ℕ → Free
 reworded f q w = withRecord f q (record { refs = recordAt f q .refs; plains = set (recordAt f q .plains) numberField w })
 
 write-step : {f : Free} → Ready f → (k w q : ℕ) → k ≤ lastRegister → reg f k ≡ q → 1 ≤ q → 0 < length (recordAt f q .plains)
-    → freeAsk fitted f (write k numberField w) ≡ record { store = reworded f q w; reply = answer Done }
+    → freeAsk 0 f (write k numberField w) ≡ record { store = reworded f q w; reply = answer Done }
 unfolding freeWrite
 write-step {f} ready k w q a e some there =
     rw (own-passes ready, le-leb k lastRegister a, record-passes f k e some, lt-ltb 0 (length (recordAt f q .plains)) there)
@@ -123,16 +123,16 @@ new-reworded f r k v w =
 
 -- a new record with its word
 pub fresh-grows : {f : Free} → Ready f → (k r w : ℕ) → k ≤ lastRegister → r ≤ mostCount
-    → freePerform fitted f (fresh k r w) ≡ record { store = setReg (grow f r w) k (newPlace f); result = passed tt }
+    → freePerform 0 f (fresh k r w) ≡ record { store = setReg (grow f r w) k (newPlace f); result = passed tt }
 fresh-grows {f} ready k r w a few =
     let q = newPlace f in
     let g = setReg (grow f r 0) k q in
     let new = new-record f r k q in
-    must-done fitted f (allocate k r 1) _ (allocate-step ready k r a few)
-    ∙ must-last fitted g (write k numberField w)
+    must-done 0 f (allocate k r 1) _ (allocate-step ready k r a few)
+    ∙ must-last 0 g (write k numberField w)
     (write-step (grown-ready ready k r 0 (omega arith)) k w q a (grown-at ready k r 0 (omega arith)) (omega arith) (rw new (omega arith)))
     ∙ rw (new, new-reworded f r k q w)
 
-pub fresh-refused : {f : Free} → Ready f → (k r w : ℕ) → k ≤ lastRegister → r ≤ mostCount
-    → freePerform noRoom f (fresh k r w) ≡ record { store = f; result = refused 14 }
-fresh-refused {f} ready k r w a few = must-refused noRoom f (allocate k r 1) _ (allocate-refused ready k r a few)
+pub fresh-refused : {f : Free} {fed : ℕ} → fed ≢ 0 → Ready f → (k r w : ℕ) → k ≤ lastRegister → r ≤ mostCount
+    → freePerform fed f (fresh k r w) ≡ record { store = f; result = refused fed }
+fresh-refused {f} {fed} d ready k r w a few = must-refused fed f (allocate k r 1) _ (allocate-refused d ready k r a few)

@@ -9,9 +9,9 @@ use borrow.Author.Tests.{eqb-false, not-true}
 use Rattle.rules.specs.Memory.{null}
 use Rattle.rules.specs.Control.{lastSession, registerCount}
 use Rattle.rules.specs.Refusals.{Tested, passed, check, _>>=_, _>>_, Outcome}
-use Rattle.rules.specs.Calls.{isRegister, isGlobal, isShape}
-use Rattle.rules.specs.Runs.{Call, Attach, Detach, SafePoint, Allocate, Load, StoreRef, Read, Write, Move, Clear, SameAs, Get, Put, Stretch, Companion, Step, isSession, Fed}
-use Rattle.rules.specs.Free.{Free, FreeSession, recordAt, freeSession, freeRegister, freeNobody, fedRoom, freeSessionOf, freeRecordIn, freeAttach, freeDetach, freeAllocate, freeLoad, freeStore, freeRead, freeWrite, freeMove, freeClear, freeSame, freeGet, freePut, freeApply}
+use Rattle.rules.specs.Calls.{isRegister, isGlobal, isShape, numberLeft}
+use Rattle.rules.specs.Runs.{Call, Attach, Detach, SafePoint, Allocate, Load, StoreRef, Read, Write, Move, Clear, SameAs, Get, Put, Stretch, Companion, Birth, Step, isSession, Fed}
+use Rattle.rules.specs.Free.{Free, FreeSession, recordAt, freeSession, freeRegister, freeNobody, fedRoom, freeSessionOf, freeRecordIn, freeAttach, freeDetach, freeAllocate, freeLoad, freeStore, freeRead, freeBirth, freeWrite, freeMove, freeClear, freeSame, freeGet, freePut, freeApply}
 use Rattle.rules.proofs.Ranges.{both}
 use Rattle.rules.proofs.memory.Lists.{all-same}
 use Rattle.directory_rules.specs.Table.{Table}
@@ -79,7 +79,8 @@ module _ {lab : ℕ → ℕ} {f : Free} (own : Owned f lab) (apart : Apart f lab
     unfolding freeAllocate
     allocate-aside k r p fed =
         let g = aside-grown apart own r p in
-        row-session f n _ (row-check (isRegister k) 8 (row-check (isShape r p) 10 (row-check (fedRoom fed) 14 (ends _ (aside-then g (aside-register (g .apart) n k _ other (new-foreign own _)))))))
+        row-session f n _ (row-check (isRegister k) 8 (row-check (isShape r p) 10 (row-check (fedRoom fed) 14
+        (row-check (numberLeft (length (f .records))) 16 (ends _ (aside-then g (aside-register (g .apart) n k _ other (new-foreign own _))))))))
 
     load-aside : (to k i : ℕ) → Ends P (freeLoad f n to k i)
     unfolding freeLoad
@@ -95,6 +96,10 @@ module _ {lab : ℕ → ℕ} {f : Free} (own : Owned f lab) (apart : Apart f lab
     read-aside : (k i : ℕ) → Ends P (freeRead f n k i)
     unfolding freeRead
     read-aside k i = row-session f n _ (row-check (isRegister k) 8 (row-record (freeSession f n) k _ (λ some. row-check (ltb i (length (recordAt f (at k) .plains))) 13 (ends _ (aside-none apart)))))
+
+    birth-aside : (k : ℕ) → Ends P (freeBirth f n k)
+    unfolding freeBirth
+    birth-aside k = row-session f n _ (row-check (isRegister k) 8 (row-record (freeSession f n) k _ (λ some. ends _ (aside-none apart))))
 
     write-aside : (k i a : ℕ) → Ends P (freeWrite f n k i a)
     unfolding freeWrite
@@ -138,6 +143,7 @@ module _ {lab : ℕ → ℕ} {f : Free} (own : Owned f lab) (apart : Apart f lab
   others-aside (Put n g from) fed e = let z = is-others n g e in settled f (put-aside n (z .0) g from (z .1)) (aside-none apart)
   others-aside (Stretch n k) fed e = aside-none apart
   others-aside (Companion n k) fed e = aside-none apart
+  others-aside (Birth n k) fed e = settled f (birth-aside n (is-other n ownSession e) k) (aside-none apart)
   others-aside Step fed e = aside-none apart
 
 pub others-kept : {f : Free} {y : Layout} {t : Table} (c : Call) (fed : Fed) → others c ≡ true → Represents f y t

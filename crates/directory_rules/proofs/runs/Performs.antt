@@ -4,28 +4,27 @@ use mathlib.Core.Path.{_≡_, refl, sym, _∙_}
 use mathlib.Core.Bool.{true≢false}
 use native.Mathlib.Omega.{arith}
 use Rattle.rules.specs.Control.{Store}
-use Rattle.rules.specs.Runs.{apply, Fed}
+use Rattle.rules.specs.Runs.{apply}
 use Rattle.rules.specs.Free.{Free}
 use Rattle.rules.specs.Claims.{Made}
-use Rattle.directory_rules.specs.Acts.{allocate, callOf, Act, stop, give, ask, perform, refusedBy, roomNumber}
+use Rattle.directory_rules.specs.Acts.{allocate, callOf, Act, stop, give, ask, perform, refusedBy, allocationNumber}
 use Rattle.directory_rules.proofs.acts.Few.{Few, few-stop, few-give, few-ask, few-make}
 use Rattle.directory_rules.proofs.free.Perform.{freePerform}
-use Rattle.directory_rules.proofs.free.Feeds.{fedOf, feeds-is, feeds-reply}
 use Rattle.directory_rules.proofs.runs.Beside.{Here, FedRight, asked-both}
 
 -- ---- what is fed is as the store answers
 
 -- for every allocation that an act makes on the store t
-abbrev pub FedAll : {A : Type 0} → Fed → Store → Act A → Type 0
+abbrev pub FedAll : {A : Type 0} → ℕ → Store → Act A → Type 0
 FedAll fed t (stop n) = Unit {0}
 FedAll fed t (give x) = Unit {0}
 FedAll fed t (ask c k) = FedRight fed t c × FedAll fed (apply t (callOf c) .store) (k (apply t (callOf c) .reply))
 
-pub record Performs {A : Type 0} (s t : Store) (f : Free) (fed : Fed) (a : Act A) : Type 0 where
+pub record Performs {A : Type 0} (s t : Store) (f : Free) (fed : ℕ) (a : Act A) : Type 0 where
   pub result : perform t a .result ≡ freePerform fed f a .result
   pub here : Here s (perform t a .store) (freePerform fed f a .store)
 
-pub performs : {A : Type 0} {s t : Store} {f : Free} → Here s t f → Made s → (fed : Fed) (a : Act A) → FedAll fed t a → Performs s t f fed a
+pub performs : {A : Type 0} {s t : Store} {f : Free} → Here s t f → Made s → (fed : ℕ) (a : Act A) → FedAll fed t a → Performs s t f fed a
 performs here made fed (stop n) right = record { result = refl; here = here }
 performs here made fed (give x) right = record { result = refl; here = here }
 performs {t = t} here made fed (ask c k) right =
@@ -36,17 +35,17 @@ performs {t = t} here made fed (ask c k) right =
 -- ---- an act of at most one allocation
 
 -- where there is none, anything may be fed
-none-fed : {A : Type 0} {n : ℕ} {t : Store} {a : Act A} → Few n t a → n ≡ 0 → (fed : Fed) → FedAll fed t a
+none-fed : {A : Type 0} {n : ℕ} {t : Store} {a : Act A} → Few n t a → n ≡ 0 → (fed : ℕ) → FedAll fed t a
 none-fed (few-stop m) z fed = tt
 none-fed (few-give x) z fed = tt
 none-fed (few-ask c e f) z fed = (λ yes. absurd (true≢false (sym yes ∙ e)), none-fed f z fed)
 none-fed (few-make k r p e f) z fed = absurd (omega arith)
 
 -- where there is one, its own answer
-pub few-fed : {A : Type 0} {n : ℕ} {t : Store} {a : Act A} → Few n t a → n ≤ 1 → FedAll (fedOf (roomNumber t a)) t a
+pub few-fed : {A : Type 0} {n : ℕ} {t : Store} {a : Act A} → Few n t a → n ≤ 1 → FedAll (allocationNumber t a) t a
 few-fed (few-stop m) one = tt
 few-fed (few-give x) one = tt
 few-fed (few-ask c e f) one = (λ yes. absurd (true≢false (sym yes ∙ e)), rw e (few-fed f one))
 few-fed {t = t} (few-make k r p e f) one =
     let x = apply t (callOf (allocate k r p)) .reply in
-    (λ yes. feeds-is (feeds-reply x), none-fed f (omega arith) (fedOf (refusedBy x)))
+    (λ yes. refl, none-fed f (omega arith) (refusedBy x))

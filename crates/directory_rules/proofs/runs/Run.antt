@@ -14,14 +14,13 @@ use Rattle.rules.specs.Claims.{Made, NullRegisters}
 use Rattle.rules.proofs.Ranges.{both}
 use Rattle.rules.proofs.runs.Claims.{null-registers}
 use Rattle.directory_rules.specs.Table.{Request, Open, Add, Remove, Make, Join, Leave, Members, Table, newTable, tableNext, tableGiven, tableAfter}
-use Rattle.directory_rules.specs.Acts.{ownSession, roomNumber}
+use Rattle.directory_rules.specs.Acts.{ownSession, allocationNumber}
 use Rattle.directory_rules.specs.Directory.{programOn, givenOf, directoryCall, fedNumber}
 use Rattle.directory_rules.specs.Runs.{Item, call, request, others, allowed, afterItems, directoryRun, feedsOf, tableRun}
 use Rattle.directory_rules.specs.Claims.{allocating, TableAnswers, Cleared}
 use Rattle.directory_rules.proofs.acts.Few.{few-program}
 use Rattle.directory_rules.proofs.chains.Core.{Layout, Represents}
 use Rattle.directory_rules.proofs.calls.Request.{request-kept}
-use Rattle.directory_rules.proofs.free.Feeds.{fedOf, room-feeds}
 use Rattle.directory_rules.proofs.runs.Beside.{Here, here-new, here-call}
 use Rattle.directory_rules.proofs.runs.Performs.{performs, few-fed}
 use Rattle.directory_rules.proofs.runs.Others.{others-kept}
@@ -66,9 +65,9 @@ pub record RequestAnswered (s t : Store) (u : Table) (q : Request) : Type 0 wher
 pub state-request : {s t : Store} {u : Table} → Made s → State s t u → (q : Request) → RequestAnswered s t u q
 unfolding directoryCall fedNumber
 state-request {s} {t} {u} made a q =
-    let n : ℕ = roomNumber t (programOn t q) in
-    let p = performs (a .here) made (fedOf n) (programOn t q) (few-fed (few-program t (t .lengths .half0) q) (one-at-most q)) in
-    let k = request-kept (room-feeds t (programOn t q)) (a .represents) (core-short made (a .here) (a .represents .core)) q in
+    let n : ℕ = allocationNumber t (programOn t q) in
+    let p = performs (a .here) made n (programOn t q) (few-fed (few-program t (t .lengths .half0) q) (one-at-most q)) in
+    let k = request-kept n (a .represents) (core-short made (a .here) (a .represents .core)) q in
     record {
       given = ap (givenOf q) (p .result) ∙ k .given;
       state = record { free = _; here = p .here; layout = k .layout; represents = k .represents };

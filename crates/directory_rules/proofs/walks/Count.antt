@@ -7,7 +7,6 @@ use native.Mathlib.Nat.{add-zero}
 use native.Mathlib.Omega.{arith}
 use lib.ListN.{length, take}
 use Rattle.rules.specs.Refusals.{passed}
-use Rattle.rules.specs.Runs.{Fed}
 use Rattle.rules.specs.Free.{Free}
 use Rattle.directory_rules.specs.Acts.{load, give, _>>=_, _>>_, must, Performed}
 use Rattle.directory_rules.specs.Directory.{nextField, noneCounted, counted, counting, taken, taking}
@@ -51,7 +50,7 @@ stepped-here : {f : Free} → Ready f → (q : ℕ) → reg (stepped f q) 0 ≡ 
 stepped-here ready q = reg-held (ready .shaped) 0 (field q nextField) (omega arith)
 
 -- the walks from a slot on that names the record at hand
-module _ (fed : Fed) {lab : ℕ → ℕ} {l : ℕ} (ours : l ≢ othersLabel) where
+module _ (fed : ℕ) {lab : ℕ → ℕ} {l : ℕ} (ours : l ≢ othersLabel) where
   counting-on : {f : Free} {sl : Slot} {qs : List ℕ} → Ready f → Owned f lab → Chain f lab l sl qs → reg f 0 ≡ held f sl → (left k : ℕ) → length qs ≤ left
       → Gave f (k + length qs) (freePerform fed f (counting left k))
   counting-on ready own (ends none) here zero k short =
@@ -85,7 +84,7 @@ module _ (fed : Fed) {lab : ℕ → ℕ} {l : ℕ} (ours : l ≢ othersLabel) wh
         regs = only-then o (rest .regs);
       }
 
-module _ (fed : Fed) {f : Free} (ready : Ready f) {lab : ℕ → ℕ} (own : Owned f lab) {l : ℕ} (ours : l ≢ othersLabel) {sl : Slot} {qs : List ℕ}
+module _ (fed : ℕ) {f : Free} (ready : Ready f) {lab : ℕ → ℕ} (own : Owned f lab) {l : ℕ} (ours : l ≢ othersLabel) {sl : Slot} {qs : List ℕ}
     (chain : Chain f lab l sl qs) (here : reg f 0 ≡ held f sl) where
   pub counting-counts : (left k : ℕ) → length qs ≤ left → Gave f (k + length qs) (freePerform fed f (counting left k))
   counting-counts left k short = counting-on fed ours ready own chain here left k short

@@ -4,7 +4,6 @@ use mathlib.Core.Path.{_≡_}
 use native.Mathlib.Omega.{arith}
 use Rattle.rules.specs.Memory.{null}
 use Rattle.rules.specs.Control.{lastRegister}
-use Rattle.rules.specs.Runs.{Fed}
 use Rattle.rules.specs.Free.{Free}
 use Rattle.directory_rules.specs.Acts.{load, read, Act, ask, _>>=_, must, Found, ended, word, foundIn}
 use Rattle.directory_rules.specs.Directory.{nextField, numberField}
@@ -16,7 +15,7 @@ use Rattle.directory_rules.proofs.free.Slots.{field, held, numberAt}
 use Rattle.directory_rules.proofs.chains.Core.{Good}
 use Rattle.directory_rules.proofs.chains.SoundStore.{good-there}
 
-module _ (fed : Fed) {f : Free} (ready : Ready f) (k : ℕ) (low : k ≤ lastRegister) where
+module _ (fed : ℕ) {f : Free} (ready : Ready f) (k : ℕ) (low : k ≤ lastRegister) where
   pub reads-end : {A : Type 0} (h : Found → Act A) → reg f k ≡ null
       → freePerform fed f (ask (read k numberField) (λ r. h (foundIn r))) ≡ freePerform fed f (h ended)
   reads-end h none = asked fed f (read k numberField) (λ r. h (foundIn r)) (read-null fed ready k numberField low none)

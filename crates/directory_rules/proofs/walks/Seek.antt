@@ -7,7 +7,6 @@ use native.Mathlib.Omega.{arith}
 use lib.Dec.{eqb, ltb}
 use borrow.Author.Tests.{eqb-true, eqb-false, ltb-true, ltb-false}
 use lib.ListN.{length}
-use Rattle.rules.specs.Runs.{Fed}
 use Rattle.rules.specs.Free.{Free}
 use Rattle.rules.proofs.memory.Cases.{bool-or}
 use Rattle.directory_rules.specs.Acts.{load, get, Act, _>>_, must, word}
@@ -33,7 +32,7 @@ abbrev onward : ℕ → ℕ → ℕ → ℕ → Act Place
 onward left at key least = must (load (otherOf at) at nextField) >> seek left (otherOf at) Next key least
 
 -- the walk from a slot on that names the record at hand
-module _ (fed : Fed) {lab : ℕ → ℕ} {l : ℕ} (ours : l ≢ othersLabel) (key least : ℕ) where
+module _ (fed : ℕ) {lab : ℕ → ℕ} {l : ℕ} (ours : l ≢ othersLabel) (key least : ℕ) where
   seek-on : {f : Free} {sl : Slot} {qs : List ℕ} → Ready f → Owned f lab → Chain f lab l sl qs
       → (left at : ℕ) (via : Via) → at ≤ 1 → slotOf f at via ≡ sl → reg f at ≡ held f sl → length qs ≤ left
       → Walked f sl qs key least left (freePerform fed f (seek left at via key least))
@@ -64,7 +63,7 @@ module _ (fed : Fed) {lab : ℕ → ℕ} {l : ℕ} (ours : l ≢ othersLabel) (k
       (reg-held (ready .shaped) (otherOf at) (field q nextField) (omega arith))
       (omega arith)))))
 
-module _ (fed : Fed) {f : Free} (ready : Ready f) {lab : ℕ → ℕ} (own : Owned f lab) {l : ℕ} (ours : l ≢ othersLabel) {qs : List ℕ} where
+module _ (fed : ℕ) {f : Free} (ready : Ready f) {lab : ℕ → ℕ} (own : Owned f lab) {l : ℕ} (ours : l ≢ othersLabel) {qs : List ℕ} where
   pub seek-walks : (left at : ℕ) (via : Via) (key least : ℕ) → at ≤ 1 → Chain f lab l (slotOf f at via) qs → reg f at ≡ held f (slotOf f at via)
       → length qs ≤ left → Walked f (slotOf f at via) qs key least left (freePerform fed f (seek left at via key least))
   seek-walks left at via key least low chain here short = seek-on fed ours key least ready own chain left at via low refl here short

@@ -16,7 +16,7 @@ use Rattle.rules.proofs.relation.Rows.{listed, Allowed, allowed}
 use Rattle.rules.proofs.relation.Rules.{CallEnds, refusal, success, call-ends}
 use Rattle.rules.proofs.relation.Replies.{unrefused, numberIn}
 
-member : (n : ℕ) (ks : List ℕ) → listed n ks ≡ true → List·Memᴰ n ks
+pub member : (n : ℕ) (ks : List ℕ) → listed n ks ≡ true → List·Memᴰ n ks
 member n [] e = absurd (true≢false (sym e))
 member n (k ∷ ks) e = bool-or (eqb n k)
     (λ y. List·Memᴰ·head (eqb-true n k y))
