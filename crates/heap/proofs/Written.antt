@@ -7,31 +7,31 @@ use native.Mathlib.Nat.{zero-add}
 use lib.ListN.{length, take, drop, set, replicate, length-drop, length-replicate, drop-of-length-le}
 use lib.Seq.{take-all, drop-drop, sets, sets-eq}
 use borrow.Author.Tests.{eq-eqb, ne-eqb}
-use Rattle.rules.specs.Memory.{Memory, half, frontier, withHalf, withFrontier, newRecord, append, header, shapeAt, colourAt, replicaAt}
+use Rattle.rules.specs.Memory.{Memory, half, frontier, withHalf, withFrontier, newRecord, append, header, shapeAt, colourAt, replicaAt, birthAt}
 use Rattle.heap.specs.View.{memory}
 
-three : (n : ℕ) → n + header ≡ suc (suc (suc n))
-three n = omega arith
+four : (n : ℕ) → n + header ≡ suc (suc (suc (suc n)))
+four n = omega arith
 
-pub record-length : (w c v n : ℕ) → length (newRecord w c v n) ≡ n + header
+pub record-length : (w c v b n : ℕ) → length (newRecord w c v b n) ≡ n + header
 unfolding newRecord
-record-length w c v n = ap (λ (k : ℕ). suc (suc (suc k))) (length-replicate n 0) ∙ sym (three n)
+record-length w c v b n = ap (λ (k : ℕ). suc (suc (suc (suc k)))) (length-replicate n 0) ∙ sym (four n)
 
 -- ---- the lent part
 
 sets-start : (vs l : List ℕ) → length vs ≤ length l → sets l 0 vs ≡ vs ++ drop (length vs) l
 sets-start vs l h = let g : 0 + length vs ≤ length l = omega arith in sets-eq vs l 0 g ∙ ap (λ (k : ℕ). vs ++ drop k l) (zero-add (length vs))
 
-header-set : (part : List ℕ) (w c v n : ℕ) → set (set (set (replicate (n + header) 0 ++ drop (n + header) part) shapeAt w) colourAt c) replicaAt v ≡ newRecord w c v n ++ drop (n + header) part
+header-set : (part : List ℕ) (w c v b n : ℕ) → set (set (set (set (replicate (n + header) 0 ++ drop (n + header) part) shapeAt w) colourAt c) replicaAt v) birthAt b ≡ newRecord w c v b n ++ drop (n + header) part
 unfolding newRecord
-header-set part w c v n = rw (three n)
+header-set part w c v b n = rw (four n)
 
-pub record-written : (part : List ℕ) (w c v n : ℕ) → n + header ≤ length part
-    → set (set (set (replicate (n + header) 0 ++ drop (n + header) part) shapeAt w) colourAt c) replicaAt v ≡ sets part 0 (newRecord w c v n)
-record-written part w c v n h =
-    let e = record-length w c v n in
-    let g : length (newRecord w c v n) ≤ length part = omega arith in
-    header-set part w c v n ∙ ap (λ (k : ℕ). newRecord w c v n ++ drop k part) (sym e) ∙ sym (sets-start (newRecord w c v n) part g)
+pub record-written : (part : List ℕ) (w c v b n : ℕ) → n + header ≤ length part
+    → set (set (set (set (replicate (n + header) 0 ++ drop (n + header) part) shapeAt w) colourAt c) replicaAt v) birthAt b ≡ sets part 0 (newRecord w c v b n)
+record-written part w c v b n h =
+    let e = record-length w c v b n in
+    let g : length (newRecord w c v b n) ≤ length part = omega arith in
+    header-set part w c v b n ∙ ap (λ (k : ℕ). newRecord w c v b n ++ drop k part) (sym e) ∙ sym (sets-start (newRecord w c v b n) part g)
 
 -- ---- the part from a word on, come back
 
@@ -58,9 +58,9 @@ back a xs ys = take a xs ++ (ys ++ drop (length xs - a) (drop a xs))
 abbrev lent : ℕ → List ℕ → List ℕ
 lent a xs = take (length xs - a) (drop a xs)
 
-record-back : {ys : List ℕ} (a : ℕ) (xs : List ℕ) (w c v n : ℕ) → a + (n + header) ≤ length xs
-    → ys ≡ sets (lent a xs) 0 (newRecord w c v n) → back a xs ys ≡ sets xs a (newRecord w c v n)
-record-back a xs w c v n h e = rw e (part-back a xs (newRecord w c v n) (rw (record-length w c v n) h))
+record-back : {ys : List ℕ} (a : ℕ) (xs : List ℕ) (w c v b n : ℕ) → a + (n + header) ≤ length xs
+    → ys ≡ sets (lent a xs) 0 (newRecord w c v b n) → back a xs ys ≡ sets xs a (newRecord w c v b n)
+record-back a xs w c v b n h e = rw e (part-back a xs (newRecord w c v b n) (rw (record-length w c v b n) h))
 
 -- ---- in either half
 
@@ -73,22 +73,22 @@ module _ (h0 h1 : List ℕ) (f0 f1 h at : ℕ) where
   unfolding half
   room-high n r e = rw (ne-eqb h 0 e) at r
 
-  pub placed-low : {ys : List ℕ} (w c v n : ℕ) → at + (n + header) ≤ length h0 → h ≡ 0 → ys ≡ sets (lent at h0) 0 (newRecord w c v n)
+  pub placed-low : {ys : List ℕ} (w c v b n : ℕ) → at + (n + header) ≤ length h0 → h ≡ 0 → ys ≡ sets (lent at h0) 0 (newRecord w c v b n)
       → memory (back at h0 ys) h1 f0 f1
-      ≡ withHalf (memory h0 h1 f0 f1) h (sets (half (memory h0 h1 f0 f1) h) at (newRecord w c v n))
+      ≡ withHalf (memory h0 h1 f0 f1) h (sets (half (memory h0 h1 f0 f1) h) at (newRecord w c v b n))
   unfolding withHalf half
-  placed-low w c v n r z e = rw (eq-eqb h 0 z, record-back at h0 w c v n r e)
+  placed-low w c v b n r z e = rw (eq-eqb h 0 z, record-back at h0 w c v b n r e)
 
-  pub placed-high : {ys : List ℕ} (w c v n : ℕ) → at + (n + header) ≤ length h1 → (h ≡ 0 → ⊥) → ys ≡ sets (lent at h1) 0 (newRecord w c v n)
+  pub placed-high : {ys : List ℕ} (w c v b n : ℕ) → at + (n + header) ≤ length h1 → (h ≡ 0 → ⊥) → ys ≡ sets (lent at h1) 0 (newRecord w c v b n)
       → memory h0 (back at h1 ys) f0 f1
-      ≡ withHalf (memory h0 h1 f0 f1) h (sets (half (memory h0 h1 f0 f1) h) at (newRecord w c v n))
+      ≡ withHalf (memory h0 h1 f0 f1) h (sets (half (memory h0 h1 f0 f1) h) at (newRecord w c v b n))
   unfolding withHalf half
-  placed-high w c v n r z e = rw (ne-eqb h 0 z, record-back at h1 w c v n r e)
+  placed-high w c v b n r z e = rw (ne-eqb h 0 z, record-back at h1 w c v b n r e)
 
 -- ---- room, and appending
 
 -- the record put at the frontier, which moves past it, is the record appended
-pub appended : {N : Memory} (M : Memory) (h w c v n : ℕ) → N ≡ withHalf M h (sets (half M h) (frontier M h) (newRecord w c v n))
-    → withFrontier N h (frontier M h + (n + header)) ≡ append M h (newRecord w c v n)
+pub appended : {N : Memory} (M : Memory) (h w c v b n : ℕ) → N ≡ withHalf M h (sets (half M h) (frontier M h) (newRecord w c v b n))
+    → withFrontier N h (frontier M h + (n + header)) ≡ append M h (newRecord w c v b n)
 unfolding append
-appended M h w c v n e = rw (record-length w c v n, e)
+appended M h w c v b n e = rw (record-length w c v b n, e)

@@ -11,14 +11,16 @@ pub mod shades;
 pub mod stores;
 pub mod words;
 
-// The words of a record before its fields, and which of them is the shape, the colour and the replica.
-pub const HEADER: usize = 3;
+// The words of a record before its fields, and which of them is the shape, the colour, the replica and the birth number.
+pub const HEADER: usize = 4;
 
 pub const SHAPE_AT: usize = 0;
 
 pub const COLOUR_AT: usize = 1;
 
 pub const REPLICA_AT: usize = 2;
+
+pub const BIRTH_AT: usize = 3;
 
 // The colours, and the largest shape word.
 pub const WHITE: u32 = 0;

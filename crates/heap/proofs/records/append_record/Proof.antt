@@ -51,7 +51,7 @@ same-length c = search needs
 returns : tie.Need-returns
 returns c =
     let t = c .before .before .before .before in
-    λ f0 f1. placed-low _ _ f0 f1 _ _ _ _ _ _ (low t) (t .if1 .taken) (c .before .before .write-record .ensures)
+    λ f0 f1. placed-low _ _ f0 f1 _ _ _ _ _ _ _ (low t) (t .if1 .taken) (c .before .before .write-record .ensures)
 
 same-length-2 : tie.Need-same-length-2
 same-length-2 c = search needs
@@ -59,7 +59,7 @@ same-length-2 c = search needs
 returns-2 : tie.Need-returns-2
 returns-2 c =
     let t = c .before .before .before .before in
-    λ f0 f1. placed-high _ _ f0 f1 _ _ _ _ _ _ (high t) (t .if1 .left) (c .before .before .write-record2 .ensures)
+    λ f0 f1. placed-high _ _ f0 f1 _ _ _ _ _ _ _ (high t) (t .if1 .left) (c .before .before .write-record2 .ensures)
 
 pub append-record-spec : {M : Type 1} → statement M
 append-record-spec =

@@ -1,4 +1,4 @@
--- The three header words set over n + 3 zeros are the new record; behind it the part is as it came.
+-- The four header words set over n + 4 zeros are the new record; behind it the part is as it came.
 use native.Mathlib.Omega.{arith}
 use lib.ListN.{length-set}
 use Rattle.heap.proofs.Written.{record-written}
@@ -21,11 +21,14 @@ slice-write-part-2 c = simp length-set (omega (arith, c .before .before .clear-w
 slice-write-part-3 : tie.Need-slice-write-part-3
 slice-write-part-3 c = simp length-set (omega (arith, c .before .before .clear-words .kept .0))
 
+slice-write-part-4 : tie.Need-slice-write-part-4
+slice-write-part-4 c = simp length-set (omega (arith, c .before .before .clear-words .kept .0))
+
 same-length : tie.Need-same-length
 same-length c = search needs
 
 returns : tie.Need-returns
-returns c = rw (c .before .before .clear-words .ensures) (record-written _ _ _ _ _ (c .before .before .before .before .before .pre))
+returns c = rw (c .before .before .clear-words .ensures) (record-written _ _ _ _ _ _ (c .before .before .before .before .before .pre))
 
 pub write-record-spec : {M : Type 1} → statement M
 write-record-spec =
@@ -36,5 +39,6 @@ write-record-spec =
     slice-write-part
     slice-write-part-2
     slice-write-part-3
+    slice-write-part-4
     same-length
     returns)
