@@ -1,10 +1,10 @@
--- What the functions of allocation ask of their callers; the tests 4, 10 and 14 give it.
-use Prim.Native.Nat.{ℕ, _+_, _≤_}
+-- What the functions of allocation ask of their callers; the tests 4, 10, 14 and 16 give it.
+use Prim.Native.Nat.{ℕ, _+_, _≤_, _<_}
 use mathlib.Core.Path.{_≡_}
 use mathlib.Core.Bool.{true}
 use mathlib.Core.List.{List}
 use lib.ListN.{length}
-use Rattle.rules.specs.Control.{mostLength}
+use Rattle.rules.specs.Control.{mostLength, mostBirths}
 use Rattle.rules.specs.Memory.{half, frontier, header, mostCount}
 use Rattle.rules.specs.Barriers.{allocationRoom}
 use Rattle.heap.specs.View.{memory}
@@ -31,7 +31,8 @@ pub record Room (c : Control) (h0 h1 : List ℕ) (h r p : ℕ) : Type 0 where
   pub refs : r ≤ mostCount
   pub plains : p ≤ mostCount
 
--- the halves that an allocation at level l writes have room
+-- the halves that an allocation at level l writes have room, and a birth number is left
 pub record Allocatable (c : Control) (h0 h1 : List ℕ) (l r p : ℕ) : Type 0 where
   pub small : Small c r p
+  pub left : c .births < mostBirths
   pub room : (g : List ℕ) → allocationRoom (view c h0 h1 g) l r p ≡ true

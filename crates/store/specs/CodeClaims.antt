@@ -1,4 +1,4 @@
--- The claims 2 to 4, two of 7 and one of 8 of the rules (`Claims.antt` there), said of the code: of the replies of its calls, and of the control records
+-- The claims 2 to 4, two of 7, one of 8 and one of 9 of the rules (`Claims.antt` there), said of the code: of the replies of its calls, and of the control records
 -- and words that they leave.
 use Prim.Native.Nat.{ℕ, _+_, _≤_, _<_}
 use mathlib.Core.Path.{_≡_}
@@ -7,7 +7,7 @@ use mathlib.Core.Bool.{cond}
 use mathlib.Core.List.{List, [], _∷_, _++_, List·Memᴰ}
 use lib.ListN.{length, take, drop}
 use Rattle.rules.specs.Refusals.{passed, Reply, answer}
-use Rattle.rules.specs.Memory.{frontier, followed}
+use Rattle.rules.specs.Memory.{frontier, birthNumber, followed}
 use Rattle.rules.specs.Cycle.{atRest, atHeapMark, atReclaim}
 use Rattle.rules.specs.Runs.{Call, Step, isSession, isAllocation, sessionCalls, Fed, fedBy, steps, spentBy}
 use Rattle.rules.specs.Free.{newFree, freeRun}
@@ -110,3 +110,10 @@ CodeRecordsFollowed =
     (a e : Lent) (cs : List Call) (rs : List Reply) → CodeMade a → CodeRun a cs rs e
     → (h : ℕ) → h < 2 → (h ≡ e .control .cursor .current) ⊎ (e .control .cursor .phase ≢ atReclaim)
     → (v : ℕ) → List·Memᴰ v (recordsOf (viewed e .memory) h) → followed (viewed e .memory) v ≡ passed tt
+
+-- ---- 9. Birth numbers
+-- in every run of the code the birth number of each record that either half holds is the place of the record that it stands for
+unfoldable pub CodeBirthNumbers : Type 0
+CodeBirthNumbers =
+    (a e : Lent) (cs : List Call) (rs : List Reply) → CodeMade a → CodeRun a cs rs e
+    → (h : ℕ) → h < 2 → (v : ℕ) → List·Memᴰ v (recordsOf (viewed e .memory) h) → birthNumber (viewed e .memory) v ≡ besideCode a cs e .place v

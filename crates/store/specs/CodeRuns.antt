@@ -7,7 +7,7 @@ use mathlib.Core.List.{List, [], _∷_}
 use Rattle.rules.specs.Refusals.{Reply, answer, words, wordsOr, doneOr}
 use Rattle.rules.specs.Control.{Store, make}
 use Rattle.rules.specs.Calls.{stretch}
-use Rattle.rules.specs.Runs.{Call, Attach, Detach, SafePoint, Allocate, Load, StoreRef, Read, Write, Move, Clear, SameAs, Get, Put, Stretch, Companion, Step, apply, run, after}
+use Rattle.rules.specs.Runs.{Call, Attach, Detach, SafePoint, Allocate, Load, StoreRef, Read, Write, Move, Clear, SameAs, Get, Put, Stretch, Companion, Birth, Step, apply, run, after}
 use Rattle.rules.specs.Claims.{Made}
 use Rattle.rules.specs.declared.Answer.{Answer}
 use Rattle.rules.specs.declared.Answer.the-variants.{Done}
@@ -91,6 +91,9 @@ pub data Called (self : Control) (h0 h1 list : List ℕ) : Call → Reply → Le
   by-companion : (s register : ℕ) (r : Answer)
       → r ≡ doneOr (stretch (view self h0 h1 list) s register)
       → Called self h0 h1 list (Companion s register) (answer r) (lent self h0 h1 list)
+  by-birth : (s register : ℕ) (r : code.Reply)
+      → outcome r h0 h1 list ≡ apply (view self h0 h1 list) (Birth s register)
+      → Called self h0 h1 list (Birth s register) (answer (r .answer)) (lent (r .control) h0 h1 list)
   by-step : (r : code.Reply) (h0′ h1′ list′ : List ℕ)
       → outcome r h0′ h1′ list′ ≡ apply (view self h0 h1 list) Step
       → Called self h0 h1 list Step (answer (r .answer)) (lent (r .control) h0′ h1′ list′)

@@ -19,6 +19,7 @@ having s c h0 h1 l =
       phase = c .phase;
       walk = record { place = c .place; field = c .field };
       list = record { words = l; head = c .head; tail = c .tail };
+      births = s .births;
       globals = s .globals;
       sessions = s .sessions;
     }

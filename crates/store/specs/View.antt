@@ -16,6 +16,7 @@ view c h0 h1 l =
       phase = c .cursor .phase;
       walk = record { place = c .cursor .place; field = c .cursor .field };
       list = record { words = l; head = c .cursor .head; tail = c .cursor .tail };
+      births = c .births;
       globals = c .globals;
       sessions = c .sessions;
     }

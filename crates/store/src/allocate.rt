@@ -35,7 +35,7 @@ impl Control {
         if self.cursor.current == 0 { low } else { high }
     }
 
-    // The tests 4, 5, 6, 8, 10 and 14: the number of the first that fails, or 0.
+    // The tests 4, 5, 6, 8, 10, 14 and 16: the number of the first that fails, or 0.
     fn allocation_tests(
         self,
         h0: &[u32],
@@ -62,10 +62,17 @@ impl Control {
         let i = s as usize;
         let session = self.sessions[i];
         let room = self.allocation_room(session.level, r, p);
-        if room { 0 } else { 14 }
+        if !room {
+            return 14;
+        }
+        if self.births < Control::MOST_BIRTHS {
+            0
+        } else {
+            16
+        }
     }
 
-    // A record of zero fields at the frontier of half h.
+    // A record of zero fields with a birth number at the frontier of half h.
     fn placed(
         self,
         h0: &mut [u32],
@@ -75,31 +82,33 @@ impl Control {
         p: u32,
         colour: u32,
         replica: u32,
+        birth: u32,
     ) -> Self
         requires { ⌜ Room self (now h0) (now h1) h r p ⌝ }
         ensures { λ c. ⌜ ((l : List ℕ) → view c (now (h0 .exit)) (now (h1 .exit)) l
             ≡ withMemory (view self (now (h0 .entry)) (now (h1 .entry)) l)
-            (placed (view self (now (h0 .entry)) (now (h1 .entry)) l .memory) h r p colour replica)) ⌝ }
+            (placed (view self (now (h0 .entry)) (now (h1 .entry)) l .memory) h r p colour replica birth)) ⌝ }
     {
         let at = frontier(self.cursor.frontier0, self.cursor.frontier1, h);
         let n = (r as usize) + (p as usize);
-        append_record(h0, h1, h, at, 256 * r + p, colour, replica, n);
+        append_record(h0, h1, h, at, 256 * r + p, colour, replica, birth, n);
         self.with_frontier(h, at + (n + HEADER))
     }
 
     // The new record by the session's level: white or black in the current half, or a black copy in fromspace with a
-    // white one in tospace.
+    // white one in tospace, with the next birth number in each.
     fn allocated(self, h0: &mut [u32], h1: &mut [u32], level: u32, r: u32, p: u32) -> Self
         requires { ⌜ Allocatable self (now h0) (now h1) level r p ⌝ }
         ensures { λ c. ⌜ ((l : List ℕ) → view c (now (h0 .exit)) (now (h1 .exit)) l
             ≡ withMemory (view self (now (h0 .entry)) (now (h1 .entry)) l)
             (allocated (view self (now (h0 .entry)) (now (h1 .entry)) l) level r p)) ⌝ }
     {
+        let birth = self.births + 1;
         if level <= 1 {
-            return self.placed(h0, h1, self.cursor.current, r, p, WHITE, 0);
+            return self.placed(h0, h1, self.cursor.current, r, p, WHITE, 0, birth);
         }
         if level <= 2 {
-            return self.placed(h0, h1, self.cursor.current, r, p, BLACK, 0);
+            return self.placed(h0, h1, self.cursor.current, r, p, BLACK, 0, birth);
         }
         let from = self.fromspace();
         let to = other_half(from);
@@ -111,8 +120,8 @@ impl Control {
             to,
             frontier(self.cursor.frontier0, self.cursor.frontier1, to),
         );
-        let first = self.placed(h0, h1, from, r, p, BLACK, new);
-        first.placed(h0, h1, to, r, p, WHITE, old)
+        let first = self.placed(h0, h1, from, r, p, BLACK, new, birth);
+        first.placed(h0, h1, to, r, p, WHITE, old, birth)
     }
 
     // The half whose copy the register gets.
@@ -139,7 +148,7 @@ impl Control {
         reference(h, frontier(self.cursor.frontier0, self.cursor.frontier1, h))
     }
 
-    // Allocate: the register gets a record of r null references and p zeros.
+    // Allocate: the register gets a record of r null references and p zeros, and its birth number is used.
     pub fn allocate(
         self,
         h0: &mut [u32],
@@ -163,7 +172,8 @@ impl Control {
         let i = s as usize;
         let session = self.sessions[i];
         let v = self.allocated_reference(session.level);
-        let written = self.allocated(h0, h1, session.level, r, p);
+        let mut written = self.allocated(h0, h1, session.level, r, p);
+        written.births = self.births + 1;
         let next = written.with_register(s, register, v);
         Reply {
             control: next,

@@ -18,6 +18,7 @@ mod stores; // stores.rt: store, put
 mod allocate; // allocate.rt: allocate
 mod operands; // operands.rt: the register of the record worked on, refusals 8 and 11
 mod fields; // fields.rt: load and read
+mod birth; // birth.rt: the birth number
 mod stretch; // stretch.rt: the stretch and its companion
 mod writing; // writing.rt: write
 mod same; // same.rt: same
@@ -46,12 +47,14 @@ pub struct Cursor {
     pub tail: usize,
 }
 
-// Document 01's list: the three lent lengths, the collector's numbers, 32 global references and the sessions.
+// Document 01's list: the three lent lengths, the collector's numbers, 32 global references and the sessions; and how many
+// birth numbers are used.
 pub struct Control {
     pub length0: usize,
     pub length1: usize,
     pub capacity: usize,
     pub cursor: Cursor,
+    pub births: u32,
     pub globals: [u32; Control::GLOBALS],
     pub sessions: [rules::Session; Control::SESSIONS],
 }
@@ -127,6 +130,8 @@ impl Control {
 
     pub const MOST_COUNT: u32 = 255;
 
+    pub const MOST_BIRTHS: u32 = 4294967295;
+
     pub const LAST_LEVEL: u32 = 6;
 
     pub const LAST_SESSION: u32 = (Control::SESSIONS - 1) as u32;
@@ -167,6 +172,7 @@ impl Control {
             length1,
             capacity,
             cursor,
+            births: 0,
             globals: [0; Control::GLOBALS],
             sessions: [nobody; Control::SESSIONS],
         }

@@ -14,6 +14,7 @@ use crate::Cursor;
 use crate::walking::frontier;
 use crate::walking::reference;
 use crate::work::Work;
+use heap::BIRTH_AT;
 use heap::COLOUR_AT;
 use heap::HEADER;
 use heap::REPLICA_AT;
@@ -36,7 +37,7 @@ fn needs_shell<'a>(h0: &'a [u32], h1: &'a [u32], v: u32) -> bool
     (colour != WHITE) & (replica == 0)
 }
 
-// A shell for the record v of n fields at a word of the other half, and the replica words of both.
+// A shell for the record v of n fields at a word of the other half, with its birth number, and the replica words of both.
 fn put_shell(h0: &mut [u32], h1: &mut [u32], other: u32, at: usize, v: u32, n: usize)
     requires { ⌜ Shelled (now h0) (now h1) other at v n ⌝ }
     ensures { λ _. ⌜ ((f0 f1 : ℕ) → frontier (memory (now (h0 .entry)) (now (h1 .entry)) f0 f1) other ≡ at
@@ -44,8 +45,9 @@ fn put_shell(h0: &mut [u32], h1: &mut [u32], other: u32, at: usize, v: u32, n: u
         ≡ withShell (memory (now (h0 .entry)) (now (h1 .entry)) f0 f1) other v) ⌝ }
 {
     let shape = get_word(h0, h1, v, SHAPE_AT);
+    let birth = get_word(h0, h1, v, BIRTH_AT);
     let shell = reference(other, at);
-    append_record(h0, h1, other, at, shape, WHITE, v, n);
+    append_record(h0, h1, other, at, shape, WHITE, v, birth, n);
     put_word(h0, h1, v, REPLICA_AT, shell);
 }
 

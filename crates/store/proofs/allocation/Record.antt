@@ -12,7 +12,7 @@ use Rattle.rules.specs.Cycle.{atReclaim}
 use Rattle.rules.specs.Memory.{Memory, half, frontier, withHalf, withFrontier, reference, shapeWord, newRecord, append, nextReference, header}
 use Rattle.rules.specs.Control.{Store, withMemory, mostLength}
 use Rattle.rules.specs.Phases.{otherHalf, fromspace, tospace}
-use Rattle.rules.specs.Barriers.{roomIn, allocationRoom, placed, allocated, allocatedReference}
+use Rattle.rules.specs.Barriers.{roomIn, allocationRoom, nextBirth, placed, allocated, allocatedReference}
 use Rattle.rules.proofs.Ranges.{both}
 use Rattle.heap.specs.View.{memory}
 use Rattle.heap.proofs.Written.{appended}
@@ -30,15 +30,15 @@ room-at h0 h1 f0 f1 h n e a = rw e a
 pub below-at : {at f m : ℕ} → at ≡ f → f ≤ m → at ≤ m
 below-at e a = rw e a
 
-pub placed-at : {t : Store} {N : Memory} {at : ℕ} (s : Store) (h r p c v : ℕ) → at ≡ frontier (s .memory) h
-    → N ≡ withHalf (s .memory) h (sets (half (s .memory) h) at (newRecord (256 * r + p) c v (r + p)))
+pub placed-at : {t : Store} {N : Memory} {at : ℕ} (s : Store) (h r p c v q : ℕ) → at ≡ frontier (s .memory) h
+    → N ≡ withHalf (s .memory) h (sets (half (s .memory) h) at (newRecord (256 * r + p) c v q (r + p)))
     → t ≡ withMemory s (withFrontier N h (at + (r + p + header)))
-    → t ≡ withMemory s (placed (s .memory) h r p c v)
+    → t ≡ withMemory s (placed (s .memory) h r p c v q)
 unfolding placed shapeWord
-placed-at {t} {N} {at} s h r p c v a b e =
-    let d : N ≡ withHalf (s .memory) h (sets (half (s .memory) h) (frontier (s .memory) h) (newRecord (256 * r + p) c v (r + p))) = rw (← a) b in
+placed-at {t} {N} {at} s h r p c v q a b e =
+    let d : N ≡ withHalf (s .memory) h (sets (half (s .memory) h) (frontier (s .memory) h) (newRecord (256 * r + p) c v q (r + p))) = rw (← a) b in
     e ∙ ap (λ (k : ℕ). withMemory s (withFrontier N h (k + (r + p + header)))) a
-    ∙ ap (λ (M : Memory). withMemory s M) (appended (s .memory) h (256 * r + p) c v (r + p) d)
+    ∙ ap (λ (M : Memory). withMemory s M) (appended (s .memory) h (256 * r + p) c v q (r + p) d)
 
 -- ---- halves
 
@@ -96,21 +96,21 @@ module _ (c : Control) (h0 h1 : List ℕ) (l r p : ℕ) (a : Allocatable c h0 h1
       which (suc (suc h)) n x y = absurd (omega arith)
 
 -- a record in one half leaves the other as it is
-other-kept : (M : Memory) (f r p c v : ℕ) → f ≤ 1
-    → (frontier (placed M f r p c v) (otherHalf f) ≡ frontier M (otherHalf f)) × (half (placed M f r p c v) (otherHalf f) ≡ half M (otherHalf f))
+other-kept : (M : Memory) (f r p c v q : ℕ) → f ≤ 1
+    → (frontier (placed M f r p c v q) (otherHalf f) ≡ frontier M (otherHalf f)) × (half (placed M f r p c v q) (otherHalf f) ≡ half M (otherHalf f))
 unfolding placed append withFrontier withHalf frontier half otherHalf
-other-kept M zero r p c v n = (refl, refl)
-other-kept M (suc zero) r p c v n = (refl, refl)
-other-kept M (suc (suc f)) r p c v n = absurd (omega arith)
+other-kept M zero r p c v q n = (refl, refl)
+other-kept M (suc zero) r p c v q n = (refl, refl)
+other-kept M (suc (suc f)) r p c v q n = absurd (omega arith)
 
-pub room-second : {to : ℕ} (d c : Control) (h0 h1 k0 k1 : List ℕ) (from r p x v : ℕ) → from ≤ 1 → to ≡ otherHalf from → Room c h0 h1 to r p
-    → view d k0 k1 [] ≡ withMemory (view c h0 h1 []) (placed (view c h0 h1 [] .memory) from r p x v)
+pub room-second : {to : ℕ} (d c : Control) (h0 h1 k0 k1 : List ℕ) (from r p x v q : ℕ) → from ≤ 1 → to ≡ otherHalf from → Room c h0 h1 to r p
+    → view d k0 k1 [] ≡ withMemory (view c h0 h1 []) (placed (view c h0 h1 [] .memory) from r p x v q)
     → Room d k0 k1 to r p
-room-second {to} d c h0 h1 k0 k1 from r p x v n t m e =
+room-second {to} d c h0 h1 k0 k1 from r p x v q n t m e =
     let M = memory h0 h1 (c .cursor .frontier0) (c .cursor .frontier1) in
     let N = memory k0 k1 (d .cursor .frontier0) (d .cursor .frontier1) in
-    let E : N ≡ placed M from r p x v = ap (λ (s : Store). s .memory) e in
-    let k = other-kept M from r p x v n in
+    let E : N ≡ placed M from r p x v q = ap (λ (s : Store). s .memory) e in
+    let k = other-kept M from r p x v q n in
     let a : frontier N to ≡ frontier M to = ap (λ (Z : Memory). frontier Z to) E ∙ rw t (k .0) in
     let b : length (half N to) ≡ length (half M to) = ap (λ (Z : Memory). length (half Z to)) E ∙ rw t (ap length (k .1)) in
     let u : frontier M to + (r + p + header) ≤ length (half M to) = m .above in
@@ -119,22 +119,25 @@ room-second {to} d c h0 h1 k0 k1 from r p x v n t m e =
 
 -- ---- what is written, by level
 
-module _ {t : Store} (s : Store) (l r p : ℕ) where
-  pub allocated-white : l ≤ 1 → t ≡ withMemory s (placed (s .memory) (s .current) r p 0 0) → t ≡ withMemory s (allocated s l r p)
-  unfolding allocated
-  allocated-white g e = rw (le-leb l 1 g) e
+pub next-birth : (s : Store) → nextBirth s ≡ s .births + 1
+next-birth s = omega arith
 
-  pub allocated-black : 1 < l → l ≤ 2 → t ≡ withMemory s (placed (s .memory) (s .current) r p 2 0) → t ≡ withMemory s (allocated s l r p)
+module _ {t : Store} (s : Store) (l r p : ℕ) where
+  pub allocated-white : l ≤ 1 → t ≡ withMemory s (placed (s .memory) (s .current) r p 0 0 (s .births + 1)) → t ≡ withMemory s (allocated s l r p)
   unfolding allocated
-  allocated-black f g e = rw (lt-leb l 1 f, le-leb l 2 g) e
+  allocated-white g e = rw (le-leb l 1 g, next-birth s) e
+
+  pub allocated-black : 1 < l → l ≤ 2 → t ≡ withMemory s (placed (s .memory) (s .current) r p 2 0 (s .births + 1)) → t ≡ withMemory s (allocated s l r p)
+  unfolding allocated
+  allocated-black f g e = rw (lt-leb l 1 f, le-leb l 2 g, next-birth s) e
 
   pub allocated-both : {u : Store} {from to old new fo fn : ℕ} → 1 < l → 2 < l → from ≡ fromspace s → to ≡ otherHalf from
       → fo ≡ frontier (s .memory) from → old ≡ reference from fo → fn ≡ frontier (s .memory) to → new ≡ reference to fn
-      → u ≡ withMemory s (placed (s .memory) from r p 2 new)
-      → t ≡ withMemory u (placed (u .memory) to r p 0 old)
+      → u ≡ withMemory s (placed (s .memory) from r p 2 new (s .births + 1))
+      → t ≡ withMemory u (placed (u .memory) to r p 0 old (s .births + 1))
       → t ≡ withMemory s (allocated s l r p)
   unfolding allocated nextReference tospace
-  allocated-both f g a b c d e h x y = rw (lt-leb l 1 f, lt-leb l 2 g, y, x, h, e, d, c, b, a)
+  allocated-both f g a b c d e h x y = rw (lt-leb l 1 f, lt-leb l 2 g, y, x, h, e, d, c, b, a, next-birth s)
 
 -- ---- the reference
 

@@ -1,4 +1,4 @@
--- Allocation: its tests, room, and the record written in one half or in both.
+-- Allocation: its tests, room and birth numbers left, and the record written in one half or in both.
 use Prim.Native.Nat.{ℕ, _+_, _≤_, _<_}
 use mathlib.Core.Path.{_≡_, _∙_, sym}
 use mathlib.Core.Bool.{true, false, _&&_}
@@ -6,19 +6,20 @@ use mathlib.Core.List.{List}
 use native.Mathlib.Omega.{arith}
 use lib.Dec.{leb}
 use lib.ListN.{length}
-use borrow.Author.Tests.{le-leb, lt-leb, leb-true, eq-eqb, ne-eqb}
+use borrow.Author.Tests.{le-leb, lt-leb, leb-true, lt-ltb, le-ltb, ltb-true, eq-eqb, ne-eqb}
 use Rattle.rules.specs.Refusals.{passed, refusalOf, done}
 use Rattle.rules.specs.Memory.{half, frontier, header, mostCount}
-use Rattle.rules.specs.Control.{Store, withMemory, lastRegister, lastSession}
+use Rattle.rules.specs.Control.{Store, withMemory, withBirths, mostBirths, lastRegister, lastSession}
 use Rattle.rules.specs.Phases.{sessionAt}
-use Rattle.rules.specs.Barriers.{roomIn, allocationRoom, allocated, allocatedReference}
-use Rattle.rules.specs.Calls.{sessionOf, isRegister, isShape, withRegister, allocate}
+use Rattle.rules.specs.Barriers.{roomIn, allocationRoom, nextBirth, allocated, allocatedReference}
+use Rattle.rules.specs.Calls.{sessionOf, isRegister, isShape, numberLeft, withRegister, allocate}
 use Rattle.rules.proofs.Ranges.{both, InRange, in-session, session-passed}
 use Rattle.heap.specs.View.{memory}
 use Rattle.store.specs.View.{view}
 use Rattle.store.specs.Allocation.{Fits, Small, Allocatable}
 use Rattle.store.specs.declared.Control.{Control}
 use Rattle.store.proofs.tests.Numbers.{first-passed, check-passed}
+use Rattle.store.proofs.allocation.Record.{next-birth}
 
 -- ---- what the control record test gives
 
@@ -49,9 +50,13 @@ module _ (s : Store) (l r p n : ℕ) (f0 : n ≡ length (s .memory .half0)) (f1 
 -- ---- the row of tests
 
 module _ (s : Store) (n k r p : ℕ) (a : sessionOf s n ≡ passed (sessionAt s n)) (i : k ≤ lastRegister) (j : (leb r mostCount && leb p mostCount) ≡ true) where
-  pub tests-passed : allocationRoom s (sessionAt s n .level) r p ≡ true → 0 ≡ refusalOf (allocate s n k r p)
-  unfolding allocate
-  tests-passed b = rw (a, le-leb k lastRegister i, j, b)
+  pub tests-passed : allocationRoom s (sessionAt s n .level) r p ≡ true → s .births < mostBirths → 0 ≡ refusalOf (allocate s n k r p)
+  unfolding allocate numberLeft
+  tests-passed b c = rw (a, le-leb k lastRegister i, j, b, lt-ltb (s .births) mostBirths c)
+
+  pub tests-no-number : allocationRoom s (sessionAt s n .level) r p ≡ true → mostBirths ≤ s .births → 16 ≡ refusalOf (allocate s n k r p)
+  unfolding allocate numberLeft
+  tests-no-number b c = rw (a, le-leb k lastRegister i, j, b, le-ltb (s .births) mostBirths c)
 
   pub tests-no-room : allocationRoom s (sessionAt s n .level) r p ≡ false → 14 ≡ refusalOf (allocate s n k r p)
   unfolding allocate
@@ -59,7 +64,7 @@ module _ (s : Store) (n k r p : ℕ) (a : sessionOf s n ≡ passed (sessionAt s 
 
 -- the store with the record allocated at level l
 abbrev after : Store → ℕ → ℕ → ℕ → ℕ → ℕ → Store
-after s n k l r p = withRegister (withMemory s (allocated s l r p)) n k (allocatedReference s l)
+after s n k l r p = withRegister (withBirths (withMemory s (allocated s l r p)) (nextBirth s)) n k (allocatedReference s l)
 
 -- what holds where the tests answered 0
 pub record Allocating (c : Control) (h0 h1 g : List ℕ) (n k r p : ℕ) : Type 0 where
@@ -73,7 +78,7 @@ unfolding allocationRoom
 any-list c h0 h1 g m l r p e = e
 
 pub allocating : {q : ℕ} (c : Control) (h0 h1 g : List ℕ) (n k r p : ℕ) → q ≡ refusalOf (allocate (view c h0 h1 g) n k r p) → q ≡ 0 → Allocating c h0 h1 g n k r p
-unfolding allocate
+unfolding allocate numberLeft
 allocating c h0 h1 g n k r p e z =
     let s = view c h0 h1 g in
     let x = sessionAt s n in
@@ -81,17 +86,18 @@ allocating c h0 h1 g n k r p e z =
     let t = check-passed (isRegister k) 7 _ (rw f at (sym e ∙ z)) in
     let u = check-passed (isShape r p) 9 _ (t .1) in
     let v = check-passed (allocationRoom s (x .level) r p) 13 _ (u .1) in
+    let w = check-passed (numberLeft (s .births)) 15 _ (v .1) in
     let i = in-session s n f in
     record {
       number = i .number;
       register = leb-true k 7 (t .0);
-      ready = record { small = small c h0 h1 g (i .known) r p (u .0); room = λ m. any-list c h0 h1 g m (x .level) r p (v .0) };
-      outcome = rw (f, t .0, u .0, v .0);
+      ready = record { small = small c h0 h1 g (i .known) r p (u .0); left = ltb-true (c .births) mostBirths (w .0); room = λ m. any-list c h0 h1 g m (x .level) r p (v .0) };
+      outcome = rw (f, t .0, u .0, v .0, w .0);
     }
 
 pub allocate-done : {t u : Store} {v : ℕ} (c : Control) (h0 h1 g : List ℕ) (n k r p : ℕ) → Allocating c h0 h1 g n k r p
     → v ≡ allocatedReference (view c h0 h1 g) (sessionAt (view c h0 h1 g) n .level)
     → u ≡ withMemory (view c h0 h1 g) (allocated (view c h0 h1 g) (sessionAt (view c h0 h1 g) n .level) r p)
-    → t ≡ withRegister u n k v
+    → t ≡ withRegister (withBirths u (c .births + 1)) n k v
     → allocate (view c h0 h1 g) n k r p ≡ done t
-allocate-done c h0 h1 g n k r p a x y z = rw (a .outcome, z, y, x)
+allocate-done c h0 h1 g n k r p a x y z = rw (a .outcome, z, y, x, next-birth (view c h0 h1 g))

@@ -9,7 +9,7 @@ use lib.ListN.{length}
 use lib.Seq.{sets}
 use borrow.Author.Tests.{le-leb, lt-leb}
 use Rattle.rules.specs.Refusals.{refused, Outcome, answer}
-use Rattle.rules.specs.Memory.{Memory, half, frontier, withHalf, withFrontier, reference, newRecord, nextReference, append, word, put, refs, plains, followed, header, replicaAt, shapeAt}
+use Rattle.rules.specs.Memory.{Memory, half, frontier, withHalf, withFrontier, reference, newRecord, nextReference, append, word, put, refs, plains, followed, header, replicaAt, shapeAt, birthAt, birthNumber}
 use Rattle.rules.specs.Control.{Store, withMemory, withWalk, mostLength}
 use Rattle.rules.specs.Phases.{otherHalf}
 use Rattle.rules.specs.Collector.{below, pastRecord, handshake, needsShell, shellOf, withShell, allocateShells}
@@ -35,25 +35,25 @@ put-frontier : (N : Memory) (h f v j x : ℕ) → put (withFrontier N h f) v j x
 unfolding put withFrontier withHalf half
 put-frontier N h f v j x = refl
 
-shell-words : {shape shell n at : ℕ} (M : Memory) (other v : ℕ) → shape ≡ word M v shapeAt → shell ≡ reference other at
+shell-words : {shape birth shell n at : ℕ} (M : Memory) (other v : ℕ) → shape ≡ word M v shapeAt → birth ≡ word M v birthAt → shell ≡ reference other at
     → n ≡ refs M v + plains M v → frontier M other ≡ at
-    → put (append M other (newRecord shape 0 v n)) v replicaAt shell ≡ withShell M other v
-unfolding withShell shellOf nextReference
-shell-words M other v w t n e = rw (w, t, n, e)
+    → put (append M other (newRecord shape 0 v birth n)) v replicaAt shell ≡ withShell M other v
+unfolding withShell shellOf nextReference birthNumber
+shell-words M other v w b t n e = rw (w, b, t, n, e)
 
-module _ (h0 h1 : List ℕ) (f0 f1 : ℕ) {N P : Memory} {shape shell : ℕ} (other at v n : ℕ) where
+module _ (h0 h1 : List ℕ) (f0 f1 : ℕ) {N P : Memory} {shape birth shell : ℕ} (other at v n : ℕ) where
   pub shell-put : n ≡ refs (memory h0 h1 0 0) v + plains (memory h0 h1 0 0) v
-      → shape ≡ word (memory h0 h1 f0 f1) v shapeAt → shell ≡ reference other at
-      → N ≡ withHalf (memory h0 h1 f0 f1) other (sets (half (memory h0 h1 f0 f1) other) at (newRecord shape 0 v n))
+      → shape ≡ word (memory h0 h1 f0 f1) v shapeAt → birth ≡ word (memory h0 h1 f0 f1) v birthAt → shell ≡ reference other at
+      → N ≡ withHalf (memory h0 h1 f0 f1) other (sets (half (memory h0 h1 f0 f1) other) at (newRecord shape 0 v birth n))
       → P ≡ put N v replicaAt shell → frontier (memory h0 h1 f0 f1) other ≡ at
       → withFrontier P other (at + (n + header)) ≡ withShell (memory h0 h1 f0 f1) other v
-  shell-put c w t a p e =
+  shell-put c w b t a p e =
       let M = memory h0 h1 f0 f1 in
-      let q : withFrontier N other (frontier M other + (n + header)) ≡ append M other (newRecord shape 0 v n) = appended M other shape 0 v n (rw e a) in
+      let q : withFrontier N other (frontier M other + (n + header)) ≡ append M other (newRecord shape 0 v birth n) = appended M other shape 0 v birth n (rw e a) in
       ap (λ (X : Memory). withFrontier X other (at + (n + header))) p
       ∙ sym (put-frontier N other (at + (n + header)) v replicaAt shell)
       ∙ ap (λ (X : Memory). put X v replicaAt shell) (rw e at q)
-      ∙ shell-words M other v w t (c ∙ fields-any h0 h1 f0 f1 v) e
+      ∙ shell-words M other v w b t (c ∙ fields-any h0 h1 f0 f1 v) e
 
 -- ---- a record that is to get its shell
 
@@ -90,6 +90,7 @@ module _ {c : Cursor} {h0 h1 : List ℕ} {v k r p other at : ℕ} (x : AtShell c
       record {
         shape = header-of (x .here) shapeAt (omega arith);
         replica = header-of (x .here) replicaAt (omega arith);
+        birth = header-of (x .here) birthAt (omega arith);
         fields = sym (fields-any h0 h1 (c .frontier0) (c .frontier1) v ∙ sym (sum (f .refs) (f .plains)));
         side = omega (arith, ranges .half, x .other);
         few = omega (arith, ranges .most);

@@ -6,17 +6,17 @@ use mathlib.Core.Bool.{cond}
 use mathlib.Core.List.{List, [], _∷_, _++_, List·Memᴰ}
 use lib.ListN.{take, drop}
 use Rattle.rules.specs.Refusals.{passed, Reply}
-use Rattle.rules.specs.Memory.{frontier, followed}
+use Rattle.rules.specs.Memory.{frontier, birthNumber, followed}
 use Rattle.rules.specs.Control.{Store}
 use Rattle.rules.specs.Runs.{Call, Step, apply, run, after, isSession, isAllocation, sessionRun, fedBy, feeds, steps, spentBy, spent}
 use Rattle.rules.specs.Tracking.{Beside, besideCall, beside, newBeside, recordsOf}
 use Rattle.rules.specs.Cycle.{atRest, atReclaim}
-use Rattle.rules.specs.Claims.{Answers, NoDamage, FilledFrom, Filled, TwoRuns, Freed, FreedBetween, leftIn, placesIn, StaysFreed, scansAndMove, MarkingEnds, MarkingIsOver, RecordsFollowed}
+use Rattle.rules.specs.Claims.{Answers, NoDamage, FilledFrom, Filled, TwoRuns, Freed, FreedBetween, leftIn, placesIn, StaysFreed, scansAndMove, MarkingEnds, MarkingIsOver, RecordsFollowed, BirthNumbers}
 use Rattle.rules.proofs.runs.Runs.{beside-store}
-use Rattle.rules.proofs.runs.Claims.{answers, no-damage, filled, two-runs, freed, stays-freed, records-followed}
+use Rattle.rules.proofs.runs.Claims.{answers, no-damage, filled, two-runs, freed, stays-freed, records-followed, birth-numbers}
 use Rattle.rules.proofs.runs.MarkingEnds.{marking-ends, marking-is-over}
 use Rattle.store.specs.CodeRuns.{Lent, viewed, CodeRun, ended, next}
-use Rattle.store.specs.CodeClaims.{sessionReplies, fedReplies, CodeAnswers, CodeNoDamage, CodeFilled, CodeTwoRuns, besideCode, CodeFreed, CodeStaysFreed, codeSpent, CodeMarkingEnds, CodeMarkingIsOver, CodeRecordsFollowed}
+use Rattle.store.specs.CodeClaims.{sessionReplies, fedReplies, CodeAnswers, CodeNoDamage, CodeFilled, CodeTwoRuns, besideCode, CodeFreed, CodeStaysFreed, codeSpent, CodeMarkingEnds, CodeMarkingIsOver, CodeRecordsFollowed, CodeBirthNumbers}
 use Rattle.store.proofs.runs.Runs.{called-applies, code-made, run-applies}
 
 -- of the replies of a run of the rules, the session answers and what is fed
@@ -139,3 +139,9 @@ unfolding CodeRecordsFollowed RecordsFollowed
 code-records-followed a e cs rs made calls =
     subst (λ (s : Store). (h : ℕ) → h < 2 → (h ≡ s .current) ⊎ (s .phase ≢ atReclaim) → (v : ℕ) → List·Memᴰ v (recordsOf (s .memory) h) → followed (s .memory) v ≡ passed tt)
     (sym (run-applies calls .1)) (records-followed (viewed a) (code-made made) cs)
+
+pub code-birth-numbers : CodeBirthNumbers
+unfolding CodeBirthNumbers BirthNumbers
+code-birth-numbers a e cs rs made calls =
+    subst (λ (s : Store). (h : ℕ) → h < 2 → (v : ℕ) → List·Memᴰ v (recordsOf (s .memory) h) → birthNumber (s .memory) v ≡ beside (newBeside (viewed a)) cs .place v)
+    (sym (run-applies calls .1)) (birth-numbers (viewed a) (code-made made) cs)

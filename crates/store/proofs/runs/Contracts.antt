@@ -9,10 +9,10 @@ use denote.Ref.{RefT, now}
 use denote.Triple.Entry.{Args, Res}
 use denote.Triple.Clauses.{Ended, Lasts, AtExit, atExit}
 use Rattle.rules.specs.Refusals.{answer, words}
-use Rattle.rules.specs.Runs.{Attach, Detach, SafePoint, Allocate, Load, StoreRef, Read, Write, Move, Clear, SameAs, Get, Put, Stretch, Companion, Step}
+use Rattle.rules.specs.Runs.{Attach, Detach, SafePoint, Allocate, Load, StoreRef, Read, Write, Move, Clear, SameAs, Get, Put, Stretch, Companion, Birth, Step}
 use Rattle.rules.specs.declared.Answer.{Answer}
 use Rattle.rules.specs.declared.Answer.the-variants.{Done}
-use Rattle.store.specs.CodeRuns.{lent, CodeMade, by-make, Called, by-attach, by-detach, by-safe-point, by-allocate, by-load, by-store, by-read, by-write, by-move-register, by-clear, by-same, by-get, by-put, by-stretch, by-companion, by-step}
+use Rattle.store.specs.CodeRuns.{lent, CodeMade, by-make, Called, by-attach, by-detach, by-safe-point, by-allocate, by-load, by-store, by-read, by-write, by-move-register, by-clear, by-same, by-get, by-put, by-stretch, by-companion, by-birth, by-step}
 use Rattle.store.specs.declared.Control.{Control}
 use Rattle.store.specs.declared.Reply.{Reply}
 use Rattle.store.proofs.Control.make as make
@@ -31,6 +31,8 @@ use Rattle.store.proofs.Control.store as store
 use Rattle.store.proofs.Control.store.Reads as store-reads
 use Rattle.store.proofs.Control.read as read
 use Rattle.store.proofs.Control.read.Reads as read-reads
+use Rattle.store.proofs.Control.birth as birth
+use Rattle.store.proofs.Control.birth.Reads as birth-reads
 use Rattle.store.proofs.Control.write as write
 use Rattle.store.proofs.Control.write.Reads as write-reads
 use Rattle.store.proofs.Control.move_register as move-register
@@ -156,6 +158,12 @@ pub companion-called : (κs : Lfts 2) (self : Control) (h0 h1 list : Slice) (s r
     (self, (h0, (h1, (list, (s, (register, tt)))))) r (tt, (tt, (tt, (tt, (tt, (tt, tt))))))
     (Called self (now h0) (now h1) (now list) (Companion s register) (answer r) (lent self (now h0) (now h1) (now list)))
 companion-called κs self h0 h1 list s register r = (tt, by-companion s register r)
+
+pub birth-called : (κs : Lfts 2) (self : Control) (h0 h1 list : Slice) (s register : ℕ) (r : Reply)
+    → Gives birth.ended birth-reads.Asked birth-reads.Learnt κs
+    (self, (h0, (h1, (list, (s, (register, tt)))))) r (tt, (tt, (tt, (tt, (tt, (tt, tt))))))
+    (Called self (now h0) (now h1) (now list) (Birth s register) (answer (r .answer)) (lent (r .control) (now h0) (now h1) (now list)))
+birth-called κs self h0 h1 list s register r = (tt, by-birth s register r)
 
 pub step-called : (κs : Lfts 3) (self : Control) (h0 h1 list : Slice) (r : Reply) (h0′ h1′ list′ : List ℕ)
     → Gives step.ended step-reads.Asked step-reads.Learnt κs

@@ -6,7 +6,7 @@ use Rattle.rules.specs.Refusals.{Reply, answer, words}
 use Rattle.rules.specs.Runs.{Call, apply, run, after}
 use Rattle.rules.specs.Claims.{Made}
 use Rattle.store.specs.View.{view}
-use Rattle.store.specs.CodeRuns.{Lent, viewed, CodeMade, by-make, Called, by-attach, by-detach, by-safe-point, by-allocate, by-load, by-store, by-read, by-write, by-move-register, by-clear, by-same, by-get, by-put, by-stretch, by-companion, by-step, CodeRun, ended, next, CodeRuns}
+use Rattle.store.specs.CodeRuns.{Lent, viewed, CodeMade, by-make, Called, by-attach, by-detach, by-safe-point, by-allocate, by-load, by-store, by-read, by-write, by-move-register, by-clear, by-same, by-get, by-put, by-stretch, by-companion, by-birth, by-step, CodeRun, ended, next, CodeRuns}
 use Rattle.store.specs.declared.Control.{Control}
 
 -- a call leaves what the rules give: the store that the next call gets, and the reply
@@ -28,6 +28,7 @@ called-applies (by-put s global from r h0′ h1′ list′ e) = e
 called-applies {self} {h0} {h1} {list} (by-stretch s register r e) = ap (λ ws. record { store = view self h0 h1 list; reply = words ws }) e
 called-applies {self} {h0} {h1} {list} (by-companion s register r e) =
     ap (λ x. record { store = view self h0 h1 list; reply = answer x }) e
+called-applies (by-birth s register r e) = e
 called-applies (by-step r h0′ h1′ list′ e) = e
 
 -- a making is one of the rules

@@ -27,6 +27,7 @@ controlOf s =
         head = s .list .head;
         tail = s .list .tail;
       };
+      births = s .births;
       globals = s .globals;
       sessions = s .sessions;
     }

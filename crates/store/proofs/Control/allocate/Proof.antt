@@ -40,6 +40,9 @@ allocated-requires : tie.Need-allocated-requires
 unfolding sessionAt
 allocated-requires c κs = known (c .before .before .before .before) .ready
 
+add-written : tie.Need-add-written
+add-written c = omega (arith, known (c .before .before .before .before .before .before .before .before .before) .ready .left)
+
 with-register-requires : tie.Need-with-register-requires
 with-register-requires c κs =
     let k = known (c .before .before .before .before .before .before .before .before .before) in
@@ -70,6 +73,7 @@ allocate-spec =
     element-copy-out-session
     allocated-reference-requires
     allocated-requires
+    add-written
     with-register-requires
     same-length-3
     same-length-4

@@ -9,13 +9,16 @@ use Rattle.store.proofs.Control.allocated.Tie as tie
 
 -- the entry, from where both halves get a record, and the number of fromspace there
 abbrev entry : tie.Else2 → tie.Start
-entry c = c .before .before .before .before
+entry c = c .before .before .before .before .before
 
 from-small : (c : tie.After-fromspace) → c .fromspace .result ≤ 1
 from-small c = fromspace-small _ (c .fromspace .ensures [] [] []) (entry (c .before) .pre .small .half)
 
+add-birth : tie.Need-add-birth
+add-birth c = omega (arith, c .before .before .before .pre .left)
+
 placed-requires : tie.Need-placed-requires
-placed-requires c κs = room-one _ _ _ _ _ _ (c .before .before .before .before .before .pre) (omega (arith, c .before .before .if1 .taken))
+placed-requires c κs = room-one _ _ _ _ _ _ (c .before .before .before .before .before .before .pre) (omega (arith, c .before .before .if1 .taken))
 
 same-length : tie.Need-same-length
 same-length c = search needs
@@ -27,7 +30,7 @@ returns : tie.Need-returns
 returns c = λ l. allocated-white _ _ _ _ (c .before .before .before .before .before .before .before .if1 .taken) (c .before .before .before .before .placed .ensures l)
 
 placed-requires-2 : tie.Need-placed-requires-2
-placed-requires-2 c κs = room-one _ _ _ _ _ _ (c .before .before .before .before .before .before .pre) (c .before .before .if2 .taken)
+placed-requires-2 c κs = room-one _ _ _ _ _ _ (c .before .before .before .before .before .before .before .pre) (c .before .before .if2 .taken)
 
 same-length-3 : tie.Need-same-length-3
 same-length-3 c = search needs
@@ -72,7 +75,7 @@ placed-requires-4 c κs =
     let p = c .before .before .before .before .before .before in
     let h = p .before .before .before .before .before .before .before in
     let f = h .before in
-    room-second _ _ _ _ _ _ _ _ _ _ _ (from-small f) (h .other-half .ensures)
+    room-second _ _ _ _ _ _ _ _ _ _ _ _ (from-small f) (h .other-half .ensures)
     (room-each _ _ _ _ _ _ (entry (f .before) .pre) (f .before .if2 .left) _ (below-at (h .other-half .ensures) (other-small _)))
     (p .placed3 .ensures [])
 
@@ -97,6 +100,7 @@ pub allocated-spec : {M : Type 1} → statement M
 allocated-spec =
     tie.close
     (tie.spec
+    add-birth
     placed-requires
     same-length
     same-length-2

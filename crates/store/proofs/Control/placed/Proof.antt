@@ -38,7 +38,7 @@ same-length-2 : tie.Need-same-length-2
 same-length-2 c = search needs
 
 returns : tie.Need-returns
-returns c = λ l. placed-at _ _ _ _ _ _ (c .before .before .before .before .before .before .before .before .frontier .ensures _ _) (c .before .before .before .before .before .append-record .ensures _ _) (c .with-frontier .ensures _ _ l)
+returns c = λ l. placed-at _ _ _ _ _ _ _ (c .before .before .before .before .before .before .before .before .frontier .ensures _ _) (c .before .before .before .before .before .append-record .ensures _ _) (c .with-frontier .ensures _ _ l)
 
 pub placed-spec : {M : Type 1} → statement M
 placed-spec =

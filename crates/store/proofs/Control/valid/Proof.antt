@@ -18,7 +18,7 @@ returns c =
     let start = c .before .before .before .before .before .before .before .before .before .before .before .before .before .before .before .before .before .before .before .before in
     let a = start .args in
     let sessions = a .self .sessions in
-    let ok = start .good .0 .1 .1 .1 .1 .1 .1 .1 .0 in
+    let ok = start .good .0 .1 .1 .1 .1 .1 .1 .1 .1 .0 in
     let k : length sessions ≡ sessionCount = search (needs, unmapped) in
     in-groups (view (a .self) (a .h0 .now) (a .h1 .now) (a .list .now)) _ (rw k at (levels-in-range sessions _ (lowest sessions k (c .lowest .ensures))))
 
