@@ -1,5 +1,5 @@
 // The store's call of a case: its kind is the case's first word, its arguments are the next four. Kind 0 is making, 1 to 14
-// are those of the script, 15 is the stretch, 16 its companion; 116 to 122 are the directory's (requests.rt).
+// are those of the script, 15 is the stretch, 16 its companion, 17 the birth number; 116 to 122 are the directory's (requests.rt).
 use crate::CASE;
 use crate::STRETCH;
 use store::Control;
@@ -51,6 +51,7 @@ fn call_reading<'a>(
         5 => control.load(h0, h1, list, s, a, b, case[4]),
         7 => control.read(h0, h1, list, s, a, b),
         11 => control.same(h0, h1, list, s, a, b),
+        17 => control.birth(h0, h1, list, s, a),
         16 => {
             let answer = control.companion(h0, h1, list, s, a);
             Reply { control, answer }

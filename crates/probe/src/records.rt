@@ -1,5 +1,5 @@
 // The control record out of the words of a case, and into those of a reply. Both have the current half in one word, ten
-// numbers in two words each, the globals, and 11 words for each session.
+// numbers in two words each, the globals, 11 words for each session, and how many birth numbers are used.
 ghost use Prim.Native.Nat.{_+_, _≤_, _<_};
 use crate::CASE;
 use crate::REPLY;
@@ -49,7 +49,7 @@ fn globals_of(case: &[u32; CASE]) -> [u32; 32] {
 
 // The session whose words begin at a place.
 fn session_at(case: &[u32; CASE], at: usize) -> Session
-    requires { ⌜ at + 11 ≤ 237 ⌝ }
+    requires { ⌜ at + 11 ≤ 238 ⌝ }
 {
     let registers = [
         case[at],
@@ -97,6 +97,7 @@ pub(crate) fn control_of(case: &[u32; CASE]) -> Control {
         length1: number(case, 1),
         capacity: number(case, 2),
         cursor,
+        births: case[237],
         globals,
         sessions,
     }
@@ -169,7 +170,7 @@ fn put_globals(out: &mut [u32; REPLY], globals: [u32; 32]) {
 
 // One session into the words of a reply, from a place on.
 fn put_session(out: &mut [u32; REPLY], at: usize, session: Session)
-    requires { ⌜ at + 11 ≤ 232 ⌝ }
+    requires { ⌜ at + 11 ≤ 233 ⌝ }
 {
     let registers = session.registers;
     let mut i: usize = 0;
@@ -203,4 +204,5 @@ pub(crate) fn put_control(out: &mut [u32; REPLY], control: Control) {
     put_cursor(out, cursor);
     put_globals(out, globals);
     put_sessions(out, sessions);
+    out[232] = control.births;
 }
