@@ -4,6 +4,9 @@
 use std::io::{self, BufWriter, Read, Write};
 
 const LEVELS: [u32; 13] = [0, 1, 2, 2, 2, 3, 4, 4, 5, 6, 6, 6, 0];
+const HEADER: usize = 4;
+const BIRTH_AT: usize = 3;
+const MOST_BIRTHS: u32 = 4_294_967_295;
 const WHITE: u32 = 0;
 const GREY: u32 = 1;
 const BLACK: u32 = 2;
@@ -28,6 +31,7 @@ pub struct Store {
     field: usize,
     head: usize,
     tail: usize,
+    births: u32,
     globals: [u32; 32],
     sessions: [Session; 16],
 }
@@ -40,6 +44,7 @@ impl Store {
     pub fn new(length: usize) -> Self {
         Store {
             half: [vec![0; length], vec![0; length]],
+            // as long as the script program's for its halves; a quarter would do
             list: vec![0; length / 3],
             frontier: [0; 2],
             current: 0,
@@ -48,6 +53,7 @@ impl Store {
             field: 0,
             head: 0,
             tail: 0,
+            births: 0,
             globals: [0; 32],
             sessions: [Session::default(); 16],
         }
@@ -66,10 +72,10 @@ impl Store {
     fn sound(&self, v: u32) -> Tested<(usize, usize)> {
         test(v >= 2, 12)?;
         let (k, h) = (((v - 2) / 2) as usize, (v % 2) as usize);
-        test(k + 3 <= self.frontier[h], 12)?;
+        test(k + HEADER <= self.frontier[h], 12)?;
         let (shape, colour) = (self.half[h][k], self.half[h][k + 1]);
         let (r, p) = ((shape / 256) as usize, (shape % 256) as usize);
-        test(shape <= 65535 && colour <= 2 && k + 3 + r + p <= self.frontier[h], 12)?;
+        test(shape <= 65535 && colour <= 2 && k + HEADER + r + p <= self.frontier[h], 12)?;
         Ok((r, p))
     }
 
@@ -102,13 +108,14 @@ impl Store {
         if v == 0 || self.is_in(1 - self.from(), v) { Ok(v) } else { self.copy_of(v) }
     }
 
-    fn append(&mut self, h: usize, shape: u32, colour: u32, replica: u32) {
+    fn append(&mut self, h: usize, shape: u32, colour: u32, replica: u32, birth: u32) {
         let at = self.frontier[h];
-        let end = at + 3 + (shape / 256 + shape % 256) as usize;
+        let end = at + HEADER + (shape / 256 + shape % 256) as usize;
         self.half[h][at..end].fill(0);
         self.half[h][at] = shape;
         self.half[h][at + 1] = colour;
         self.half[h][at + 2] = replica;
+        self.half[h][at + BIRTH_AT] = birth;
         self.frontier[h] = end;
     }
 
@@ -170,7 +177,7 @@ impl Store {
         test(
             (16..=1_048_576).contains(&n)
                 && n == self.half[1].len()
-                && n / 3 <= self.list.len()
+                && n / HEADER <= self.list.len()
                 && self.current <= 1
                 && self.frontier.iter().all(|&f| f <= n)
                 && self.phase <= 12
@@ -221,7 +228,7 @@ impl Store {
                 test(a[1] <= 7 && a[2] <= 7, 8)?;
                 let (v, r, _) = self.record(s, a[2])?;
                 test((a[3] as usize) < r, 13)?;
-                self.sessions[s].registers[a[1] as usize] = self.at(v, 3 + a[3] as usize);
+                self.sessions[s].registers[a[1] as usize] = self.at(v, HEADER + a[3] as usize);
             }
             6 => self.store(a)?,
             7 => {
@@ -229,7 +236,7 @@ impl Store {
                 test(a[1] <= 7, 8)?;
                 let (v, r, p) = self.record(s, a[1])?;
                 test((a[2] as usize) < p, 13)?;
-                return Ok(self.at(v, 3 + r + a[2] as usize));
+                return Ok(self.at(v, HEADER + r + a[2] as usize));
             }
             8 => self.write(a)?,
             9 => {
@@ -278,18 +285,20 @@ impl Store {
         let s = self.session(a[0])?;
         test(a[1] <= 7, 8)?;
         test(a[2] <= 255 && a[3] <= 255, 10)?;
-        let (level, size) = (self.sessions[s].level, (3 + a[2] + a[3]) as usize);
+        let (level, size) = (self.sessions[s].level, HEADER + (a[2] + a[3]) as usize);
         let room = |h: usize| self.frontier[h] + size <= self.half[h].len();
         test(if level <= 2 { room(self.current) } else { room(0) && room(1) }, 14)?;
+        test(self.births < MOST_BIRTHS, 16)?;
+        self.births += 1;
         let shape = 256 * a[2] + a[3];
         let refs = [self.next_reference(0), self.next_reference(1)];
         let from = self.from();
         if level <= 2 {
-            self.append(self.current, shape, if level == 2 { BLACK } else { WHITE }, 0);
+            self.append(self.current, shape, if level == 2 { BLACK } else { WHITE }, 0, self.births);
             self.sessions[s].registers[a[1] as usize] = refs[self.current];
         } else {
-            self.append(from, shape, BLACK, refs[1 - from]);
-            self.append(1 - from, shape, WHITE, refs[from]);
+            self.append(from, shape, BLACK, refs[1 - from], self.births);
+            self.append(1 - from, shape, WHITE, refs[from], self.births);
             self.sessions[s].registers[a[1] as usize] = if level <= 5 { refs[from] } else { refs[1 - from] };
         }
         Ok(())
@@ -312,7 +321,7 @@ impl Store {
         let i = a[2] as usize;
         test(i < r, 13)?;
         let (level, q) = (self.sessions[s].level, self.sessions[s].registers[a[3] as usize]);
-        let (first, second) = self.barrier(level, self.at(v, 3 + i), q)?;
+        let (first, second) = self.barrier(level, self.at(v, HEADER + i), q)?;
         let t = if level >= 4 { self.at(v, 2) } else { 0 };
         let own = self.own_word(level, v, q)?;
         let copy = if t == 0 {
@@ -326,9 +335,9 @@ impl Store {
         };
         self.shade(first);
         self.shade(second);
-        self.put(v, 3 + i, own);
+        self.put(v, HEADER + i, own);
         if t != 0 {
-            self.put(t, 3 + i, copy);
+            self.put(t, HEADER + i, copy);
         }
         Ok(())
     }
@@ -340,9 +349,9 @@ impl Store {
         let i = a[2] as usize;
         test(i < p, 13)?;
         let t = if self.sessions[s].level >= 4 { self.at(v, 2) } else { 0 };
-        self.put(v, 3 + r + i, a[3]);
+        self.put(v, HEADER + r + i, a[3]);
         if t != 0 {
-            self.put(t, 3 + r + i, a[3]);
+            self.put(t, HEADER + r + i, a[3]);
         }
         Ok(())
     }
@@ -390,7 +399,7 @@ impl Store {
     }
 
     fn past(&mut self, r: usize, p: usize) {
-        self.place += 3 + r + p;
+        self.place += HEADER + r + p;
         self.field = 0;
     }
 
@@ -410,7 +419,7 @@ impl Store {
                 let v = self.list[self.head];
                 let (r, _) = self.follow(v)?;
                 if self.field < r {
-                    let w = self.shading(self.at(v, 3 + self.field))?;
+                    let w = self.shading(self.at(v, HEADER + self.field))?;
                     self.shade(w);
                     self.field += 1;
                 } else {
@@ -427,9 +436,9 @@ impl Store {
                 let (v, r, p) = self.walked()?;
                 if self.at(v, 1) != WHITE && self.at(v, 2) == 0 {
                     let other = 1 - self.current;
-                    test(self.frontier[other] + 3 + r + p <= self.half[other].len(), 12)?;
+                    test(self.frontier[other] + HEADER + r + p <= self.half[other].len(), 12)?;
                     let shell = self.next_reference(other);
-                    self.append(other, self.at(v, 0), WHITE, v);
+                    self.append(other, self.at(v, 0), WHITE, v, self.at(v, BIRTH_AT));
                     self.put(v, 2, shell);
                 }
                 self.past(r, p);
@@ -495,9 +504,9 @@ impl Store {
             self.past(r, p);
             return Ok(());
         }
-        let x = self.at(v, 3 + self.field);
+        let x = self.at(v, HEADER + self.field);
         let q = if self.field < r { self.forward(x)? } else { x };
-        self.put(t, 3 + self.field, q);
+        self.put(t, HEADER + self.field, q);
         self.field += 1;
         Ok(())
     }

@@ -13,6 +13,7 @@ HERE = os.path.dirname(os.path.abspath(__file__))
 sys.path.insert(0, os.path.join(HERE, "..", "tests"))
 from directory import ROOT  # noqa: E402
 from directory_scripts import Played, encode  # noqa: E402
+from layout import size  # noqa: E402
 from model import ATTACH, DETACH, SAFE, ALLOCATE, LOAD, STORE, READ, WRITE, MOVE, CLEAR, GET, PUT, STEP  # noqa: E402
 from table import OPEN, ADD, REMOVE, MAKE, JOIN, LEAVE, LIST, LAST  # noqa: E402
 
@@ -21,6 +22,8 @@ ANNA, BEN, CARA, DAN, EVE = range(20260001, 20260006)
 CARETAKER = 7             # a person may have the number of a class
 SEVEN, EIGHT = 7, 8       # classes
 LENT = 8                  # words that the office lends for a list
+FREE = 5                  # words that the import leaves free
+PERSON = size(1, 1)       # words of a person, and of a membership
 NOT_OPEN, NO_ROOM, UNKNOWN, ALREADY, ABSENT = 6, 14, 23, 24, 25
 REST, PREMARK1, COPY, PREFLIP1 = 0, 1, 7, 8  # phases
 
@@ -88,14 +91,14 @@ def book(day, number, links, words):
 
 def importing(day):
     day.note("An import works beside the directory, in session 1: the library's catalogue, large records, each with a link to the one before; "
-             "global 0 names the newest. It leaves four words free. A person or a membership takes five, a class six.")
+             "global 0 names the newest. It leaves five words free. A person or a membership takes six, a class seven.")
     day.done((ATTACH, [IMPORT]))
     numbers = itertools.count(5001)
-    while (room := day.room(IMPORT) - 4) > 358:
+    while (room := day.room(IMPORT) - FREE) > size(100, 255):
         book(day, next(numbers), 100, 255)
-    book(day, next(numbers), 1, room - 4)
+    book(day, next(numbers), 1, room - size(1, 0))
     day.done((PUT, [IMPORT, CATALOGUE, 1]), (CLEAR, [IMPORT, 0]), (CLEAR, [IMPORT, 1]))
-    assert day.room(IMPORT) == 4
+    assert day.room(IMPORT) == FREE < PERSON
     day.note("So there is no room for a pupil, a class or a membership: 14, and the directory is as before. Who is there already is still "
              "told 24, and lists need no room.")
     day.answers((ADD, [EVE]), NO_ROOM, 0)
@@ -158,8 +161,8 @@ def turning(day, before):
 
 
 def evening(day):
-    assert day.room(IMPORT) == 4 + 15
-    day.note("Evening. Ben's removal has given back five words for him and five for each of his two classes. So three records fit: Eve is "
+    assert day.room(IMPORT) == FREE + 3 * PERSON
+    day.note("Evening. Ben's removal has given back six words for him and six for each of his two classes. So three records fit: Eve is "
              "added, Ben comes back, and he joins class 7 again. He is in no class before that, and comes last in the list.")
     day.done((ADD, [EVE]), (ADD, [BEN]))
     day.members(SEVEN, CARA, ANNA)

@@ -4,17 +4,19 @@ that shade beside marks. A case is a name with the bytes of tests/probe.py."""
 import itertools
 
 from damage import TOP, changed, putting, ref
+from layout import COLOUR, HEADER
 from model import ATTACH, DETACH, SAFE, STORE, PUT, STEP
 from probe import encode
 from sapphire import LEVELS, Sapphire
 
-# where the records of `stage` stand in both halves, and their end; the holder has two reference fields and a plain one
-HOLDER_AT, WHITE_AT, WHITE_TOO_AT, GREY_AT, BLACK_AT, OTHER_AT = 0, 6, 9, 13, 16, 19
-BAD_COLOUR_AT, BAD_SHAPE_AT, TOO_LONG_AT, END = 22, 25, 28, 31
-RECORDS = {HOLDER_AT: [513, 0, 0, 0, 0, 77], WHITE_AT: [0, 0, 0], WHITE_TOO_AT: [1, 0, 0, 88], GREY_AT: [0, 1, 0], BLACK_AT: [0, 2, 0],
-           OTHER_AT: [0, 0, 0], BAD_COLOUR_AT: [0, 3, 0], BAD_SHAPE_AT: [65536, 0, 0], TOO_LONG_AT: [256, 0, 0]}
+# the records of `stage`, the same in both halves, where each begins, and their end; the holder has two reference fields and a plain one
+WORDS = [[513, 0, 0, 31, 0, 0, 77], [0, 0, 0, 32], [1, 0, 0, 33, 88], [0, 1, 0, 34], [0, 2, 0, 35], [0, 0, 0, 36], [0, 3, 0, 37],
+         [65536, 0, 0, 38], [256, 0, 0, 39]]
+PLACES = list(itertools.accumulate(map(len, WORDS), initial=0))
+HOLDER_AT, WHITE_AT, WHITE_TOO_AT, GREY_AT, BLACK_AT, OTHER_AT, BAD_COLOUR_AT, BAD_SHAPE_AT, TOO_LONG_AT, END = PLACES
+RECORDS = dict(zip(PLACES, WORDS))
 PAIRED = (HOLDER_AT, WHITE_AT, GREY_AT, BLACK_AT)  # with the same in the other half, where there are replicas
-LENGTH, CAPACITY = 32, 12
+LENGTH, CAPACITY = END + 1, 12
 FIELD, GLOBAL = 1, 9   # what is written: this field of the holder, or this global
 HELD, STORED = 2, 5    # registers: the holder, and what is stored
 SHADING = range(2, 7)  # the phases in which a session may have level 2 or 3
@@ -49,11 +51,13 @@ def stage(level, phase, current, old, stored, room, turn):
     store.phase, store.current, store.frontier = phase, current, [END, END]
     for h, (at, words) in itertools.product((0, 1), RECORDS.items()):
         store.half[h][at:at + len(words)] = words
-    store.half[current][HOLDER_AT + 1:HOLDER_AT + 5] = [2 * ((turn + phase + room) % 3 > 0), 0, ref(current, OTHER_AT), old]
+    holder = ref(current, HOLDER_AT)
+    putting((holder, COLOUR, 2 * ((turn + phase + room) % 3 > 0)), (holder, HEADER, ref(current, OTHER_AT)),
+            (holder, HEADER + FIELD, old))(store)
     if phase >= 5 and turn % 3:
         putting(*((ref(h, at), 2, ref(1 - h, at)) for h in (0, 1) for at in PAIRED))(store)
     store.globals[GLOBAL - 1:GLOBAL + 2] = [ref(current, OTHER_AT), old, ref(current, OTHER_AT)]
-    store.registers[3][HELD], store.registers[3][STORED] = ref(current, HOLDER_AT), stored
+    store.registers[3][HELD], store.registers[3][STORED] = holder, stored
     store.attached[3], store.attached[7], store.level[3], store.level[7] = True, True, level, LEVELS[phase]
     store.tail, store.list, store.scanned = CAPACITY - room, [0] * CAPACITY, marks(turn)
     store.head = store.tail // 2
@@ -83,7 +87,7 @@ def overlaps():
     header word. The one that begins within another has no replica, or one in the other half, which points back."""
     for level, phase, current, room, paired in itertools.product((1, 2, 3), (2, 4, 5), (0, 1), (0, 1, 2), (False, True)):
         in_field, one_on, white, copy = (ref(h, at) for h, at in (
-            (current, HOLDER_AT + FIELD + 2), (current, WHITE_AT + 1), (current, WHITE_AT), (1 - current, OTHER_AT)))
+            (current, HOLDER_AT + HEADER + FIELD - COLOUR), (current, WHITE_AT + 1), (current, WHITE_AT), (1 - current, OTHER_AT)))
         for name, old, stored, within in [("colour in the field", 0, in_field, in_field), ("one word on", white, one_on, one_on),
                                           ("one word back", one_on, white, one_on)]:
             store = stage(level, phase, current, old, stored, room, 3)

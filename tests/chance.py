@@ -4,27 +4,33 @@ name."""
 import random
 
 from damage import TOP, edges, putting, ref
+from layout import HEADER, least_list, size
 from model import ATTACH, DETACH, SAFE, ALLOCATE, LOAD, STORE, READ, WRITE, MOVE, CLEAR, SAME, GET, PUT, STEP
 from probe import COUNTS, MAKE, encode
 from replicas import changes, is_pair
-from sapphire import COMPANION, LEVELS, STRETCH, Sapphire
+from sapphire import BIRTH, COMPANION, LEVELS, MOST_BIRTHS, STRETCH, Sapphire
 
 SHAPES = [(0, 0), (1, 0), (0, 1), (1, 1), (1, 1), (2, 1), (1, 2), (2, 2), (3, 2), (0, 4), (5, 5)]
-KINDS = ([STEP] * 16 + [STORE] * 8 + [WRITE, PUT, SAME, ALLOCATE, LOAD] * 3 + [READ, STRETCH, COMPANION] * 2
+KINDS = ([STEP] * 16 + [STORE] * 8 + [ALLOCATE] * 5 + [BIRTH] * 4 + [WRITE, PUT, SAME, LOAD] * 3 + [READ, STRETCH, COMPANION] * 2
          + [MOVE, CLEAR, GET, ATTACH, DETACH, SAFE, MAKE])
 EDGES = list(edges())
+
+
+def any_number(rng):
+    """A birth number, or a count of those used: small, one of the last, or anything."""
+    return rng.choice([rng.randrange(12), rng.randrange(12), MOST_BIRTHS - 1, MOST_BIRTHS, rng.randrange(MOST_BIRTHS + 1)])
 
 
 def fill(rng, store, h, shapes):
     """Records of these shapes one behind another in half h, as many as fit below a limit, between small words; their references."""
     n, at, heads = len(store.half[h]), 0, []
-    store.half[h], limit = rng.choices(range(12), k=n), rng.choice([n, n, n, n - 4, n // 2])
+    store.half[h], limit = rng.choices(range(12), k=n), rng.choice([n, n, n, n - HEADER, n // 2])
     for r, p in shapes:
-        if at + 3 + r + p > limit:
+        if at + size(r, p) > limit:
             break
-        store.half[h][at:at + 3] = [256 * r + p, rng.choice([0, 0, 1, 2, 2]), 0]
+        store.half[h][at:at + HEADER] = [256 * r + p, rng.choice([0, 0, 1, 2, 2]), 0, any_number(rng)]
         heads.append(ref(h, at))
-        at += 3 + r + p
+        at += size(r, p)
     store.frontier[h] = at
     return heads
 
@@ -44,7 +50,7 @@ def pair_up(rng, store, some, others):
 def cross(rng, store):
     """The references of a right pair that begins anywhere in both halves, and so shares words with other records."""
     r, p = rng.choice(SHAPES[:8])
-    last = [store.frontier[h] - 3 - r - p for h in (0, 1)]  # where it may begin
+    last = [store.frontier[h] - size(r, p) for h in (0, 1)]  # where it may begin
     if min(last) < 0:
         return []
     v, w = ref(0, rng.randrange(last[0] + 1)), ref(1, rng.randrange(last[1] + 1))
@@ -65,13 +71,13 @@ def world(rng):
     """A store of random records that name each other, many of them right pairs, in which now and then a pair is not right, or a word is
     none that belongs there."""
     n = rng.choice([16, 17, 24, 32, 33, 48])
-    store = Sapphire(n, n // 3 + rng.choice([0, 0, 1, 3]))
+    store = Sapphire(n, least_list(n) + rng.choice([0, 0, 1, 3]))
     shapes = [rng.choice(SHAPES) for _ in range(14)]
     some, others = fill(rng, store, 0, shapes), fill(rng, store, 1, shapes[rng.choice([0, 0, 1, 2]):])
     paired = pair_up(rng, store, some, others)
     pool = (some + others) * 3 + [0, 0, 0, 0, 1, ref(0, rng.randrange(n)), ref(1, rng.randrange(n)), ref(rng.randrange(2), n)]
     for v in some + others:
-        putting(*((v, 3 + i, rng.choice(pool)) for i in range(store.at(v, 0) // 256)))(store)
+        putting(*((v, HEADER + i, rng.choice(pool)) for i in range(store.at(v, 0) // 256)))(store)
     if rng.random() < 0.2:
         crossed = cross(rng, store)
         paired, pool = paired + crossed, pool + crossed * 6
@@ -100,6 +106,7 @@ def numbers(rng, store):
     style = rng.random()
     store.attached = rng.choices([True, True, False], k=16) if style < 0.7 else [style < 0.9 and i == 3 for i in range(16)]
     store.scanned = rng.choice([rng.choices([True, False, False], k=16), [True] * 16])
+    store.births = any_number(rng)
     if rng.random() < 0.06:
         _, _, change = rng.choice(EDGES)
         change(store)
@@ -108,6 +115,8 @@ def numbers(rng, store):
 def arguments_for(rng, kind, store):
     """Mostly an attached session and a field that many records have; now and then a number that is none of those."""
     args = [rng.choice([0, 0, 0, 1, 1, 2]) if kind in (LOAD, STORE, READ, WRITE) else rng.randrange(8) for _ in range(COUNTS[kind])]
+    if kind == ALLOCATE and rng.random() < 0.7:
+        args[2:] = rng.choice(SHAPES[:6])
     attached = [s for s in range(16) if store.attached[s]]
     if args and attached and rng.random() < 0.9:
         args[0] = rng.choice(attached)

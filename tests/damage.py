@@ -2,69 +2,79 @@
 end of their walks, and each way to meet damage. A case is a name with the bytes of tests/probe.py."""
 import itertools
 
+from layout import HEADER, NUMBER, least_list, size, size_of
 from model import ATTACH, DETACH, SAFE, ALLOCATE, LOAD, STORE, READ, WRITE, MOVE, CLEAR, SAME, GET, PUT, STEP
 from probe import MAKE, encode
-from sapphire import COMPANION, LEVELS, STRETCH, Sapphire
+from sapphire import BIRTH, COMPANION, LEVELS, STRETCH, Sapphire
 
 TOP = (1 << 32) - 1
 HUGE = (1 << 64) - 1
 # for each level, a phase in which a session may be at it; last, a session that is not yet back at level 0
 LEVEL_PHASES = [(0, 0), (1, 1), (2, 4), (3, 5), (4, 7), (5, 8), (6, 10), (6, 12)]
-X, Y, Z, END = 0, 7, 12, 16  # where the records of `pairs` stand, and their end
+# where the records of `pairs` stand, and their end; the least half that holds them, with the least list, and a usual one
+X, Y, Z, END = itertools.accumulate([size(2, 2), size(1, 1), size(1, 0)], initial=0)
+LEAST, USUAL = (END, least_list(END)), (48, least_list(48))
+USED = 7  # birth numbers that `pairs` has used
 
 
 def ref(h, k):
     return 2 * k + 2 + h
 
 
-def pairs(level=0, phase=0, current=0, n=48, capacity=16):
+def pairs(level=0, phase=0, current=0, n=USUAL[0], capacity=USUAL[1]):
     """Session 0 holds two records with two copies each and one without replica in each half: registers 0 and 1 are the copies of X
     (two reference fields, two plain ones), 2 and 3 those of Y (one and one), 4 and 5 the records Z (one, none), 6 and 7 null. The even
-    ones are in fromspace."""
+    ones are in fromspace. No two of them have the same birth number, not even two copies."""
     store = Sapphire(n, capacity)
+    store.births = USED
     store.phase, store.current, store.frontier = phase, current, [END, END]
     source = store.fromspace()
     for h in (0, 1):
         marked = (h == source) * 2
-        store.half[h][:END] = [2 * 256 + 2, marked, ref(1 - h, X), ref(h, Y), ref(h, Z), 100 + h, 200 + h,
-                               256 + 1, marked // 2, ref(1 - h, Y), ref(h, X), 300 + h,
-                               256, 0, 0, ref(h, Y)]
+        store.half[h][:END] = [2 * 256 + 2, marked, ref(1 - h, X), 1 + h, ref(h, Y), ref(h, Z), 100 + h, 200 + h,
+                               256 + 1, marked // 2, ref(1 - h, Y), 3 + h, ref(h, X), 300 + h,
+                               256, 0, 0, 5 + h, ref(h, Y)]
     store.registers[0] = [ref(h, k) for k in (X, Y, Z) for h in (source, 1 - source)] + [0, 0]
     store.attached[0], store.level[0] = True, level
     return store
 
 
+def filling():
+    """The same in halves that they fill."""
+    return pairs(n=LEAST[0], capacity=LEAST[1])
+
+
 def records(store, h):
     """Where the records of a half begin, and their fields, as far as they can be followed."""
     at = 0
-    while at + 3 <= min(store.frontier[h], len(store.half[h])):
+    while at + HEADER <= min(store.frontier[h], len(store.half[h])):
         shape = store.half[h][at]
         yield at, shape // 256, shape % 256
-        at += 3 + shape // 256 + shape % 256
+        at += size_of(shape)
 
 
 # ---- the stretch and its companion
 
 def copies(level):
     """A record with two copies, allocated by a session at this level; register 0 holds the one in half 0, register 1 the other."""
-    store = Sapphire(16, 5)
+    store = Sapphire(16, least_list(16))
     store.call(ATTACH, [0])
     while store.level[0] != level:
         store.call(STEP, [])
         store.call(SAFE, [0])
     store.call(ALLOCATE, [0, 0, 1, 3])
     for h in (0, 1):
-        store.half[h][4:7] = [10 * h + 1, 10 * h + 2, 10 * h + 3]
+        store.half[h][size(1, 0):size(1, 3)] = [10 * h + 1, 10 * h + 2, 10 * h + 3]
     store.registers[0][:2] = [ref(0, 0), ref(1, 0)]
     return store
 
 
 def plain(r, p, h, n):
     """A record of this shape that fills half h up to its frontier."""
-    store = Sapphire(n, n // 3)
+    store = Sapphire(n, least_list(n))
     store.attached[0] = True
-    store.half[h][:3 + r + p] = [256 * r + p, 2, 0] + [0] * r + [TOP - i for i in range(p)]
-    store.frontier[h] = 3 + r + p
+    store.half[h][:size(r, p)] = [256 * r + p, 2, 0, 9] + [0] * r + [TOP - i for i in range(p)]
+    store.frontier[h] = size(r, p)
     store.registers[0][0] = ref(h, 0)
     return store
 
@@ -103,18 +113,18 @@ def changed(store, change):
 
 
 def small(change):
-    return changed(pairs(n=16, capacity=5), change)
+    return changed(filling(), change)
 
 
 def few_stretches():
     """A stretch and its companion in each half, on both copies of a record, with no plain field and 255, on each refusal, and with a
     replica that is wrong or missing."""
-    calls = [("half 0", pairs(n=16, capacity=5), 0, 0), ("half 1", pairs(n=16, capacity=5), 0, 1),
+    calls = [("half 0", filling(), 0, 0), ("half 1", filling(), 0, 1),
              ("copy in half 0", copies(5), 0, 0), ("copy in half 1", copies(5), 0, 1),
-             ("no plain field", pairs(n=16, capacity=5), 0, 4), ("255 plain fields", plain(1, 255, 1, 260), 0, 0),
-             ("other length", small(set_item("length", 0, 17)), 0, 0), ("session 16", pairs(n=16, capacity=5), 16, 0),
-             ("nobody", pairs(n=16, capacity=5), 1, 0), ("register 8", pairs(n=16, capacity=5), 0, 8),
-             ("null", pairs(n=16, capacity=5), 0, 6), ("colour 3", small(set_word(0, X + 1, 3)), 0, 0)]
+             ("no plain field", filling(), 0, 4), ("255 plain fields", plain(1, 255, 1, size(1, 255)), 0, 0),
+             ("other length", small(set_item("length", 0, END + 1)), 0, 0), ("session 16", filling(), 16, 0),
+             ("nobody", filling(), 1, 0), ("register 8", filling(), 0, 8),
+             ("null", filling(), 0, 6), ("colour 3", small(set_word(0, X + 1, 3)), 0, 0)]
     calls += [(name, small(set_word(h, k, word)), 0, 0) for name, h, k, word in [
         ("another one's replica", 0, X + 2, ref(1, Y)), ("itself for a replica", 0, X + 2, ref(0, X)), ("no replica", 0, X + 2, 0),
         ("replica without replica", 1, X + 2, 0), ("replica of another shape", 1, X, 513)]]
@@ -127,7 +137,7 @@ def stretches():
     yield from few_stretches()
     calls = [(f"level {level}, copy {k}", copies(level), 0, k) for level in (3, 4, 5, 6) for k in (0, 1)]
     calls += [(f"r {r}, p {p}, half {h}, {n} words", plain(r, p, h, n), 0, 0) for h in (0, 1) for r, p, n in
-              [(0, 0, 16), (13, 0, 16), (0, 13, 16), (255, 255, 513), (255, 0, 1024), (0, 255, 1024)]]
+              [(0, 0, 16), (12, 0, 16), (0, 12, 16), (255, 255, size(255, 255)), (255, 0, 1024), (0, 255, 1024)]]
     calls += [(f"session {s}, register {k}", pairs(), s, k) for s in (0, 1, 15, 16, 255, 256, TOP) for k in (0, 1, 5, 6, 7, 8, 256, TOP)]
     for level, phase in LEVEL_PHASES:
         calls += [(f"level {level}, phase {phase}, register {k}", pairs(level, phase, current), 0, k)
@@ -141,7 +151,7 @@ def stretches():
 
 CALLS = [(MAKE, []), (ATTACH, [1]), (DETACH, [0]), (SAFE, [0]), (ALLOCATE, [0, 7, 1, 1]), (LOAD, [0, 7, 0, 1]), (STORE, [0, 0, 1, 2]),
          (READ, [0, 0, 1]), (WRITE, [0, 0, 1, 9]), (MOVE, [0, 7, 0]), (CLEAR, [0, 0]), (SAME, [0, 0, 1]), (GET, [0, 7, 0]),
-         (PUT, [0, 0, 2]), (STEP, []), (STRETCH, [0, 0]), (COMPANION, [0, 0])]
+         (PUT, [0, 0, 2]), (STEP, []), (STRETCH, [0, 0]), (COMPANION, [0, 0]), (BIRTH, [0, 0])]
 
 
 def arguments():
@@ -157,44 +167,48 @@ def arguments():
 
 def rooms():
     """Allocations that just fit in a half, or just do not."""
+    n, _ = USUAL
+    last = n - size(1, 1)
     for level, phase in LEVEL_PHASES:
         for current in (0, 1):
-            for frontier in [(43, 43), (43, 44), (44, 43), (44, 44), (48, 0), (0, 48)]:
+            for frontier in [(last, last), (last, last + 1), (last + 1, last), (last + 1, last + 1), (n, 0), (0, n)]:
                 store = pairs(level, phase, current)
                 store.frontier = list(frontier)
                 yield f"allocate at level {level} in phase {phase}, frontiers {frontier}", encode(store, ALLOCATE, [0, 7, 1, 1])
 
 
 def edges():
-    """Changes of a control record, each just inside or just outside one range of refusal 4; with them the halves and list to start from."""
-    usual, least = (48, 16), (16, 5)
+    """Changes of a control record, each just inside or just outside one range of refusal 4, and the count of birth numbers, which has no
+    range; with them the halves and list to start from."""
+    n, listed = USUAL
     for h in (0, 1):
-        for value in (0, 15, 47, 48, 49, 1048576, 1048577, HUGE):
-            yield usual, f"length {h} is {value}", set_item("length", h, value)
-        for value in (0, 16, 47, 48, 49, 1 << 32, HUGE):
-            yield usual, f"frontier {h} is {value}", set_item("frontier", h, value)
-    for name, values in [("capacity", (0, 15, 16, 17, HUGE)), ("current", (0, 1, 2, TOP)), ("phase", (0, 12, 13, 1 << 32, HUGE)),
-                         ("place", (0, 47, 48, 49, HUGE)), ("field", (0, 509, 510, 511, HUGE)), ("tail", (0, 15, 16, 17, HUGE)),
-                         ("head", (0, 1, HUGE))]:
+        for value in (0, 15, n - 1, n, n + 1, 1048576, 1048577, HUGE):
+            yield USUAL, f"length {h} is {value}", set_item("length", h, value)
+        for value in (0, 16, n - 1, n, n + 1, 1 << 32, HUGE):
+            yield USUAL, f"frontier {h} is {value}", set_item("frontier", h, value)
+    for name, values in [("capacity", (0, listed - 1, listed, listed + 1, HUGE)), ("current", (0, 1, 2, TOP)),
+                         ("phase", (0, 12, 13, 1 << 32, HUGE)), ("place", (0, n - 1, n, n + 1, HUGE)), ("field", (0, 509, 510, 511, HUGE)),
+                         ("tail", (0, listed - 1, listed, listed + 1, HUGE)), ("head", (0, 1, HUGE)),
+                         ("births", (0, 1, USED, 1 << 31, TOP - 1, TOP))]:
         for value in values:
-            yield usual, f"{name} is {value}", setting(**{name: value})
-    for head, tail in [(3, 3), (4, 3), (3, 4), (16, 16), (17, 16), (17, 17)]:
-        yield usual, f"list from {head} to {tail}", setting(head=head, tail=tail)
+            yield USUAL, f"{name} is {value}", setting(**{name: value})
+    for head, tail in [(3, 3), (4, 3), (3, 4), (listed, listed), (listed + 1, listed), (listed + 1, listed + 1)]:
+        yield USUAL, f"list from {head} to {tail}", setting(head=head, tail=tail)
     for s in (0, 1, 15):
         for value in (6, 7, TOP):
-            yield usual, f"level {value} of session {s}", set_item("level", s, value)
+            yield USUAL, f"level {value} of session {s}", set_item("level", s, value)
     for phase in (3, 4, 10, 11):
-        for value in (16, 17, 32, 33, 48, 49):
-            for start in (usual, least):
+        for value in (LEAST[0], LEAST[0] + 1, 32, 33, n, n + 1):
+            for start in (USUAL, LEAST):
                 yield start, f"phase {phase}, place {value}", setting(phase=phase, place=value)
 
 
 def lengths():
     """Stores over other lengths: what is lent, and what the control record says."""
-    lent = [(16, 16, 5), (15, 15, 5), (16, 16, 4), (17, 16, 5), (16, 17, 5), (17, 17, 5), (18, 18, 5), (18, 18, 6), (16, 16, 0), (0, 0, 0),
-            (15, 16, 5), (16, 15, 5), (1024, 1024, 341), (1024, 1024, 340), (48, 48, 16)]
+    lent = [(16, 16, 4), (15, 15, 4), (16, 16, 3), (17, 16, 4), (16, 17, 4), (19, 19, 4), (20, 20, 4), (20, 20, 5), (16, 16, 0), (0, 0, 0),
+            (15, 16, 4), (16, 15, 4), (1024, 1024, 256), (1024, 1024, 255), (48, 48, 16)]
     for n0, n1, n in lent:
-        for said in {(n0, n1, n), (16, 16, 5), (n0, n0, n), (n1, n1, n)}:
+        for said in {(n0, n1, n), (16, 16, 4), (n0, n0, n), (n1, n1, n)}:
             store = pairs()
             store.half = [(store.half[0] + [0] * 1024)[:n0], (store.half[1] + [0] * 1024)[:n1]]
             store.list = [0] * n
@@ -212,7 +226,7 @@ def ranges():
 
 def endings():
     """Steps at the end of what their phase has to do, with sessions at the phase's level and at another."""
-    places = [0, END - 1, END, END + 1, 32, 48]
+    places = [0, END - 1, END, END + 1, 32, USUAL[0]]
     for phase, place, scanned, current in itertools.product(range(13), places, (False, True), (0, 1)):
         level = LEVELS[phase]
         for who, attached, other in [("nobody", [0, 0], 6), ("two at the level", [1, 1], level),
@@ -227,7 +241,7 @@ def endings():
 
 def session_calls():
     """Calls that follow references: level, phase, name, kind, arguments, and what is set before the call."""
-    reading = [(LOAD, [0, 7, 0, 1]), (READ, [0, 1, 1]), (STRETCH, [0, 0]), (COMPANION, [0, 1])]
+    reading = [(LOAD, [0, 7, 0, 1]), (READ, [0, 1, 1]), (STRETCH, [0, 0]), (COMPANION, [0, 1]), (BIRTH, [0, 0]), (BIRTH, [0, 1])]
     by_level = [(SAME, [0, 2, 1]), (SAME, [0, 3, 4]), (SAME, [0, 4, 6]), (WRITE, [0, 0, 1, 7]), (WRITE, [0, 1, 1, 7]), (PUT, [0, 0, 2]),
                 (PUT, [0, 0, 3]), (PUT, [0, 0, 4]), *((STORE, [0, k, 1, source]) for k in (0, 1) for source in (2, 3, 4, 6))]
     for level, phase in LEVEL_PHASES:
@@ -257,7 +271,7 @@ def steps():
         yield 0 if phase == 12 else LEVELS[phase], phase, name, STEP, [], set_up
 
 
-def injuries(n=48, capacity=16):
+def injuries(n=USUAL[0], capacity=USUAL[1]):
     """Ways to damage a store of `pairs`, and those just short of damage."""
     for at in (X, Y, Z):
         for name, word in [("shape 65535", 65535), ("no field", 0), ("only plain", 3), ("one of each", 257), ("a field less", 513)]:
@@ -265,17 +279,18 @@ def injuries(n=48, capacity=16):
     for h in (0, 1):
         for at in (X, Y, Z):
             for name, k, word in [("shape 65536", 0, 65536), ("shape 65535", 0, 65535), ("no field", 0, 0), ("only plain", 0, 3),
-                                  ("colour 3", 1, 3), ("colour", 1, TOP), ("white", 1, 0), ("black", 1, 2)]:
+                                  ("colour 3", 1, 3), ("colour", 1, TOP), ("white", 1, 0), ("black", 1, 2),
+                                  ("no number", NUMBER, 0), ("the last number", NUMBER, TOP)]:
                 yield f"{name} at {h}:{at}", set_word(h, at + k, word)
             for word in (0, 1, ref(h, at), ref(1 - h, Z), ref(h, n), TOP):
                 yield f"replica {word} at {h}:{at}", set_word(h, at + 2, word)
-        for end in (END, END - 1, Z, Z - 1, Y - 1, 0, n, n - 3, n - 4):
+        for end in (END, END - 1, Z + HEADER, Z + HEADER - 1, Z, Z - 1, Y - 1, 0, n, n - HEADER, n - size(1, 0)):
             yield f"frontier {h} is {end}", set_item("frontier", h, end)
     for word in (1, ref(0, n - 1), ref(1, n), ref(0, n), TOP, TOP - 1, ref(1, Y + 1)):
         for k in range(6):
             yield f"register {k} is {word}", set_register(k, word)
         for h in (0, 1):
-            for at in (X + 4, Z + 3):
+            for at in (X + size(1, 0), Z + HEADER):
                 yield f"field at {h}:{at} is {word}", set_word(h, at, word)
         yield f"globals are {word}", setting(globals=[word] * 32)
         yield f"list holds {word}", setting(list=[word] * capacity)

@@ -11,7 +11,7 @@ from collections import namedtuple
 
 from model import ATTACH, SAFE, ALLOCATE, LOAD, STORE, READ, WRITE, MOVE, CLEAR, GET, PUT
 from sapphire import Refused, Sapphire
-from table import OPEN, ADD, REMOVE, MAKE, JOIN, LEAVE, LIST, LAST, UNKNOWN, ALREADY, ABSENT
+from table import OPEN, ADD, REMOVE, MAKE, JOIN, LEAVE, LIST, LAST, NO_NUMBER, NO_ROOM, UNKNOWN, ALREADY, ABSENT
 
 MINE, ROOT = 15, 31  # the directory's session and global
 MARK = LAST + 1      # what tells a group's word from a person's
@@ -30,6 +30,9 @@ SLIPS = [ALLOCATES_FIRST, NO_MARK, LAST_OF_ALL, JOINS_FIRST, ONE_GROUP, NO_SAFE_
 ENDS_AT_DAMAGE, GROUP_MORE, WRITES_EARLY = "a chain ends at damage", "remove passes one group more", "list writes while it counts"
 CLEARS_PASSED = "a refused call clears no register"
 DAMAGE_SLIPS = [ENDS_AT_DAMAGE, GROUP_MORE, WRITES_EARLY, CLEARS_PASSED]
+# those that show where no birth number is left
+SAYS_NO_ROOM, LINKS_ANYWAY = "16 told as 14", "a call refused with 16 goes on"
+NUMBER_SLIPS = [SAYS_NO_ROOM, LINKS_ANYWAY]
 
 
 def need(holds, number):
@@ -132,7 +135,13 @@ class Directory:
         self.link(place, place.at)
 
     def fresh(self, register, links, word):
-        self.ask(ALLOCATE, register, links, 1)
+        try:
+            self.ask(ALLOCATE, register, links, 1)
+        except Refused as refusal:
+            if self.slip == LINKS_ANYWAY and refusal.args[0] == NO_NUMBER:
+                return
+            need(self.slip != SAYS_NO_ROOM or refusal.args[0] != NO_NUMBER, NO_ROOM)
+            raise
         self.ask(WRITE, register, 0, word)
 
     # ---- the calls

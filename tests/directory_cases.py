@@ -3,15 +3,18 @@ edges of their ranges, halves that are nearly full, records that are damaged, la
 other in a ring. A case is a name with the bytes of tests/probe.py."""
 import itertools
 
-from damage import TOP, changed, edges, lengths, putting, records, ref, set_item, set_word, setting
+from damage import LEAST, TOP, USUAL, changed, edges, lengths, putting, records, ref, set_item, set_word, setting
 from directory import MARK, MINE, ROOT, Directory
-from model import ATTACH, SAFE, STEP
+from layout import HEADER, NUMBER, least_list, size
+from model import ATTACH, MOST_BIRTHS, SAFE, STEP
 from probe import OPEN, ADD, REMOVE, MAKE_GROUP, JOIN, LEAVE, LIST, MOST_LENT, decode, encode
 from replicas import changes, is_pair
 from sapphire import Sapphire
 from table import LAST
 
 PHASES = range(13)
+HALF, FEW = 84, 72  # words of a half: of the schools here, and of the few cases that are kept in files
+PERSON, GROUP = size(1, 1), size(2, 1)  # words of a person or membership, and of a group
 # people 1, 2 and 3 are in group 1, person 1 is in group 2
 SCHOOL = [(OPEN, []), (ADD, [1]), (MAKE_GROUP, [1]), (ADD, [2]), (ADD, [3]), (MAKE_GROUP, [2]), (JOIN, [1, 1]), (JOIN, [2, 1]),
           (JOIN, [3, 1]), (JOIN, [1, 2])]
@@ -22,6 +25,8 @@ DONE = [(ADD, [4]), (REMOVE, [1]), (REMOVE, [3]), (MAKE_GROUP, [3]), (JOIN, [2, 
 REFUSED = [(OPEN, []), (ADD, [1]), (ADD, [LAST + 1]), (REMOVE, [4]), (REMOVE, [TOP]), (MAKE_GROUP, [2]), (MAKE_GROUP, [LAST + 1]),
            (JOIN, [1, 3]), (JOIN, [4, 1]), (JOIN, [1, 1]), (JOIN, [LAST + 1, 1]), (JOIN, [1, TOP]), (LEAVE, [2, 2]), (LEAVE, [1, 3]),
            (LEAVE, [4, 1]), (LEAVE, [LAST + 1, 1]), (LEAVE, [1, LAST + 1]), (LIST, [3, 4]), (LIST, [LAST + 1, 3])]
+# those that allocate, then two of them that are refused before it
+ALLOCATING = [(ADD, [4]), (MAKE_GROUP, [3]), (JOIN, [2, 2]), (ADD, [1]), (JOIN, [1, 1])]
 EACH = [(OPEN, []), *DONE[:2], *DONE[3:6], DONE[-1]]
 
 
@@ -42,10 +47,10 @@ def step(store):
     store.call(STEP, [])
 
 
-def school(phase=0, steps=0, again=False, n=72, calls=SCHOOL):
+def school(phase=0, steps=0, again=False, n=HALF, calls=SCHOOL):
     """A directory that its own calls made; then the collector's steps up to this phase, and so many more. `again`: after a whole
     collection, so that the halves have changed roles."""
-    store = told(Directory(Sapphire(n, n // 3)), calls)
+    store = told(Directory(Sapphire(n, least_list(n))), calls)
     while store.phase != phase or store.collections < again:
         step(store)
     for _ in range(steps):
@@ -58,6 +63,17 @@ def schools():
         for again in (False, True):
             for steps in (0, 3, 11):
                 yield f"phase {phase}, {steps} steps on{', roles changed' * again}", school(phase, steps, again)
+
+
+def table_of(store):
+    """The table that the words of a sound store hold: people and groups in their order, the members of each group in theirs."""
+    def chain_from(v):
+        while v:
+            yield v, store.at(v, HEADER + store.at(v, 0) // 256)  # its first plain field
+            v = store.at(v, HEADER)
+    entries = list(chain_from(store.globals[ROOT]))
+    groups = {word - MARK: [member for _, member in chain_from(store.at(v, HEADER + 1))] for v, word in entries if word >= MARK}
+    return [word for _, word in entries if word < MARK], groups
 
 
 # ---- calls on sound stores
@@ -81,7 +97,7 @@ def sessions():
             yield f"{named(kind, args)} in phase {phase}, absent", encode(alone, kind, args)
             busy = school(phase)
             busy.call(ATTACH, [3])
-            busy.level[MINE], busy.registers[MINE] = 6 - phase % 7, [TOP, 1, ref(0, 1), ref(1, 71), 0, TOP, ref(0, 0), 3]
+            busy.level[MINE], busy.registers[MINE] = 6 - phase % 7, [TOP, 1, ref(0, 1), ref(1, HALF - 1), 0, TOP, ref(0, 0), 3]
             yield f"{named(kind, args)} in phase {phase}, other level", encode(busy, kind, args)
 
 
@@ -90,16 +106,29 @@ def rooms():
     for phase in PHASES:
         for again in (False, True):
             base = encode(school(phase, 2, again), OPEN, [])
-            for free in [(4, 4), (5, 5), (6, 6), (5, 4), (4, 5), (6, 5), (5, 6), (0, 72)]:
-                for kind, args in [(ADD, [4]), (MAKE_GROUP, [3]), (JOIN, [2, 2]), (ADD, [1]), (JOIN, [1, 1])]:
+            for free in [*itertools.product((PERSON - 1, PERSON, GROUP), repeat=2), (0, HALF)]:
+                for kind, args in ALLOCATING:
                     store, _, _ = decode(base)
-                    store.frontier = [72 - words for words in free]
+                    store.frontier = [HALF - words for words in free]
                     yield f"{named(kind, args)} in phase {phase}, {free} words free", encode(store, kind, args)
+
+
+def numbers():
+    """Calls in every phase where one birth number is left, or none, with room for the record and without."""
+    for phase, again, births in itertools.product(PHASES, (False, True), (MOST_BIRTHS - 2, MOST_BIRTHS - 1, MOST_BIRTHS)):
+        base = encode(changed(school(phase, 2, again), setting(births=births)), OPEN, [])
+        for kind, args in ALLOCATING + DONE + REFUSED[:1]:
+            yield (f"{named(kind, args)} in phase {phase}{', roles changed' * again}, {births} numbers used",
+                   encode(decode(base)[0], kind, args))
+        for free, (kind, args) in itertools.product([(0, 0), (PERSON - 1, HALF), (HALF, PERSON - 1)], ALLOCATING):
+            store, _, _ = decode(base)
+            store.frontier = [max(at, HALF - words) for at, words in zip(store.frontier, free)]
+            yield f"{named(kind, args)} in phase {phase}, {births} numbers used, {free} words free", encode(store, kind, args)
 
 
 def ranges():
     """Numbers just inside or just outside each range of refusal 4."""
-    bases = {n: encode(school(n=n, calls=TINY), OPEN, []) for n in (16, 48)}
+    bases = {n: encode(school(n=n, calls=TINY), OPEN, []) for n, _ in (LEAST, USUAL)}
     for (n, capacity), name, change in edges():
         for kind, args in EACH:
             store = changed(decode(bases[n])[0], change)
@@ -116,11 +145,12 @@ def top_injuries(store):
     """Global 31 names something that is no record, or one that is damaged."""
     top = store.globals[ROOT]
     h, at = top % 2, (top - 2) // 2
-    for word in (1, TOP, TOP - 1, top + 2, ref(h, store.frontier[h]), ref(h, store.frontier[h] - 2), ref(h, 72), ref(1 - h, 71)):
+    for word in (1, TOP, TOP - 1, top + 2, ref(h, store.frontier[h]), ref(h, store.frontier[h] - HEADER + 1), ref(h, HALF),
+                 ref(1 - h, HALF - 1)):
         yield f"global 31 is {word}", set_item("globals", ROOT, word)
     for name, k, word in [("shape 65536", 0, 65536), ("shape 65535", 0, 65535), ("colour 3", 1, 3), ("colour", 1, TOP)]:
         yield f"first entry, {name}", set_word(h, at + k, word)
-    yield "frontier before the first entry's end", set_item("frontier", h, at + 4)
+    yield "frontier before the first entry's end", set_item("frontier", h, at + HEADER + 1)
 
 
 def record_injuries(store):
@@ -134,14 +164,17 @@ def record_injuries(store):
             if store.half[h][at + 2]:
                 for shape in (0, 1, 256, 257, 513):
                     yield f"shape {shape} in both copies of {h}:{at}", putting((ref(h, at), 0, shape), (store.half[h][at + 2], 0, shape))
-            for word in (0, 1, ref(h, at), ref(1 - h, 0), ref(h, 72), TOP):
+            for word in (0, 1, ref(h, at), ref(1 - h, 0), ref(h, HALF), TOP):
                 yield f"replica {word} at {h}:{at}", set_word(h, at + 2, word)
+            for word in (0, TOP):
+                yield f"number {word} at {h}:{at}", set_word(h, at + NUMBER, word)
             for i in range(r):
                 for word in (0, 1, ref(h, at), ref(h, 0), ref(1 - h, 0), ref(h, at + 1), TOP):
-                    yield f"link {i} is {word} at {h}:{at}", set_word(h, at + 3 + i, word)
+                    yield f"link {i} is {word} at {h}:{at}", set_word(h, at + HEADER + i, word)
             for word in (0, 1, 3, LAST, MARK, MARK + 1, MARK + 2, TOP):
-                yield f"word {word} at {h}:{at}", set_word(h, at + 3 + r, word)
-    for head, tail in [(0, 24), (24, 24), (0, 23)]:
+                yield f"word {word} at {h}:{at}", set_word(h, at + HEADER + r, word)
+    listed = len(store.list)
+    for head, tail in [(0, listed), (listed, listed), (0, listed - 1)]:
         yield f"list from {head} to {tail}", setting(head=head, tail=tail)
 
 
@@ -183,25 +216,25 @@ def replicas():
 def chain(n, entries):
     """A store of these records, in half 0 as far as they fit and then in half 1: links, by number from 1, and word of each. A link that
     is no number of a record is taken as it is. Global 31 names the first."""
-    store, places = Sapphire(n, n // 3), [0]
+    store, places = Sapphire(n, least_list(n)), [0]
     for links, _ in entries:
-        h = 0 if store.frontier[0] + 4 + len(links) <= n else 1
+        h = 0 if store.frontier[0] + size(len(links), 1) <= n else 1
         places.append(ref(h, store.frontier[h]))
-        store.frontier[h] += 4 + len(links)
-    for place, (links, word) in zip(places[1:], entries):
+        store.frontier[h] += size(len(links), 1)
+    for number, (place, (links, word)) in enumerate(zip(places[1:], entries), 1):
         fields = [places[to] if to < len(places) else to for to in links]
-        for i, value in enumerate([256 * len(links) + 1, 0, 0, *fields, word]):
+        for i, value in enumerate([256 * len(links) + 1, 0, 0, number, *fields, word]):
             store.put(place, i, value)
-    store.attached[MINE], store.globals[ROOT] = True, places[1]
+    store.attached[MINE], store.globals[ROOT], store.births = True, places[1], len(entries)
     return store
 
 
 def doubled(store):
     """The records of half 0 with a second copy each, at the same place in half 1, whose links name the copies there."""
     for at, r, p in records(store, 0):
-        shape, colour, _, *fields = store.half[0][at:at + 3 + r + p]
+        shape, colour, _, number, *fields = store.half[0][at:at + size(r, p)]
         links = [link and link + 1 for link in fields[:r]]
-        store.half[0][at + 2], store.half[1][at:at + 3 + r + p] = ref(1, at), [shape, colour, ref(0, at), *links, *fields[r:]]
+        store.half[0][at + 2], store.half[1][at:at + size(r, p)] = ref(1, at), [shape, colour, ref(0, at), number, *links, *fields[r:]]
     store.frontier[1] = store.frontier[0]
     return store
 
@@ -249,7 +282,7 @@ def members_in_a_row(count, last):
 def long_chains():
     """As many records as both halves hold. They are fewer than a half has words: a chain that ends is never too long."""
     for n in (48, 1000):
-        count = 2 * (n // 5)
+        count = 2 * (n // PERSON)
         for last in (0, 1, count):
             store = chain(n, people_in_a_row(count, last))
             for kind, args in [(ADD, [9]), (ADD, [9 + count]), (REMOVE, [9 + count]), (REMOVE, [9]), (MAKE_GROUP, [1]), (LIST, [1, 5])]:
@@ -260,7 +293,11 @@ def long_chains():
                 yield f"{named(kind, args)} on {count - 3} members, the last names {last}", encode(store, kind, args)
 
 
-def passed_groups(n, lead, members):
+PASSED = 15  # members, so many that all records fit in two halves of as many words as groups are passed
+LAST_PASSED = 2 + 5 * PASSED
+
+
+def passed_groups(n, lead, members=PASSED):
     """A removal of person 1 that makes its own ring. Behind `lead` groups come six; the members of the first are the sixth group itself
     and the entry behind it, which is the person's. Cut out there, he leaves the sixth naming the second: these five come again and
     again. The second loses a member each time and then names what is no record. That is met, and answered with 12, in the group
@@ -273,16 +310,16 @@ def passed_groups(n, lead, members):
 
 def passes():
     """The group with the damage comes as the last that a removal may pass, or one later: then it is 26."""
-    for n in (51, 52, 53):
+    for n in (LAST_PASSED - 1, LAST_PASSED, LAST_PASSED + 1):
         for lead in (0, 1):
             for phase in (0, 6, 8, 11):
-                store = passed_groups(n, lead, 10)
+                store = passed_groups(n, lead)
                 store.phase = phase
-                yield f"group {lead + 52} of a walk in {n} words, phase {phase}", encode(store, REMOVE, [1])
+                yield f"group {lead + LAST_PASSED} of a walk in {n} words, phase {phase}", encode(store, REMOVE, [1])
 
 
 def directed():
-    for cases in (passes, rings, long_chains, calls, sessions, rooms, ranges, injured):
+    for cases in (passes, rings, long_chains, calls, sessions, rooms, numbers, ranges, injured):
         yield from cases()
 
 
@@ -291,15 +328,16 @@ def few():
     one's, and beside it one without; a walk that is too long."""
     for phase in (0, 8):
         for kind, args in [*EACH, REFUSED[1]]:
-            yield named(kind, args), encode(school(phase, 2, n=64), kind, args)
-    absent = school(n=64)
+            yield named(kind, args), encode(school(phase, 2, n=FEW), kind, args)
+    absent = school(n=FEW)
     absent.attached[MINE] = False
     yield "absent", encode(absent, OPEN, [])
-    yield "phase 13", encode(changed(school(n=64), setting(phase=13)), LIST, [1, 4])
-    yield "global 31 is 1", encode(changed(school(n=64), set_item("globals", ROOT, 1)), LIST, [1, 4])
-    store = school(8, 2, n=64)
-    for name, word in [("another one's replica", store.at(store.at(store.globals[ROOT], 3), 2)), ("no replica", 0)]:
+    yield "phase 13", encode(changed(school(n=FEW), setting(phase=13)), LIST, [1, 4])
+    yield "global 31 is 1", encode(changed(school(n=FEW), set_item("globals", ROOT, 1)), LIST, [1, 4])
+    store = school(8, 2, n=FEW)
+    for name, word in [("another one's replica", store.at(store.at(store.globals[ROOT], HEADER), 2)), ("no replica", 0)]:
         yield name, encode(changed(decode(encode(store, OPEN, []))[0], putting((store.globals[ROOT], 2, word))), LIST, [1, 4])
     yield "a group with one link", encode(chain(16, RINGS["a group with one link"]), LIST, [1, 4])
     yield "a ring", encode(chain(16, RINGS["a ring with the person looked for"]), LIST, [1, 4])
-    yield "a long walk", encode(passed_groups(52, 1, 10), REMOVE, [1])
+    yield "no number left", encode(changed(school(n=FEW), setting(births=MOST_BIRTHS)), *ALLOCATING[0])
+    yield "a long walk", encode(passed_groups(LAST_PASSED, 1), REMOVE, [1])

@@ -6,6 +6,7 @@ import chance
 from damage import TOP, records
 from directory import MARK, MINE, ROOT, Directory
 from directory_cases import SCHOOL, heads, school, step, told
+from layout import HEADER
 from probe import OPEN, ADD, REMOVE, MAKE_GROUP, JOIN, LEAVE, LIST, MOST_LENT, decode, encode
 from table import LAST
 
@@ -22,7 +23,7 @@ def any_call(rng, most=4):
 def any_school(rng):
     """A directory by calls at random, with the collector somewhere at its work."""
     calls = rng.choice([SCHOOL, SCHOOL[:1]]) + [any_call(rng, 5) for _ in range(rng.choice([4, 8, 16, 30]))]
-    store = school(calls=calls, n=rng.choice([48, 72, 96, 120]))
+    store = school(calls=calls, n=rng.choice([60, 84, 108, 132]))
     for _ in range(rng.randrange(20, 180)):
         step(store)
         if rng.random() < 0.05:
@@ -47,7 +48,7 @@ def damage_at(rng, store):
         store.head = store.tail = len(store.list)
     elif style < 0.55:  # a link, most often
         v = rng.choice(some)
-        store.half[v % 2][min((v - 2) // 2 + rng.choice([3, 3, 4]), len(store.half[0]) - 1)] = rng.choice(some)
+        store.half[v % 2][min((v - 2) // 2 + HEADER + rng.choice([0, 0, 1]), len(store.half[0]) - 1)] = rng.choice(some)
     else:
         store.half[h][rng.randrange(store.frontier[h] or 1)] = value
 
@@ -62,6 +63,8 @@ def damaged_school(rng, base):
         rng.choice(chance.EDGES)[2](store)
     if rng.random() < 0.06:
         store.attached[MINE] = False
+    if rng.random() < 0.3:
+        store.births = chance.any_number(rng)
     return store
 
 
@@ -70,8 +73,8 @@ def any_records(rng):
     store = chance.world(rng)
     for h in (0, 1):
         for at, r, p in records(store, h):
-            if p and at + 3 + r < len(store.half[h]):
-                store.half[h][at + 3 + r] = rng.choice([1, 2, 3, 4, MARK + 1, MARK + 2, MARK + 3, rng.randrange(12)])
+            if p and at + HEADER + r < len(store.half[h]):
+                store.half[h][at + HEADER + r] = rng.choice([1, 2, 3, 4, MARK + 1, MARK + 2, MARK + 3, rng.randrange(12)])
     kept = store.length, store.capacity, store.frontier
     chance.numbers(rng, store)
     store.length, store.capacity, store.frontier = kept

@@ -7,6 +7,7 @@ import random
 
 import scripts
 from directory import MINE, ROOT, Directory
+from layout import HEADER, size
 from model import ATTACH, SAFE, ALLOCATE, GET, PUT, STEP, WRITE
 from table import OPEN, ADD, REMOVE, MAKE, JOIN, LEAVE, LIST, LAST
 
@@ -83,8 +84,9 @@ class Played:
 
     def fill(self, session, left):
         """The session takes all words but so many and keeps none of its records."""
-        while (size := self.room(session) - left) >= 3:
-            fields = min(size - 3, 510) if not 513 < size < 516 else 400  # never one or two words less than a record needs
+        most = size(255, 255)
+        while (words := self.room(session) - left) >= HEADER:
+            fields = min(words, most) - HEADER if not most < words < most + HEADER else 400  # never less left than a record needs
             if self.do((ALLOCATE, [session, 7, max(fields - 255, 0), min(fields, 255)]))[0]:
                 return
 
@@ -157,7 +159,7 @@ def full(rng, played, numbers, sessions):
     session = rng.randrange(sessions)
     played.do((SAFE, [session]), (ADD, [LAST + 1]))
     if played.store.attached[session]:
-        played.fill(session, rng.choice([0, 2, 4, 5, 6, 9]))
+        played.fill(session, rng.choice([0, 3, 5, 6, 7, 10]))
     for kind in rng.sample([ADD, MAKE, JOIN, JOIN, JOIN], 5):
         played.do((kind, numbers.args(kind)))
 
@@ -195,5 +197,5 @@ def all_removed():
     played.do(*[(REMOVE, [person]) for person in (1, 0, *range(2, 100))])
     for _ in range(9):
         played.do(*[(STEP, [])] * 1000, (SAFE, [0]), (ADD, [LAST + 1]))
-    played.do(*[(ALLOCATE, [0, 0, 0, 97])] * 41)
+    played.do(*[(ALLOCATE, [0, 0, 0, 96])] * 41)
     return played

@@ -1,10 +1,11 @@
 """Where the store in Python follows a reference, and the test of its replica with the mistakes of tests/slips.py built in."""
-from model import COMPANION, LOAD, STORE, READ, WRITE, SAME, PUT, STEP, STRETCH
+from layout import HEADER, NUMBER, size_of
+from model import BIRTH, COMPANION, LOAD, STORE, READ, WRITE, SAME, PUT, STEP, STRETCH
 from slips import (BACK_BY_PLACE, BACK_OR_NONE, BACK_SOMEWHERE, BACK_TO_ITSELF, BACK_UNTESTED, COLOUR_UNTESTED, COLOURS_COMPARED,
                    FIELDS_COMPARED, FRONTIER_OF_THIS, FRONTIER_UNTESTED, HALF_NOT_CURRENT, HALF_SAME, HALF_UNTESTED, HEADER_ALONE,
-                   LEFT_BEFORE_5, LEFT_BELOW_3, LEFT_IN_12, LEFT_IN_FROMSPACE, LEFT_IN_TOSPACE, LINKS_ALONE, NONE_REFUSED, PLACES,
-                   PLAINS_ALONE, REPLICAS_UNTESTED, SHAPE_AT_LEAST, SHAPE_AT_MOST, SHAPE_BY_COLOUR, SHAPE_UNTESTED, SIZE_ALONE,
-                   SOUND_UNTESTED)
+                   LEFT_BEFORE_5, LEFT_BELOW_3, LEFT_IN_12, LEFT_IN_FROMSPACE, LEFT_IN_TOSPACE, LINKS_ALONE, NONE_REFUSED,
+                   NUMBERS_COMPARED, PLACES, PLAINS_ALONE, REPLICAS_UNTESTED, SHAPE_AT_LEAST, SHAPE_AT_MOST, SHAPE_BY_COLOUR,
+                   SHAPE_UNTESTED, SIZE_ALONE, SOUND_UNTESTED)
 
 REPLICA = "replica written"  # a place where no test of replicas is left out: the record that it belongs to has passed
 
@@ -18,7 +19,7 @@ def place(store, v):
         return place_in_step(store, v)
     if kind in (STORE, PUT):
         return place_in_barrier(store, kind, args, v)
-    return {LOAD: "load", READ: "read", WRITE: "write", STRETCH: "stretch", COMPANION: "companion", SAME: "same"}[kind]
+    return {LOAD: "load", READ: "read", WRITE: "write", STRETCH: "stretch", COMPANION: "companion", BIRTH: "birth", SAME: "same"}[kind]
 
 
 def place_in_barrier(store, kind, args, v):
@@ -42,20 +43,16 @@ def place_in_step(store, v):
 
 # ---- the parts of the test: each with what a slip has in its place, of a record v and its replica w
 
-def size(shape):
-    return 3 + shape // 256 + shape % 256
-
-
 def header(store, w):
     return store.at(w, 0) <= 65535 and store.at(w, 1) <= 2
 
 
 def below(store, w, half):
-    return (w - 2) // 2 + size(store.at(w, 0)) <= store.frontier[half]
+    return (w - 2) // 2 + size_of(store.at(w, 0)) <= store.frontier[half]
 
 
 def fields(store, v):
-    return [store.at(v, i) for i in range(3, size(store.at(v, 0)))]
+    return [store.at(v, i) for i in range(HEADER, size_of(store.at(v, 0)))]
 
 
 def untested(store, v, w):
@@ -71,13 +68,13 @@ SOUND = (lambda store, v, w: header(store, w) and below(store, w, w % 2)), {
     COLOUR_UNTESTED: lambda store, v, w: store.at(w, 0) <= 65535 and below(store, w, w % 2),
     FRONTIER_UNTESTED: lambda store, v, w: header(store, w),
     FRONTIER_OF_THIS: lambda store, v, w: header(store, w) and below(store, w, v % 2),
-    HEADER_ALONE: lambda store, v, w: header(store, w) and (w - 2) // 2 + 3 <= store.frontier[w % 2]}
+    HEADER_ALONE: lambda store, v, w: header(store, w) and (w - 2) // 2 + HEADER <= store.frontier[w % 2]}
 SHAPE = (lambda store, v, w: store.at(w, 0) == store.at(v, 0)), {
     SHAPE_UNTESTED: untested,
     SHAPE_AT_LEAST: lambda store, v, w: store.at(w, 0) >= store.at(v, 0),
     SHAPE_AT_MOST: lambda store, v, w: store.at(w, 0) <= store.at(v, 0),
     SHAPE_BY_COLOUR: lambda store, v, w: store.at(w, 0) == store.at(v, 1),
-    SIZE_ALONE: lambda store, v, w: size(store.at(w, 0)) == size(store.at(v, 0)),
+    SIZE_ALONE: lambda store, v, w: size_of(store.at(w, 0)) == size_of(store.at(v, 0)),
     LINKS_ALONE: lambda store, v, w: store.at(w, 0) // 256 == store.at(v, 0) // 256,
     PLAINS_ALONE: lambda store, v, w: store.at(w, 0) % 256 == store.at(v, 0) % 256}
 BACK = (lambda store, v, w: store.at(w, 2) == v), {
@@ -88,6 +85,7 @@ BACK = (lambda store, v, w: store.at(w, 2) == v), {
     BACK_TO_ITSELF: lambda store, v, w: store.at(w, 2) == w}
 MORE = untested, {
     COLOURS_COMPARED: lambda store, v, w: store.at(w, 1) == store.at(v, 1),
+    NUMBERS_COMPARED: lambda store, v, w: store.at(w, NUMBER) == store.at(v, NUMBER),
     FIELDS_COMPARED: lambda store, v, w: fields(store, w) == fields(store, v)}
 
 
@@ -107,7 +105,7 @@ def passes(store, v):
         return NONE_REFUSED not in store.slips
     if left(store, v):
         return True
-    if w < 2 or (w - 2) // 2 + 3 > len(store.half[w % 2]):
+    if w < 2 or (w - 2) // 2 + HEADER > len(store.half[w % 2]):
         return False  # there are no words to look at
     for right, wrong in (HALF, SOUND, SHAPE, BACK, MORE):
         tests = [wrong[slip] for slip in store.slips & wrong.keys()] or [right]

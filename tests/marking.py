@@ -6,7 +6,8 @@ import random
 
 from explained import need
 from judge import faults
-from model import ATTACH, DETACH, SAFE, ALLOCATE, LOAD, STORE, READ, WRITE, MOVE, CLEAR, SAME, GET, PUT, STEP
+from layout import least_list, size
+from model import ATTACH, DETACH, SAFE, ALLOCATE, LOAD, STORE, READ, WRITE, MOVE, CLEAR, SAME, GET, PUT, STEP, MOST_BIRTHS
 from sapphire import LEVELS, WHITE, Sapphire
 
 MARKING, AFTER = 4, 5  # phases
@@ -18,8 +19,8 @@ class Run:
     """A run of the store in Python. `spent` counts the steps of this collection that began in phase 4; `worst` is the most that it was
     over the bound after any call."""
 
-    def __init__(self, length=4096, slip=None):
-        self.store = Sapphire(length, length // 3, slip)
+    def __init__(self, length=4096, slip=None, most_births=MOST_BIRTHS):
+        self.store = Sapphire(length, least_list(length), slip, most_births)
         self.entries, self.lines, self.spent, self.worst = [], [], 0, -1 << 32
 
     def do(self, *entries):
@@ -56,23 +57,28 @@ class Run:
 
     def judged(self, name):
         """No call was refused with 4 or 12, and every session answer is the collector-free store's."""
-        fault = next(faults(self.entries, self.lines), None)
+        fault = next(faults(self.entries, self.lines, most_births=self.store.most_births), None)
         need(not fault, f"{name}: {fault}")
         return self
 
 
-def attached(sessions, length=4096, slip=None):
-    run = Run(length, slip)
+def attached(sessions, length=4096, slip=None, most_births=MOST_BIRTHS):
+    run = Run(length, slip, most_births)
     run.do(*[(ATTACH, [s]) for s in sessions])
     return run
 
 
 # ---- the two that kept marking busy
 
+def links_in(length):
+    """How many records with one link fit."""
+    return length // size(1, 0)
+
+
 def chained(length, slip=None):
     """Sixteen sessions and as many records as fit, each with a link to the one made before it; the import holds the last one."""
     run = attached(range(16), length, slip)
-    for _ in range(length // 4):
+    for _ in range(links_in(length)):
         run.do((ALLOCATE, [IMPORT, 1, 1, 0]), (STORE, [IMPORT, 1, 0, 0]), (MOVE, [IMPORT, 0, 1]))
     run.do((CLEAR, [IMPORT, 1]))
     return run.to(MARKING)

@@ -1,16 +1,20 @@
-"""The collector-free store of document 01, written from the paper alone.
+"""The collector-free store of documents 01 and 02, written from the papers alone.
 
-It is fed the session calls of a run in order and, for each allocation, whether the run answered it with 14. It keeps which
-sessions are attached, their registers, the globals and a list of records; a register, global or reference field holds 0 for
-null or a record's place in the list, from 1.
+It is fed the session calls of a run in order and, for each allocation, whether the run answered it with 14. That all birth numbers are
+used, 16, it finds by the length of its list. It keeps which sessions are attached, their registers, the globals and a list of records;
+a register, global or reference field holds 0 for null or a record's place in the list, from 1.
 """
 
 ATTACH, DETACH, SAFE, ALLOCATE, LOAD, STORE, READ, WRITE, MOVE, CLEAR, SAME, GET, PUT, STEP = range(1, 15)
-STRETCH, COMPANION = 15, 16  # after the kinds of the script, which has neither
+STRETCH, COMPANION, BIRTH = 15, 16, 17  # after the kinds of the script, which has none of them
+MOST_BIRTHS = (1 << 32) - 1  # birth numbers that there are, from 1
 
 
 class Model:
-    def __init__(self):
+    """`most_births` is how many birth numbers there are, which tests may lower."""
+
+    def __init__(self, most_births=MOST_BIRTHS):
+        self.most_births = most_births
         self.attached = [False] * 16
         self.registers = [[0] * 8 for _ in range(16)]
         self.globals = [0] * 32
@@ -48,11 +52,15 @@ class Model:
                 return 10, 0
             if no_room:
                 return 14, 0
+            if len(self.records) >= self.most_births:
+                return 16, 0
             self.records.append(([0] * r, [0] * p))
             regs[k] = len(self.records)
             return 0, 0
         if kind in (LOAD, STORE, READ, WRITE):
             return self._field(kind, regs, args)
+        if kind == BIRTH:
+            return self._birth(regs, args[1])
         if kind == MOVE:
             to, source = args[1:]
             if to > 7 or source > 7:
@@ -84,6 +92,12 @@ class Model:
             return 9, 0
         self.globals[g] = regs[source]
         return 0, 0
+
+    def _birth(self, regs, k):
+        """A record's birth number is its place in the list."""
+        if k > 7:
+            return 8, 0
+        return (0, regs[k]) if regs[k] else (11, 0)
 
     def _field(self, kind, regs, args):
         if kind == LOAD:

@@ -5,7 +5,7 @@ A case in 32-bit words, big-endian: kind and four arguments of the call, the thr
 of half 0, half 1 and the list. A reply: refusal number, value in two words, the control record, the words of both halves and the
 list, then a count and that many words of a stretch. A control record: current half; in two words each lengths, frontiers, phase,
 walk place, walk field, and the list's place and end; 32 globals; for each session its registers, level, and whether it is attached
-and scanned.
+and scanned; the birth numbers used.
 
 A call of the directory has 100 and the kind that it has in a directory script, and the arguments that it has there. In the place of a
 stretch its reply has the words that a list was lent: 1000, 1001 and so on, where the list has not written.
@@ -16,7 +16,7 @@ import subprocess
 
 import table
 from directory import Directory
-from sapphire import COMPANION, STRETCH, Sapphire
+from sapphire import BIRTH, COMPANION, STRETCH, Sapphire
 from scripts import ARGUMENTS
 
 BUILT = os.path.join(os.path.dirname(os.path.abspath(__file__)), "..", "target", "bin", "probe")
@@ -24,10 +24,10 @@ PROGRAM = os.environ.get("PROBE_PROGRAM", BUILT)
 MAKE = 0
 OPEN, ADD, REMOVE, MAKE_GROUP, JOIN, LEAVE, LIST = range(100 + table.OPEN, 100 + table.LIST + 1)
 MOST_LENT = 64  # words that a list may be lent
-COUNTS = {MAKE: 0, **ARGUMENTS, STRETCH: 2, COMPANION: 2,  # of arguments, for each kind
+COUNTS = {MAKE: 0, **ARGUMENTS, STRETCH: 2, COMPANION: 2, BIRTH: 2,  # of arguments, for each kind
           OPEN: 0, ADD: 1, REMOVE: 1, MAKE_GROUP: 1, JOIN: 2, LEAVE: 2, LIST: 2}
 CALL = struct.Struct(">8I")
-RECORD = struct.Struct(">I10Q32I176I")
+RECORD = struct.Struct(">I10Q32I176II")
 ANSWER = struct.Struct(">IQ")
 
 
@@ -39,7 +39,7 @@ def given(store):
     """The control record and the lent words of a store, as a case and a reply have them."""
     sessions = [w for n in range(16) for w in (*store.registers[n], store.level[n], store.attached[n], store.scanned[n])]
     return RECORD.pack(store.current, *store.length, store.capacity, *store.frontier, store.phase, store.place, store.field, store.head,
-                       store.tail, *store.globals, *sessions) + words(store.half[0] + store.half[1] + store.list)
+                       store.tail, *store.globals, *sessions, store.births) + words(store.half[0] + store.half[1] + store.list)
 
 
 def encode(store, kind, args):
@@ -58,8 +58,9 @@ def decode(case, slip=None):
     store.phase, store.place, store.field, store.head, store.tail = numbers[6:11]
     store.globals = list(numbers[11:43])
     store.registers = [list(numbers[at:at + 8]) for at in range(43, 219, 11)]
-    store.level = list(numbers[51::11])
-    store.attached, store.scanned = [bool(w) for w in numbers[52::11]], [bool(w) for w in numbers[53::11]]
+    store.level = list(numbers[51:219:11])
+    store.attached, store.scanned = [bool(w) for w in numbers[52:219:11]], [bool(w) for w in numbers[53:219:11]]
+    store.births = numbers[219]
     store.half = [list(memory[:lent[0]]), list(memory[lent[0]:lent[0] + lent[1]])]
     store.list = list(memory[lent[0] + lent[1]:])
     return store, kind, rest[:COUNTS.get(kind, 0)]

@@ -4,18 +4,19 @@ import itertools
 
 from damage import LEVEL_PHASES, TOP, changed, putting, records, ref, set_item, setting
 from following import place
+from layout import HEADER, NUMBER, size, size_of
 from model import LOAD, STORE, READ, WRITE, SAME, PUT, STEP
 from probe import MAKE, ask, decode, encode
-from sapphire import BLACK, COMPANION, GREY, LEVELS, STRETCH, WHITE, Refused, Sapphire
+from sapphire import BIRTH, BLACK, COMPANION, GREY, LEVELS, STRETCH, WHITE, Refused, Sapphire
 
 # The records of `stage`, reference and plain fields of each; three of them have two copies. Half 1 begins with one more, so that no
 # record has its copies at the same place.
 HOLDER, OTHER, TARGET, LONE, LAST = "holder", "other", "target", "lone", "last"
 SHAPES = {HOLDER: (3, 1), OTHER: (2, 1), LONE: (2, 1), TARGET: (2, 1), LAST: (0, 2)}
 PAIRED = (HOLDER, OTHER, TARGET)
-LEAD = [1, 0, 0, 9]
-LENGTH, CAPACITY, GLOBAL = 48, 16, 9
-AT = [dict(zip(SHAPES, itertools.accumulate((3 + r + p for r, p in SHAPES.values()), initial=h * len(LEAD)))) for h in (0, 1)]
+LEAD = [1, 0, 0, 70, 9]
+LENGTH, CAPACITY, GLOBAL, USED = 48, 16, 9, 85
+AT = [dict(zip(SHAPES, itertools.accumulate((size(r, p) for r, p in SHAPES.values()), initial=h * len(LEAD)))) for h in (0, 1)]
 # registers: copies in fromspace and in tospace; the target's on the side that the case is about, and its other copy
 HELD, HELD_TO, AIMED, TWIN, OTHER_FROM, OTHER_TO, LONE_FROM, NULL = range(8)
 
@@ -29,14 +30,15 @@ def words_of(name, h, aim):
     fields = {HOLDER: [aim, named(LONE, h), 0, 100 + h], OTHER: [named(LONE, h), named(TARGET, h), 200 + h],
               LONE: [aim, named(OTHER, h), 300 + h], TARGET: [named(OTHER, h), 0, 400 + h], LAST: [500 + h, 600 + h]}[name]
     r, p = SHAPES[name]
-    return [256 * r + p, WHITE, named(name, 1 - h) if name in PAIRED else 0, *fields]
+    number = 71 + 2 * list(SHAPES).index(name) + h  # no two copies have the same
+    return [256 * r + p, WHITE, named(name, 1 - h) if name in PAIRED else 0, number, *fields]
 
 
 def stage(level, phase, current, side):
     """Session 0 holds copies of the records; the target is the one of fromspace or, on side 1, of tospace. A field of the holder and of
     the lone one name it too, and a global."""
     store = Sapphire(LENGTH, CAPACITY)
-    store.phase, store.current = phase, current
+    store.phase, store.current, store.births = phase, current, USED
     source = store.fromspace()
     aim = named(TARGET, (source + side) % 2)
     for h in (0, 1):
@@ -110,8 +112,8 @@ def cut(store, v):
     """The replica ends at its frontier, or behind it."""
     w = store.at(v, 2)
     start = (w - 2) // 2
-    end = start + 3 + sum(divmod(store.at(w, 0), 256))
-    for frontier in sorted({end, end - 1, start + 3, start + 2, start, 0}):
+    end = start + size_of(store.at(w, 0))
+    for frontier in sorted({end, end - 1, start + HEADER, start + HEADER - 1, start + 2, start, 0}):
         yield f"replica's frontier is {frontier}", set_item("frontier", w % 2, frontier)
 
 
@@ -119,18 +121,18 @@ def moved(store, v):
     """The replica at another place of its half: above the frontier, then below it; over what ends at it; over the words that it had; at the
     end of the half and across it."""
     w, h, n = store.at(v, 2), 1 - v % 2, len(store.half[0])
-    words = store.half[h][(w - 2) // 2:][:3 + sum(divmod(store.at(v, 0), 256))]
-    frontier, size, first = store.frontier[h], len(words), (w - 2) // 2
+    words = store.half[h][(w - 2) // 2:][:size_of(store.at(v, 0))]
+    frontier, count, first = store.frontier[h], len(words), (w - 2) // 2
 
     def at(start, end):
         def change(store):
-            store.half[h][start:start + size] = words[:n - start]
+            store.half[h][start:start + count] = words[:n - start]
             store.put(v, 2, ref(h, start))
             store.frontier[h] = end
         return f"replica at {start}, frontier {end}", change
-    above = [(frontier, end) for end in (frontier, frontier + 3, frontier + size - 1, frontier + size) if frontier + size <= n]
-    within = [(start, frontier) for start in (frontier - size, first + 1, first + 2) if start + size <= frontier]
-    for start, end in [*above, *within, (n - size, n), (n - 3, n), (n - 2, n)]:
+    above = [(frontier, end) for end in (frontier, frontier + HEADER, frontier + count - 1, frontier + count) if frontier + count <= n]
+    within = [(start, frontier) for start in (frontier - count, first + 1, first + 2) if start + count <= frontier]
+    for start, end in [*above, *within, (n - count, n), (n - HEADER, n), (n - HEADER + 1, n), (n - 2, n)]:
         yield at(start, end)
 
 
@@ -140,7 +142,9 @@ def right(store, v):
     yield "as it is", putting()
     for colour, other in ((0, 1), (0, 2), (1, 0), (1, 1), (2, 0), (2, 2)):
         yield f"colours {colour} and {other}", putting((v, 1, colour), (w, 1, other))
-    yield "other fields in the replica", putting(*((w, 3 + i, TOP - i) for i in range(sum(divmod(store.at(v, 0), 256)))))
+    yield "another number in the replica", putting((w, NUMBER, TOP))
+    yield "equal numbers", putting((w, NUMBER, store.at(v, NUMBER)))
+    yield "other fields in the replica", putting(*((w, i, TOP - i) for i in range(HEADER, size_of(store.at(v, 0)))))
     yield "no replica, but it names this one", putting((v, 2, 0))
     yield "no replica", putting((v, 2, 0), (w, 2, 0))
     yield "no replica, black", putting((v, 2, 0), (v, 1, 2))
@@ -155,7 +159,7 @@ def changes(store, v):
 # ---- every call and step that follows
 
 WORKED_ON = [(LOAD, [0, NULL, AIMED, 1]), (READ, [0, AIMED, 0]), (WRITE, [0, AIMED, 0, 7]), (STRETCH, [0, AIMED]), (COMPANION, [0, AIMED]),
-             (STORE, [0, AIMED, 1, OTHER_FROM])]
+             (BIRTH, [0, AIMED]), (STORE, [0, AIMED, 1, OTHER_FROM])]
 STORED = [(STORE, [0, HELD, 1, AIMED]), (STORE, [0, HELD_TO, 1, AIMED]), (PUT, [0, 3, AIMED])]
 OVERWRITTEN = [(STORE, [0, HELD, 0, LONE_FROM]), (PUT, [0, GLOBAL, LONE_FROM])]
 COMPARED = [(SAME, [0, AIMED, TWIN]), (SAME, [0, AIMED, OTHER_FROM]), (SAME, [0, OTHER_TO, AIMED]), (SAME, [0, NULL, AIMED])]

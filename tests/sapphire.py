@@ -3,15 +3,19 @@
 It is the second opinion on what the script program must print, collector steps and allocations without room included, and on what
 a call does to any control record and any words: a store may be set up with numbers out of range, other lengths than those that are
 lent, and damaged memory. `slip` builds in a mistake of tests/slips.py, or several together, so that the tests can show that they would
-see it.
+see it. `most_births` is how many birth numbers there are, which tests may lower.
 """
+import numbering
 from following import passes
-from model import ATTACH, DETACH, SAFE, ALLOCATE, LOAD, STORE, READ, WRITE, MOVE, CLEAR, SAME, GET, PUT, STEP, STRETCH, COMPANION
-from slips import (ALLOCATE_ENDS_EARLY, ATTACHED_SCANNED, ATTACHED_UNSCANNED, BLACK_EARLY, COLOUR_THREE, COMPANION_BLIND, DETACH_UNMARKS,
-                   FIRST_LEFT, FOLLOWING_SLIPS, FULL_LIST_SLIPS, IN_TURN, LAST_FIRST, LEVELS_ATTACHED, LISTED_TWICE, MARK_OF_BEFORE,
-                   MARKS_CLEARED, OLD_AT_1, OLD_IN_4_ALONE, OLD_LEFT, OLD_LEFT_AT_3, OLD_LEFT_BY_PUT, OLD_LEFT_IN_4, OLD_READ_LATE,
-                   OTHER_ORDER, PASSED_OVER, PLACE_IN_HALF, ROOM_FOR_EIGHT, SCAN_ALONE, STORED_LEFT, STRETCH_EARLY, TESTED_LATE, UNMARKED,
-                   WORDS_COMPARED)
+from layout import HEADER, NUMBER, least_list, size
+from model import (ATTACH, DETACH, SAFE, ALLOCATE, LOAD, STORE, READ, WRITE, MOVE, CLEAR, SAME, GET, PUT, STEP, STRETCH, COMPANION, BIRTH,
+                   MOST_BIRTHS)
+from slips import (ALLOCATE_ENDS_EARLY, ATTACHED_SCANNED, ATTACHED_UNSCANNED, BLACK_EARLY, COLOUR_THREE, COMPANION_BLIND, COPY_UNNUMBERED,
+                   COUNT_RECLAIMED, COUNT_TESTED, DETACH_UNMARKS, FIRST_LEFT, FOLLOWING_SLIPS, FULL_LIST_SLIPS, IN_TURN, LAST_FIRST,
+                   LEVELS_ATTACHED, LIST_BY_3, LISTED_TWICE, MAKING_COUNTS_ON, MARK_OF_BEFORE, MARKS_CLEARED, NUMBER_TESTED, OLD_AT_1,
+                   OLD_IN_4_ALONE, OLD_LEFT, OLD_LEFT_AT_3, OLD_LEFT_BY_PUT, OLD_LEFT_IN_4, OLD_READ_LATE, OTHER_ORDER, PASSED_OVER,
+                   PAST_BY_3, PLACE_IN_HALF, RECLAIM_CLEARS, ROOM_FOR_EIGHT, SCAN_ALONE, SOUND_BY_3, STORED_LEFT, STRETCH_EARLY,
+                   TESTED_LATE, UNMARKED, WORDS_COMPARED)
 
 LEVELS = [0, 1, 2, 2, 2, 3, 4, 4, 5, 6, 6, 6, 0]
 WHITE, GREY, BLACK = 0, 1, 2
@@ -21,17 +25,17 @@ class Refused(Exception):
     pass
 
 
-def refused_lengths(length0, length1, capacity):
+def refused_lengths(length0, length1, capacity, slips=frozenset()):
     """What making answers to these lengths: 1, 2, 3, or 0."""
     if not (16 <= length0 <= 1048576 and 16 <= length1 <= 1048576):
         return 1
     if length0 != length1:
         return 2
-    return 3 if capacity < length0 // 3 else 0
+    return 3 if capacity < (length0 // 3 if LIST_BY_3 in slips else least_list(length0)) else 0
 
 
 class Sapphire:
-    def __init__(self, length=4096, capacity=1365, slip=None):
+    def __init__(self, length=4096, capacity=1365, slip=None, most_births=MOST_BIRTHS):
         self.half = [[0] * length, [0] * length]
         self.list = [0] * capacity
         self.length, self.capacity = [length, length], capacity  # the lengths in the control record
@@ -40,6 +44,7 @@ class Sapphire:
         self.globals = [0] * 32
         self.attached, self.scanned, self.level = [False] * 16, [False] * 16, [0] * 16
         self.registers = [[0] * 8 for _ in range(16)]
+        self.births, self.most_births = 0, most_births  # birth numbers used, and how many there are
         self.slips = frozenset([slip] if isinstance(slip, str) else slip or [])
         self.collections = 0
         self.first_frontier = 0
@@ -57,11 +62,14 @@ class Sapphire:
         if v < 2:
             raise Refused(12)
         k, h = (v - 2) // 2, v % 2
-        if k + 3 > self.frontier[h]:
+        end = self.frontier[h] + (SOUND_BY_3 in self.slips)
+        if k + HEADER > end:
             raise Refused(12)
         shape, colour = self.half[h][k], self.half[h][k + 1]
         r, p = shape // 256, shape % 256
-        if shape > 65535 or colour > (3 if COLOUR_THREE in self.slips else 2) or k + 3 + r + p > self.frontier[h]:
+        if shape > 65535 or colour > (3 if COLOUR_THREE in self.slips else 2) or k + size(r, p) > end:
+            raise Refused(12)
+        if NUMBER_TESTED in self.slips and self.at(v, NUMBER) > self.births:
             raise Refused(12)
         return r, p
 
@@ -156,8 +164,9 @@ class Sapphire:
     def make(self):
         """Making over the lent words: its refusal number or 0, and the new store."""
         lengths = [len(self.half[0]), len(self.half[1]), len(self.list)]
-        number = refused_lengths(*lengths)
-        made = Sapphire(0, 0, self.slips)
+        number = refused_lengths(*lengths, self.slips)
+        made = Sapphire(0, 0, self.slips, self.most_births)
+        made.births = self.births if MAKING_COUNTS_ON in self.slips else 0
         made.half, made.list = self.half, self.list
         if not number:
             made.length, made.capacity = lengths[:2], lengths[2]
@@ -168,7 +177,7 @@ class Sapphire:
         n = self.length[0]
         if self.length != [len(self.half[0]), len(self.half[1])] or self.capacity != len(self.list):
             return False
-        if refused_lengths(*self.length, self.capacity):
+        if refused_lengths(*self.length, self.capacity, self.slips) or COUNT_TESTED in self.slips and self.births >= self.most_births:
             return False
         levels = self.level
         if LEVELS_ATTACHED in self.slips:
@@ -194,6 +203,8 @@ class Sapphire:
             self.need(self.in_range(), 4)
             return 0, self._call(kind, args) or 0
         except Refused as refusal:
+            if self.slips:
+                numbering.refused(self, kind, refusal.args[0])
             return refusal.args[0], 0
 
     def _call(self, kind, args):
@@ -222,7 +233,7 @@ class Sapphire:
             self.need(regs[k], 11)
             r, _ = self.follow(regs[k])
             self.need(i < r, 13)
-            regs[to] = self.at(regs[k], 3 + i)
+            regs[to] = self.at(regs[k], HEADER + i)
         elif kind == STORE:
             self._store(regs, level, *args[1:])
         elif kind == READ:
@@ -231,7 +242,7 @@ class Sapphire:
             self.need(regs[k], 11)
             r, p = self.follow(regs[k])
             self.need(i < p, 13)
-            return self.at(regs[k], 3 + r + i)
+            return self.at(regs[k], HEADER + r + i)
         elif kind == WRITE:
             self._write(regs, level, *args[1:])
         elif kind == MOVE:
@@ -254,6 +265,8 @@ class Sapphire:
             self._put(regs, level, *args[1:])
         elif kind == COMPANION:
             self._companion(regs, args[1])
+        elif kind == BIRTH:
+            return self._birth(regs, args[1])
         return 0
 
     def _plain_fields(self, regs, k):
@@ -261,7 +274,7 @@ class Sapphire:
         v = regs[k]
         self.need(v, 11)
         r, p = self.follow(v)
-        first = 3 if STRETCH_EARLY in self.slips else 3 + r
+        first = HEADER if STRETCH_EARLY in self.slips else HEADER + r
         return [self.at(v, first + i) for i in range(p)]
 
     def _companion(self, regs, k):
@@ -271,28 +284,43 @@ class Sapphire:
             if COMPANION_BLIND not in self.slips or refusal.args[0] != 12:
                 raise
 
+    def _birth(self, regs, k):
+        self.need(k <= 7, 8)
+        v = regs[k]
+        self.need(v, 11)
+        if self.slips & numbering.ASKING:
+            return numbering.asked(self, v)
+        self.follow(v)
+        return self.at(v, NUMBER)
+
+    def _take_number(self, halves, r, p):
+        """The number of a new record of this shape in these halves: refused with 14 where it has no room, with 16 where none is left."""
+        if self.slips & numbering.ALLOCATING:
+            return numbering.take(self, halves, r, p)
+        self.need(all(self.frontier[h] + size(r, p) <= len(self.half[h]) for h in halves), 14)
+        self.need(self.births < self.most_births, 16)
+        self.births += 1
+        return self.births
+
     def _allocate(self, regs, level, k, r, p):
         self.need(k <= 7, 8)
         self.need(r <= 255 and p <= 255, 10)
-        size = 3 + r + p
-        halves = [self.current] if level <= 2 else [0, 1]
-        for h in halves:
-            self.need(self.frontier[h] + size <= len(self.half[h]), 14)
+        number = self._take_number([self.current] if level <= 2 else [0, 1], r, p)
         refs = [2 * self.frontier[h] + 2 + h for h in (0, 1)]
         black_from = 1 if BLACK_EARLY in self.slips else 2
         if level <= 2:
-            self._append(self.current, r, p, BLACK if level >= black_from else WHITE, 0)
+            self._append(self.current, r, p, BLACK if level >= black_from else WHITE, 0, number)
             regs[k] = refs[self.current]
         else:
             source = self.fromspace()
-            self._append(source, r, p, BLACK, refs[1 - source])
-            self._append(1 - source, r, p, WHITE, refs[source])
+            self._append(source, r, p, BLACK, refs[1 - source], number)
+            self._append(1 - source, r, p, WHITE, refs[source], 0 if COPY_UNNUMBERED in self.slips else number)
             regs[k] = refs[source] if level <= 5 else refs[1 - source]
 
-    def _append(self, h, r, p, colour, replica):
+    def _append(self, h, r, p, colour, replica, number):
         at = self.frontier[h]
-        self.half[h][at:at + 3 + r + p] = [256 * r + p, colour, replica] + [0] * (r + p)
-        self.frontier[h] = at + 3 + r + p
+        self.half[h][at:at + size(r, p)] = [256 * r + p, colour, replica, number] + [0] * (r + p)
+        self.frontier[h] = at + size(r, p)
 
     def _store(self, regs, level, k, i, source):
         self.need(k <= 7 and source <= 7, 8)
@@ -300,7 +328,7 @@ class Sapphire:
         self.need(v, 11)
         r, _ = self.follow(v)
         self.need(i < r, 13)
-        shaded = self.barrier(level, self.at(v, 3 + i), q)
+        shaded = self.barrier(level, self.at(v, HEADER + i), q)
         replica = self.at(v, 2) if level >= 4 else 0
         if replica:
             self.need(i < self.follow(replica)[0], 12)
@@ -313,9 +341,9 @@ class Sapphire:
                 copy = self.forward(q)
         for w in shaded:
             self.shade(w)
-        self.put(v, 3 + i, own)
+        self.put(v, HEADER + i, own)
         if replica:
-            self.put(replica, 3 + i, copy)
+            self.put(replica, HEADER + i, copy)
 
     def _own_word(self, level, v, q):
         if level == 6:
@@ -334,9 +362,9 @@ class Sapphire:
         if replica:
             rr, rp = self.follow(replica)
             self.need(i < rp, 12)
-        self.put(v, 3 + r + i, value)
+        self.put(v, HEADER + r + i, value)
         if replica:
-            self.put(replica, 3 + rr + i, value)
+            self.put(replica, HEADER + rr + i, value)
 
     def _same(self, level, a, b):
         if level <= 4 or a == b or WORDS_COMPARED in self.slips:
@@ -376,7 +404,7 @@ class Sapphire:
         return v, r, p
 
     def past(self, r, p):
-        self.place += 3 + r + p
+        self.place += size(r, p) - (PAST_BY_3 in self.slips)
         self.field = 0
 
     def _step(self):
@@ -404,7 +432,7 @@ class Sapphire:
             v = self.list[self.head]
             r, _ = self.follow(v)
             if self.field < r:
-                for w in self.shade_all([self.at(v, 3 + self.field)]):
+                for w in self.shade_all([self.at(v, HEADER + self.field)]):
                     self.shade(w)
                 self.field += 1
             else:
@@ -465,9 +493,10 @@ class Sapphire:
         if self.at(v, 1) != WHITE and self.at(v, 2) == 0:
             other = 1 - self.current
             at = self.frontier[other]
-            if at + 3 + r + p > len(self.half[other]):
+            if at + size(r, p) > len(self.half[other]):
                 raise Refused(12)
-            self._append(other, r, p, WHITE, v)
+            number = numbering.shell_number(self) if self.slips & numbering.SHELLS else self.at(v, NUMBER)
+            self._append(other, r, p, WHITE, v, number)
             self.put(v, 2, 2 * at + 2 + other)
         self.past(r, p)
 
@@ -481,11 +510,13 @@ class Sapphire:
         tr, tp = self.follow(t)
         if self.field < r:
             self.need(self.field < tr, 12)
-            self.put(t, 3 + self.field, self.forward(self.at(v, 3 + self.field)))
+            self.put(t, HEADER + self.field, self.forward(self.at(v, HEADER + self.field)))
         else:
             i = self.field - r
             self.need(i < tp, 12)
-            self.put(t, 3 + tr + i, self.at(v, 3 + r + i))
+            self.put(t, HEADER + tr + i, self.at(v, HEADER + r + i))
+        if self.slips & numbering.COPYING:
+            numbering.copied(self, v, t)
         self.field += 1
 
     def _root_flip(self):
@@ -510,7 +541,11 @@ class Sapphire:
         if self.place < self.frontier[self.current]:
             v, r, p = self.walked()
             self.put(v, 2, 0)
+            if RECLAIM_CLEARS in self.slips:
+                self.put(v, NUMBER, 0)
             return self.past(r, p)
         self.frontier[1 - self.current] = 0
+        if COUNT_RECLAIMED in self.slips:
+            self.births = 0
         self.move_on()
         self.collections += 1

@@ -5,8 +5,9 @@ a name with the bytes of tests/probe.py."""
 import itertools
 import random
 
-from chance import cross
+from chance import any_number, cross
 from damage import TOP, ref
+from layout import HEADER, least_list, size
 from model import STEP
 from probe import ANSWER, decode, encode
 from replicas import is_pair
@@ -19,14 +20,15 @@ FLIP = 11  # the phase in which a step forwards the registers of a session
 # S and T no such shape. A letter among the words is the reference of that record, a small one of the same in the other half: most records
 # have it for their replica. Those of I, J, P, U, V and Z are wrong. K is white and ends at the frontier; within it begins L, which ends a
 # word behind the frontier.
-RECORDS = {"A": [0, 0, 0], "B": [1, 0, "b", 5], "C": [256, 0, "c", 7], "D": [0, 0, "d"], "E": [258, 0, "e", 2, 0, 4], "F": [0, 0, 0],
-           "G": [2, 0, 0, 1, 1], "H": [512, 0, "h", 1, TOP], "X": [1, 1, "x", 6], "Y": [256, 2, "y", 2], "Q": [0, 3, 0], "R": [0, TOP, 0],
-           "S": [65536, 0, 0], "T": [TOP, 0, 0], "I": [0, 0, 1], "J": [0, 0, "J"], "P": [1, 0, "b", 5], "U": [1, 0, "v", 5],
-           "V": [257, 0, "u", 5, 5], "Z": [0, 0, "a"], "K": [4, 0, 0, 0], "L": [1, 0, 0]}
+RECORDS = {"A": [0, 0, 0, 1], "B": [1, 0, "b", 2, 5], "C": [256, 0, "c", 3, 7], "D": [0, 0, "d", 4], "E": [258, 0, "e", 0, 2, 0, 4],
+           "F": [0, 0, 0, TOP], "G": [2, 0, 0, 5, 1, 1], "H": [512, 0, "h", 6, 1, TOP], "X": [1, 1, "x", 7, 6], "Y": [256, 2, "y", 8, 2],
+           "Q": [0, 3, 0, 9], "R": [0, TOP, 0, 10], "S": [65536, 0, 0, 11], "T": [TOP, 0, 0, 12], "I": [0, 0, 1, 13], "J": [0, 0, "J", 14],
+           "P": [1, 0, "b", 15, 5], "U": [1, 0, "v", 16, 5], "V": [257, 0, "u", 17, 5, 5], "Z": [0, 0, "a", 18], "K": [5, 0, 0, 19, 0],
+           "L": [1, 0, 0, 0]}
 WHITES = "ABCDEFGHK"
-END, LENGTH = sum(map(len, RECORDS.values())), 96
+END, LENGTH = sum(map(len, RECORDS.values())), 120
 STARTS = dict(zip(RECORDS, itertools.accumulate(map(len, RECORDS.values()), initial=0)))
-PLACES = {**STARTS, "M": END - 2, "N": END, "O": LENGTH}  # with a header across the frontier, at it, and past the half
+PLACES = {**STARTS, "M": END - HEADER + 1, "N": END, "O": LENGTH}  # with a header across the frontier, at it, and past the half
 OTHERS = {"0": 0, "1": 1, "8": TOP - 1, "9": TOP}
 BAD = "QqRrSsTtIiJjPpUuVvZzLlMmNnOo189"
 
@@ -130,8 +132,8 @@ def sessions():
 def lists():
     """The list's place and end anywhere in it, behind any words, and lists that are longer than they must be."""
     for more, turn in itertools.product((0, 1, 9), range(3)):
-        for tail in range(LENGTH // 3 + more + 1):
-            capacity = LENGTH // 3 + more
+        capacity = least_list(LENGTH) + more
+        for tail in range(capacity + 1):
             name, store = lettered("0ABAYcdX", capacity - tail, tail % 2, turn % 2, turn)
             store.capacity, store.head, store.tail, store.list = capacity, tail, tail, listed(turn, capacity)
             yield f"{name}, list of {capacity}", store
@@ -191,25 +193,26 @@ def any_references(rng, store):
     width, both = rng.choice([2, 3, 4, 6, 10, 20]), rng.random() < 0.4
     pool, first = [], rng.randrange(2)
     for h in (0, 1) if both else (first,):
-        last = max(store.frontier[h] - 3, 0)  # where the last record may begin
+        last = max(store.frontier[h] - HEADER, 0)  # where the last record may begin
         start = rng.choice([rng.randrange(last + 1), max(last + 1 - width, 0)])
         pool += [ref(h, k) for k in range(start, start + width)]
     if rng.random() < 0.85:
         pool = [v for v in pool for _ in range({None: 0, False: 1, True: 4}[white_there(store, v)])] or [0]
     pool += [0] * rng.choice([0, 0, 1, 2])
-    nothing = rng.choice([1, ref(first, len(store.half[0])), ref(first, max(store.frontier[first] - 2, 0)), TOP])
+    nothing = rng.choice([1, ref(first, len(store.half[0])), ref(first, max(store.frontier[first] - HEADER + 1, 0)), TOP])
     return pool + [nothing] * (rng.random() < 0.06)
 
 
 def random_scan(rng):
     n = rng.choice([16, 17, 18, 21, 24])
-    store = Sapphire(n, n // 3 + rng.choice([0, 0, 1, 3, 5]))
+    store = Sapphire(n, least_list(n) + rng.choice([0, 0, 1, 3, 5]))
     store.half = [any_words(rng, n), any_words(rng, n)]
     store.frontier = [rng.choice([n, n, n - 1, n - rng.randrange(8), rng.randrange(n + 1)]) for _ in (0, 1)]
     crossed = [v for _ in range(rng.choice([0, 1, 2, 3])) for v in cross(rng, store)]
     store.phase, store.current = SCAN if rng.random() < 0.94 else FLIP, rng.randrange(2)
     store.place, store.field, store.level = rng.randrange(n + 1), rng.randrange(511), rng.choices(range(7), k=16)
     store.attached, store.scanned = rng.choices([True, True, False], k=16), rng.choices([True, False], k=16)
+    store.births = any_number(rng)
     s = rng.randrange(16)
     store.attached[s], store.scanned[s] = True, False
     pool = any_references(rng, store) + [v for v in crossed if is_pair(store, v) or rng.random() < 0.1] * 2
@@ -244,7 +247,7 @@ def traits(case, reply):
         return ["refused"]
     held = [v for v in store.registers[n] if v]
     whites = [v for v in held if store.white(v)]
-    words = {v: set(range(v, v + 2 * (3 + sum(store.follow(v))), 2)) for v in held}  # as the references that name them
+    words = {v: set(range(v, v + 2 * size(*store.follow(v)), 2)) for v in held}  # as the references that name them
     pairs = list(itertools.permutations(words, 2))
     paired = {v for v in held if store.at(v, 2)}
     found = {"equal": len(set(whites)) < len(whites), "paired": paired, "shared": any(words[v] & words[w] for v, w in pairs),

@@ -3,6 +3,7 @@ the store that all cases of tests/scanning.py set out from."""
 import itertools
 
 from damage import TOP, putting, ref
+from layout import HEADER, least_list, size_of
 from sapphire import Refused, Sapphire
 
 SCAN = 4  # the phase in which a step shades the registers of a session
@@ -17,11 +18,11 @@ def stage(halves, ends, registers, room, current, turn):
     """Session 3 is the lowest one without a mark that is attached, and holds these registers. Session 0 is detached, 1 and 2 have been
     scanned, 5 comes after it; they hold other ones. The list has room for so many entries. What else a scan must leave goes by turn."""
     n = len(halves[0])
-    store = Sapphire(n, max(n // 3, room) + turn % 4)
+    store = Sapphire(n, max(least_list(n), room) + turn % 4)
     store.half, store.frontier, store.current, store.phase = [list(words) for words in halves], list(ends), current, SCAN
     store.list, store.head, store.tail = listed(turn, store.capacity), store.capacity - room, store.capacity - room
     store.place, store.field, store.level = turn % (n + 1), turn % 511, [(turn + s) % 7 for s in range(16)]
-    store.globals = [(turn + 3 * i) % 40 for i in range(32)]
+    store.globals, store.births = [(turn + 3 * i) % 40 for i in range(32)], turn
     store.registers = [[2 + (turn + 5 * s + i) % 24 for i in range(8)] for s in range(16)]
     store.registers[3] = list(registers)
     for s in (1, 2, 3, 5, 15):
@@ -50,7 +51,7 @@ def white_there(store, v):
 def mend(store, v, colour):
     """Where the replica word of a record names a word of the other half, a header there that points back."""
     w = store.at(v, 2)
-    if w > 1 and w % 2 != v % 2 and (w - 2) // 2 + 3 <= len(store.half[w % 2]):
+    if w > 1 and w % 2 != v % 2 and (w - 2) // 2 + HEADER <= len(store.half[w % 2]):
         putting((w, 0, store.at(v, 0)), (w, 1, colour), (w, 2, v))(store)
 
 
@@ -77,7 +78,7 @@ def two_apart():
             words = [0] * 21
             words[at], words[at + apart] = shape, turn // 8 % 2
             words[at + 1], words[at + apart + 1] = colours
-            end = max(start + 3 + words[start] // 256 + words[start] % 256 for start in (at, at + apart)) + slack
+            end = max(start + size_of(words[start]) for start in (at, at + apart)) + slack
             registers = spread(LIKE[turn % len(LIKE)], [ref(h, at), ref(h, at + apart)][::order])
             yield crowded(f"two records, places {apart} apart, shape {shape}, colours {colours},", words, end, registers, h, turn)
 
@@ -110,7 +111,7 @@ def three_neighbours():
         turn = next(turns)
         at = turn % 7
         words = [0] * (at + 1) + [*colours] + [0] * 20
-        end = at + 5 + colours[1] + slack
+        end = at + 2 + HEADER + colours[1] + slack
         registers = spread(LIKE_THREE[turn % len(LIKE_THREE)], [ref(h, at + i) for i in order])
         yield crowded(f"three in a row, colours {colours},", words, end, registers, h, turn)
 
@@ -124,8 +125,8 @@ def rows():
         at, h = 3 * turn, turn % 2
         registers = [ref(h, at) + step * i for i in order]
         words = [0] * 24
-        end = min(at + (7 if step == 2 else 3 + h) + 3 + slack, 24)
-        damaged = [[*registers[:7], bad] for bad in (1, ref(h, end - 2), ref(1 - h, 24), TOP)] if room == 8 else []
+        end = min(at + (7 if step == 2 else 3 + h) + HEADER + slack, 24)
+        damaged = [[*registers[:7], bad] for bad in (1, ref(h, end - HEADER + 1), ref(1 - h, 24), TOP)] if room == 8 else []
         for held in [registers, *damaged]:
             store = stage([words, words], [end, end], held, room, turn // 2, turn)
             yield f"scan of a row {name}, registers {held}, current half {turn // 2}, frontiers {end}, room for {room}", store

@@ -50,6 +50,7 @@ NONE_REFUSED, HALF_SAME, HALF_NOT_CURRENT = "replica word 0 refused", "replicas 
 FRONTIER_OF_THIS, SHAPE_BY_COLOUR = "replicas below the record's own frontier", "replica's word 0 compared with the record's colour"
 BACK_TO_ITSELF = "replica's replica word compared with the replica"
 COLOURS_COMPARED, FIELDS_COMPARED = "colours of both copies compared", "fields of both copies compared"
+NUMBERS_COMPARED = "numbers of both copies compared"  # which only damage shows
 STRICT_SLIPS = [NONE_REFUSED, HALF_SAME, HALF_NOT_CURRENT, FRONTIER_OF_THIS, SHAPE_BY_COLOUR, BACK_TO_ITSELF, COLOURS_COMPARED,
                 FIELDS_COMPARED]
 
@@ -71,11 +72,34 @@ WEAK_SLIPS = [REPLICAS_UNTESTED, LEFT_BEFORE_5, LEFT_IN_12, LEFT_IN_TOSPACE, LEF
               PLAINS_ALONE, BACK_UNTESTED, BACK_SOMEWHERE, BACK_OR_NONE, BACK_BY_PLACE]
 # where a reference is followed, with the mistake to do it there by the old test
 PLACES = {place: f"{place} by the old test" for place in [
-    "load", "read", "write", "stretch", "companion", "same", "store", "stored and shaded", "stored at level 4", "stored at level 5",
-    "stored at level 6", "put and shaded", "put at level 6", "overwritten by store", "overwritten by put", "global shaded", "list entry",
-    "field shaded", "register shaded", "walk in Allocate", "walk in Copy", "field copied", "global flipped", "register flipped",
-    "walk in Reclaim"]}
-FOLLOWING_SLIPS = {*STRICT_SLIPS, *WEAK_SLIPS, *PLACES.values()}
+    "load", "read", "write", "stretch", "companion", "birth", "same", "store", "stored and shaded", "stored at level 4",
+    "stored at level 5", "stored at level 6", "put and shaded", "put at level 6", "overwritten by store", "overwritten by put",
+    "global shaded", "list entry", "field shaded", "register shaded", "walk in Allocate", "walk in Copy", "field copied",
+    "global flipped", "register flipped", "walk in Reclaim"]}
+FOLLOWING_SLIPS = {*STRICT_SLIPS, *WEAK_SLIPS, *PLACES.values(), NUMBERS_COMPARED}
+
+# ---- birth numbers, in what a session is answered: the runs of tests/test_birth.py
+COPY_UNNUMBERED, SHELL_UNNUMBERED = "tospace copy of a new record with number 0", "shell with number 0"
+SHELL_RENUMBERED, COPY_CLEARS = "shell with a number of its own", "Copy sets the number to 0"
+RECLAIM_CLEARS, COUNT_RECLAIMED = "Reclaim sets numbers to 0", "the count is 0 again after a collection"
+USED_BY = {number: f"an allocation refused with {number} uses a number" for number in (8, 10, 14)}
+UNCOUNTED, COUNTED_BOTH = "numbers not counted at levels 3 to 6", "numbers counted for both copies"
+ENDS_EARLY, NEVER_ENDS = "the last number refused with 16", "no 16: after the last number comes 0"
+ASKS_FOR_FIELDS, ANSWERS_COUNT = "birth refused with 13 without a plain field", "birth answers the count"
+PAST_BY_3, COUNT_TESTED = "a walk goes on by 3 + r + p words", "4 where all numbers are used"
+RUN_NUMBER_SLIPS = [COPY_UNNUMBERED, SHELL_UNNUMBERED, SHELL_RENUMBERED, COPY_CLEARS, RECLAIM_CLEARS, COUNT_RECLAIMED, *USED_BY.values(),
+                    UNCOUNTED, COUNTED_BOTH, ENDS_EARLY, NEVER_ENDS, ASKS_FOR_FIELDS, ANSWERS_COUNT, PAST_BY_3, COUNT_TESTED]
+
+# ---- birth numbers, in a line that is another one, though no session can tell: the same runs
+NUMBERS_FIRST, ROOM_BY_3 = "16 before 14", "room for 3 + r + p words asked"
+LINE_NUMBER_SLIPS = [NUMBERS_FIRST, ROOM_BY_3]
+
+# ---- birth numbers, in damage and in making; these and all of the above show in the cases of tests/births.py
+ASKS_BLINDLY, ASKS_REPLICA = "birth without 12", "birth answers the replica's number"
+COPY_CARRIES, NUMBER_TESTED = "Copy copies the number too", "a number above the count unsound"
+SOUND_BY_3, LIST_BY_3, MAKING_COUNTS_ON = "sound by 3 + r + p words", "a list of a third of a half asked", "making keeps the count"
+NUMBER_SLIPS = [*RUN_NUMBER_SLIPS, *LINE_NUMBER_SLIPS, ASKS_BLINDLY, ASKS_REPLICA, COPY_CARRIES, NUMBER_TESTED, SOUND_BY_3, LIST_BY_3,
+                MAKING_COUNTS_ON, NUMBERS_COMPARED]
 
 # ---- all in what is shaded and marked
 MARKING_SLIPS = MISSED_SLIPS + LINE_SLIPS + FULL_LIST_SLIPS + WORD_SLIPS

@@ -1,12 +1,17 @@
 """The plain table of people, groups and pairs, written from the words of document 02 alone.
 
-It is fed the directory calls of a run in order and, for each, whether the run answered it with 14. A pair says that a person is a
-member of a group; people, groups and pairs are kept in the order in which they came.
+It is fed the directory calls of a run in order and, for each, whether the run answered it with 14 or 16, the refusals of its allocation.
+A pair says that a person is a member of a group; people, groups and pairs are kept in the order in which they came.
 """
 
 OPEN, ADD, REMOVE, MAKE, JOIN, LEAVE, LIST = range(16, 23)  # the kinds of their entries in a script
 LAST = 99999999  # the last eight-digit number
-NOT_OPEN, OPEN_ALREADY, NO_ROOM, UNKNOWN, ALREADY, ABSENT = 6, 7, 14, 23, 24, 25
+NOT_OPEN, OPEN_ALREADY, NO_ROOM, NO_NUMBER, UNKNOWN, ALREADY, ABSENT = 6, 7, 14, 16, 23, 24, 25
+
+
+def fed(number):
+    """What the table is fed of a call that was answered with this number."""
+    return number if number in (NO_ROOM, NO_NUMBER) else 0
 
 
 class Table:
@@ -18,11 +23,12 @@ class Table:
         """In joining order."""
         return [person for person, of in self.pairs if of == group]
 
-    def call(self, kind, args, no_room=False):
-        """The refusal number or 0, the value, which is how many members a list has, and the members that are written."""
+    def call(self, kind, args, allocation=0):
+        """The refusal number or 0, the value, which is how many members a list has, and the members that are written. `allocation` is
+        the number with which its allocation was refused, or 0."""
         refusal = self._refusal(kind, args)
-        if not refusal and no_room and kind in (ADD, MAKE, JOIN):
-            refusal = NO_ROOM
+        if not refusal and kind in (ADD, MAKE, JOIN):
+            refusal = allocation
         if refusal:
             return refusal, 0
         if kind == LIST:

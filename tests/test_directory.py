@@ -11,7 +11,7 @@ from directory_scripts import all_removed, crowd, encode, random_script
 from judge import faults
 from model import STEP
 from sapphire import LEVELS
-from table import OPEN, ADD, MAKE, JOIN, NO_ROOM
+from table import OPEN, ADD, MAKE, JOIN, NO_ROOM, Table
 
 SCRIPTS = 60
 
@@ -30,7 +30,7 @@ def check(name, played):
     if [line[0] for line in answers] != list(range(1, len(played.entries) + 1)):
         sys.exit(f"test_directory: {name}: entries are not numbered from 1 to {len(played.entries)}")
     lines = [line[1:] for line in answers]
-    fault = next(faults(played.entries, lines), None)
+    fault = next(faults(played.entries, lines, Table()), None)
     if fault:
         sys.exit(f"test_directory: {name}: {fault}")
     for n, (line, want) in enumerate(zip(lines, played.lines), 1):

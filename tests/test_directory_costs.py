@@ -6,7 +6,7 @@ import sys
 
 from chance import numbers, world
 from directory import MINE, ROOT, Directory
-from table import OPEN, ADD, REMOVE, MAKE, JOIN, LEAVE, LIST, LAST, UNKNOWN, ALREADY, Table
+from table import OPEN, ADD, REMOVE, MAKE, JOIN, LEAVE, LIST, LAST, UNKNOWN, ALREADY, Table, fed
 
 
 def passed(table, person):
@@ -56,7 +56,7 @@ def counted(seed, most, length):
             want = cost(table, kind, args) if number == 0 else directory.calls
         if directory.calls != want:
             sys.exit(f"test_directory_costs: {kind} {args} on {table.__dict__}: {directory.calls} store calls, not {want}")
-        table.call(kind, args, no_room=number == 14)
+        table.call(kind, args, fed(number))
         shown += [kind] if number == 0 else []
     if (directory.call(ADD, [LAST + 1]), directory.calls) != ((UNKNOWN, 0), 3):
         sys.exit(f"test_directory_costs: a number too high takes {directory.calls} store calls")

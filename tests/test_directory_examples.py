@@ -18,9 +18,9 @@ FIRST = [
     (JOIN, [3, 7], "0 0"), (JOIN, [7, 7], "0 0"), (JOIN, [0, 7], "0 0"), (JOIN, [7, 2], "0 0"), (JOIN, [7, 7], "24 0"),
     (JOIN, [5, 7], "23 0"), (JOIN, [3, 9], "23 0"), (LIST, [7, 8], "0 3 3 7 0"), (LIST, [7, 2], "0 3 3 7"), (LIST, [7, 0], "0 3"),
     (LIST, [3, 8], "23 0"), (LEAVE, [3, 2], "25 0"), (LEAVE, [3, 7], "0 0"), (JOIN, [3, 7], "0 0"), (LIST, [7, 8], "0 3 7 0 3")]
-# another session takes all words but four and drops its records
+# another session takes all words but five and drops its records
 FULL = [(ATTACH, [0], "0 0")] + [(ALLOCATE, [0, 0, 0, 255], "0 0")] * 15 + [
-    (ALLOCATE, [0, 0, 0, 162], "0 0"), (CLEAR, [0, 0], "0 0"), (ADD, [8], "14 0"), (MAKE, [9], "14 0"), (JOIN, [3, 2], "14 0"),
+    (ALLOCATE, [0, 0, 0, 134], "0 0"), (CLEAR, [0, 0], "0 0"), (ADD, [8], "14 0"), (MAKE, [9], "14 0"), (JOIN, [3, 2], "14 0"),
     (ADD, [3], "24 0"), (LIST, [2, 8], "0 1 7")]
 # one whole collection, the list read between its steps; which phase a step answers is left to the sums
 ROUND = [(SAFE, [0], "0 0"), (LIST, [7, 8], "0 3 7 0 3"), (STEP, [], None)]
@@ -29,7 +29,7 @@ AFTER = [
     (LIST, [2, 8], "0 1 3"), (REMOVE, [7], "23 0"), (JOIN, [7, 2], "23 0"), (ADD, [7], "0 0"), (LIST, [7, 8], "0 2 0 3")]
 WHOLE = FIRST + FULL + ROUND * 189 + AFTER
 STEPS = [50 + 3 * n for n in range(1, 190)]  # their entry numbers
-SUMS = [(2678, "7434bf2ff7a926b09de1663c2db08de892aae0adce879e1007dd818ba96c5b10"),
+SUMS = [(2678, "262357fe08c0887f43bf8f73f120301ec25cd27c91b87012a4a77ada1f9d1727"),
         (6135, "1a43b2d68d7ed275949cddbb2d3cbd3753c95f09b409bfd93529b423b3a4c043")]
 # session 15 itself makes global 31 name a record that names itself, and then one without fields
 LOOP = bytes.fromhex("02 0110 051100000001 05040f000101 05060f000000 040d0f1f00 051100000005 09140000000100000005 051300000005"

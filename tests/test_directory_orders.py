@@ -10,7 +10,7 @@ import program
 from directory_scripts import Played, encode
 from judge import faults
 from model import ATTACH, SAFE, ALLOCATE, LOAD, STORE, READ, WRITE, CLEAR, GET, PUT, STEP
-from table import OPEN, ADD, REMOVE, MAKE, JOIN, LEAVE, LIST, LAST
+from table import OPEN, ADD, REMOVE, MAKE, JOIN, LEAVE, LIST, LAST, Table
 
 # a record that is dropped at once, so that all others move; groups 1 and 2 of people 1 to 3; a record of another session
 SETUP = [
@@ -73,7 +73,7 @@ def main():
     count = entries = 0
     for name, played in orders():
         lines = [line[1:] for line in program.lines(encode(played.entries), program.DIRECTORY)]
-        fault = next(faults(played.entries, lines), None)
+        fault = next(faults(played.entries, lines, Table()), None)
         if fault:
             sys.exit(f"test_directory_orders: {name}: {fault}")
         if lines != played.lines:

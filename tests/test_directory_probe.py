@@ -1,7 +1,8 @@
 #!/usr/bin/env python3
 """Every call of the directory on any control record and any memory: the probe program writes, word for word, what the directory in Python
 gives, over the store in Python. Directed cases (every phase and level, edges of every range, damaged records, records without the
-field, right and wrong replicas, chains in a ring) and random damaged directories. Mistakes built into the directory in Python are seen."""
+field, right and wrong replicas, chains in a ring, birth numbers used up) and random damaged directories. Where no number is left, and
+where the last one is given, the words hold what the plain table has. Mistakes built into the directory in Python are seen."""
 import sys
 import time
 from collections import Counter
@@ -11,14 +12,16 @@ import directory_cases
 import directory_chance
 import probe
 import replicas
+from model import MOST_BIRTHS
 from probe import OPEN, ADD, REMOVE, MAKE_GROUP, JOIN, LEAVE, LIST
 from sapphire import LEVELS
+from table import NO_NUMBER, NO_ROOM, Table, fed
 
 RANDOM = 6000
 # the refusals that each call has, by document 02
 WALK = {4, 6, 12, 13, 23, 26}
-REFUSALS = {OPEN: {4, 7}, ADD: WALK | {14, 24}, REMOVE: WALK, MAKE_GROUP: WALK | {14, 24}, JOIN: WALK | {14, 24}, LEAVE: WALK | {25},
-            LIST: WALK}
+ALLOCATING = WALK | {14, 16, 24}
+REFUSALS = {OPEN: {4, 7}, ADD: ALLOCATING, REMOVE: WALK, MAKE_GROUP: ALLOCATING, JOIN: ALLOCATING, LEAVE: WALK | {25}, LIST: WALK}
 
 
 def compare(cases):
@@ -50,7 +53,7 @@ def check_bad_cases():
 
 def check_slips(cases, replies):
     """Each mistake built into the directory in Python must show in some case."""
-    for slip in directory.SLIPS + directory.DAMAGE_SLIPS:
+    for slip in directory.SLIPS + directory.DAMAGE_SLIPS + directory.NUMBER_SLIPS:
         seen = next((name for (name, case), reply in zip(cases, replies) if probe.expected(case, slip) != reply), None)
         if seen is None:
             sys.exit(f"test_directory_probe: the slip '{slip}' is not seen")
@@ -70,6 +73,37 @@ def check_replicas(cases):
           f"done; of each call in each phase from 5 on at least {min(refused[key] for key in keys)} and {min(done[key] for key in keys)}")
     if any(min(refused[key], done[key]) < 20 for key in keys):
         sys.exit(f"test_directory_probe: the cases of replicas do not show enough: {sorted(refused.items())}, {sorted(done.items())}")
+
+
+def plain_table(store):
+    """The plain table that a sound store holds."""
+    people, groups = directory_cases.table_of(store)
+    plain = Table()
+    plain.opened, plain.people, plain.groups = store.attached[directory.MINE], people, list(groups)
+    plain.pairs = [(person, group) for group, members in groups.items() for person in members]
+    return plain
+
+
+def check_numbers():
+    """Where one birth number is left, or none: the number of the reply is the plain table's, and so is what the words hold after it."""
+    cases, seen = list(directory_cases.numbers()), Counter()
+    names = {case: name for name, case in cases}
+    for case, reply in probe.answered(cases):
+        number = probe.ANSWER.unpack_from(reply)[0]
+        before, kind, args = probe.decode(case)
+        after, plain = probe.decode(case[:probe.CALL.size] + reply[probe.ANSWER.size:])[0], plain_table(before)
+        told = plain.call(kind - 100, args, fed(number))[0]
+        used = int(number == 0 and kind in (ADD, MAKE_GROUP, JOIN))
+        held = plain.people, {group: plain.members(group) for group in plain.groups}
+        if told != number or directory_cases.table_of(after) != held or after.births != before.births + used:
+            sys.exit(f"test_directory_probe: {names[case]}: answered {number}, the plain table {told} and {held}; {after.births} numbers "
+                     "used")
+        seen[before.births, number] += used or number > 0
+    last, none = seen[MOST_BIRTHS - 1, 0], seen[MOST_BIRTHS, NO_NUMBER]
+    print(f"test_directory_probe: {len(cases)} calls where few birth numbers are left: the last one is given {last} times, {none} are "
+          f"refused with 16, {seen[MOST_BIRTHS, NO_ROOM]} with 14 though no number is left; the table is as before")
+    if min(last, none, seen[MOST_BIRTHS, NO_ROOM]) < 60 or seen[MOST_BIRTHS - 1, NO_NUMBER]:
+        sys.exit(f"test_directory_probe: the calls do not show enough of birth numbers: {seen}")
 
 
 def check_refusals(name, seen):
@@ -92,6 +126,7 @@ def main():
     if levels != {(kind, level) for kind in REFUSALS if kind != OPEN for level in range(7)}:
         sys.exit(f"test_directory_probe: 12 does not come in every call but open at every level, but only at {sorted(levels)}")
     check_replicas(paired)
+    check_numbers()
     check_refusals("random", compare(list(directory_chance.random_cases(RANDOM)))[1])
     check_slips(directed, replies)
     print(f"test_directory_probe: {time.time() - began:.0f} s")

@@ -6,6 +6,7 @@ import sys
 from directory import REGISTERS_KEPT, SLIPS, Directory
 from directory_scripts import all_removed, random_script
 from judge import faults
+from table import Table
 
 
 def scripts():
@@ -18,7 +19,7 @@ def fault_of(played, slip):
     """The first fault of the directory with this mistake on a script, or None."""
     directory = Directory(slip=slip)
     lines = [directory.call(kind, args) for kind, args in played.entries]
-    fault = next(faults(played.entries, lines), None)
+    fault = next(faults(played.entries, lines, Table()), None)
     if slip == REGISTERS_KEPT and lines != played.lines:
         fault = fault or "a line differs"
     return fault
@@ -27,7 +28,7 @@ def fault_of(played, slip):
 def main():
     shown = list(scripts())
     for name, played in shown:
-        fault = next(faults(played.entries, played.lines), None)
+        fault = next(faults(played.entries, played.lines, Table()), None)
         if fault:
             sys.exit(f"test_directory_slips: {name}: {fault}")
     for slip in SLIPS:

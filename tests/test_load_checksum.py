@@ -18,7 +18,7 @@ from test_workload import VECTORS
 
 TOOL = os.path.join(TOP, "tools", "load-checksum")
 # of the vectors' lines, by the rules as they stand
-NUMBERS = [3485814355, 2491000197, 3211937589]
+NUMBERS = [3485814355, 2491000197, 478963043]
 REFUSED = 2
 
 

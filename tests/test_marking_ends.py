@@ -10,7 +10,8 @@ import time
 
 import program
 from explained import need
-from marking import AFTER, BESIDE, MARKING, Run, Seen, attached, chained, come_and_go, load_and_drop, marked, random_run
+from layout import HEADER, size
+from marking import AFTER, BESIDE, MARKING, Run, Seen, attached, chained, come_and_go, links_in, load_and_drop, marked, random_run
 from model import ALLOCATE, LOAD, STORE, MOVE, PUT, SAFE, SAME, STEP
 from scripts import encode
 from slips import ATTACHED_UNSCANNED, BEFORE, COUNTED_TWICE, LISTED_TWICE, MARKS_CLEARED, PLACE_IN_HALF
@@ -24,7 +25,7 @@ RUNS = 200      # by chance
 def numbers(store):
     """The numbers of the control record."""
     return (store.current, store.frontier, store.phase, store.place, store.field, store.head, store.tail, store.globals, store.attached,
-            store.scanned, store.level, store.registers)
+            store.scanned, store.level, store.registers, store.births)
 
 
 def ended(name, run):
@@ -37,7 +38,7 @@ def ended(name, run):
 def dropped_links(length):
     """The import, by the rules of before and by those of now."""
     before = marked(chained(length, BEFORE), load_and_drop)
-    need(before.spent == 18 * (length // 4) + BESIDE, f"links in {length} words: {before.spent} steps by the rules of before")
+    need(before.spent == 18 * links_in(length) + BESIDE, f"links in {length} words: {before.spent} steps by the rules of before")
     now = ended(f"links in {length} words", marked(chained(length), load_and_drop))
     print(f"test_marking_ends: an import that loads and drops links, halves of {length} words: {now}; before {before.spent}")
 
@@ -116,49 +117,50 @@ def one_record(sessions, holder, links, slip=None):
 
 
 def stored_over_itself(steps, slip=None):
-    """Halves of 16 words, full of records of 4, 3, 3, 3 and 3 words: four are listed by the globals, and so many steps after Rest the
-    fifth is stored where it stands already, in the first."""
-    run = attached([0], 16, slip)
-    run.do((ALLOCATE, [0, 0, 1, 0]), *[(ALLOCATE, [0, k, 0, 0]) for k in range(1, 5)], (STORE, [0, 0, 0, 4]))
-    run.do(*[(PUT, [0, k, k]) for k in range(4)])
+    """Halves of 17 words, full of records of 5, 4, 4 and 4 words: three are listed by the globals, and so many steps after Rest the
+    fourth is stored where it stands already, in the first."""
+    run = attached([0], 17, slip)
+    run.do((ALLOCATE, [0, 0, 1, 0]), *[(ALLOCATE, [0, k, 0, 0]) for k in range(1, 4)], (STORE, [0, 0, 0, 3]))
+    need(run.used() == 17, f"four records take {run.used()} words")
+    run.do(*[(PUT, [0, k, k]) for k in range(3)])
     for _ in range(steps):
         run.do((SAFE, [0]), (STEP, []))
-    answer = run.do((STORE, [0, 0, 0, 4]))
+    answer = run.do((STORE, [0, 0, 0, 3]))
     while not run.store.collections and answer == (0, 0):
         run.do((SAFE, [0]), (STEP, []))
-    run.do((LOAD, [0, 5, 0, 0]), (SAME, [0, 5, 4]))
+    run.do((LOAD, [0, 5, 0, 0]), (SAME, [0, 5, 3]))
     return run, answer
 
 
 def held_twice(slip=None):
-    """Halves of 16 words with five records of 3 words: four in globals, the fifth in two registers. A whole collection, or up to the first
-    refusal of a step: its phase and number."""
+    """Halves of 16 words with four records of 4 words: three in globals, the fourth in two registers. A whole collection, or up to the
+    first refusal of a step: its phase and number."""
     run, refused = attached([0], 16, slip), None
-    run.do(*[(ALLOCATE, [0, k, 0, 0]) for k in range(5)], *[(PUT, [0, k, k]) for k in range(4)], (MOVE, [0, 5, 4]))
+    run.do(*[(ALLOCATE, [0, k, 0, 0]) for k in range(4)], *[(PUT, [0, k, k]) for k in range(3)], (MOVE, [0, 5, 3]))
     while not run.store.collections and not refused:
         phase = run.store.phase
         number, _ = run.do((SAFE, [0]), (STEP, []))
         refused = number and (phase, number)
-    run.do((SAME, [0, 4, 5]))
+    run.do((SAME, [0, 3, 5]))
     return run, refused
 
 
 def crowds():
-    """Sixteen sessions, alone and with one record; ten sessions and one record of 3 words."""
+    """Sixteen sessions, alone and with one record; ten sessions and one record without fields."""
     run = attached(range(16)).to(MARKING).to(AFTER)
     need((run.spent, run.used()) == (BESIDE, 0), f"sixteen sessions: {run.spent} steps, {run.used()} used words")
     yield "sixteen sessions", run
     for holder in range(16):
         for links in (0, 1, 255):
             run = one_record(16, holder, links)
-            need((run.spent, run.used()) == (links + 1 + BESIDE, links + 3),
+            need((run.spent, run.used()) == (links + 1 + BESIDE, size(links, 0)),
                  f"sixteen sessions and a record of {links} links: {run.spent} steps, {run.used()} used words")
         yield f"sixteen sessions, the record with session {holder}", run
     for holder in range(10):
         run, slipped = one_record(10, holder, 0), one_record(10, holder, 0, MARKS_CLEARED)
         need(run.spent == 12 and slipped.spent == holder + 13, f"ten sessions: {run.spent} steps, {slipped.spent} with marks cleared")
         yield f"ten sessions, the record with session {holder}", run
-    need(slipped.over() == 2, f"'{MARKS_CLEARED}' does not pass the bound")
+    need(slipped.over() == 1, f"'{MARKS_CLEARED}' does not pass the bound")
 
 
 def over_itself():
@@ -168,7 +170,7 @@ def over_itself():
         need(answer == (0, 0) and run.lines[-1] == (0, 1), f"stored over itself after {steps} steps: {answer}")
     refused = [steps for steps in range(60) if stored_over_itself(steps, COUNTED_TWICE)[1] == (12, 0)]
     need(refused, f"'{COUNTED_TWICE}' refuses nothing")
-    print(f"test_marking_ends: a record stored over itself, 16 words full, room for one in the list: never refused; '{COUNTED_TWICE}' "
+    print(f"test_marking_ends: a record stored over itself, 17 words full, room for one in the list: never refused; '{COUNTED_TWICE}' "
           f"refuses it after {refused[0]} to {refused[-1]} steps")
 
 
@@ -180,7 +182,7 @@ def twice_held():
     for slip, want in ((LISTED_TWICE, (MARKING, 12)), (COUNTED_TWICE, (MARKING, 12)), (PLACE_IN_HALF, (3, 4))):
         _, refused = held_twice(slip)
         need(refused == want, f"held twice: '{slip}': phase and number {refused}, not {want}")
-    print(f"test_marking_ends: a record in two registers, 15 words of 16 used, room for one in the list: never refused; '{LISTED_TWICE}' "
+    print(f"test_marking_ends: a record in two registers, 16 words full, room for one in the list: never refused; '{LISTED_TWICE}' "
           f"and '{COUNTED_TWICE}' refuse the scan, '{PLACE_IN_HALF}' a step in phase 3")
 
 
@@ -188,8 +190,8 @@ def extremes():
     shown = list(crowds())
     for name, run in shown:
         need(on_program(name, run) == run.spent and run.worst <= 0, f"{name}: another number of steps on the program")
-    print(f"test_marking_ends: sixteen sessions {BESIDE} steps, with a record its words + {BESIDE - 2}; ten sessions and a record of 3 "
-          f"words 12 steps; {len(shown)} of these on the program")
+    print(f"test_marking_ends: sixteen sessions {BESIDE} steps, with a record its words + {BESIDE + 1 - HEADER}; ten sessions and a "
+          f"record of {HEADER} words 12 steps; {len(shown)} of these on the program")
     over_itself()
     twice_held()
 

@@ -2,7 +2,8 @@
 """Every call of the store, the stretch and its companion too, on any control record and any memory: the probe program writes, word for
 word, what documents 01 and 02 give, by the store in Python. Directed cases (edges of every range, every way to meet damage, both halves,
 both copies; every reference stored over every other, and all that shades or marks; right and wrong replicas wherever a reference is
-followed; the session scan over any registers) and random ones, damaged stores and scans. Mistakes built into the store in Python are seen.
+followed; the session scan over any registers; birth numbers asked for, given and used up) and random ones, damaged stores and scans.
+Mistakes built into the store in Python are seen.
 
     python3 tests/test_probe.py write    writes crates/probe/stdin and stdout anew, both from documents 01 and 02 alone
 """
@@ -14,6 +15,7 @@ import time
 from collections import Counter
 
 import barriers
+import births
 import chance
 import damage
 import directory_cases
@@ -21,22 +23,23 @@ import probe
 import replicas
 import scanning
 from model import ATTACH, DETACH, SAFE, ALLOCATE, LOAD, STORE, READ, WRITE, MOVE, CLEAR, SAME, GET, PUT, STEP
-from sapphire import COMPANION, STRETCH
-from slips import DAMAGE_SLIPS, MARKING_SLIPS, PLACE_IN_HALF, PLACES, SCAN_SLIPS, STRICT_SLIPS, WEAK_SLIPS
+from sapphire import BIRTH, COMPANION, STRETCH
+from slips import DAMAGE_SLIPS, MARKING_SLIPS, NUMBER_SLIPS, PLACE_IN_HALF, PLACES, SCAN_SLIPS, STRICT_SLIPS, WEAK_SLIPS
 
 CRATE = os.path.join(os.path.dirname(os.path.abspath(__file__)), "..", "crates", "probe")
 RANDOM, RANDOM_SCANS = 60000, 10000
 # the refusals that each call has, by document 01's table
 SESSION = {4, 5, 6}
 RECORD = SESSION | {8, 11, 12}
-REFUSALS = {probe.MAKE: {1, 2, 3}, ATTACH: {4, 5, 7}, DETACH: SESSION, SAFE: SESSION, ALLOCATE: SESSION | {8, 10, 14},
+REFUSALS = {probe.MAKE: {1, 2, 3}, ATTACH: {4, 5, 7}, DETACH: SESSION, SAFE: SESSION, ALLOCATE: SESSION | {8, 10, 14, 16},
             LOAD: RECORD | {13}, STORE: RECORD | {13}, READ: RECORD | {13}, WRITE: RECORD | {13}, MOVE: SESSION | {8}, CLEAR: SESSION | {8},
-            SAME: SESSION | {8, 12}, GET: SESSION | {8, 9}, PUT: SESSION | {8, 9, 12}, STEP: {4, 12}, STRETCH: RECORD, COMPANION: RECORD}
+            SAME: SESSION | {8, 12}, GET: SESSION | {8, 9}, PUT: SESSION | {8, 9, 12}, STEP: {4, 12}, STRETCH: RECORD, COMPANION: RECORD,
+            BIRTH: RECORD}
 
 
 def files():
     """What crates/probe/stdin and stdout must hold."""
-    cases = [case for _, case in [*damage.few_stretches(), *directory_cases.few()]]
+    cases = [case for _, case in [*damage.few_stretches(), *births.few(), *directory_cases.few()]]
     return b"".join(cases), b"".join(probe.expected(case) for case in cases)
 
 
@@ -46,14 +49,16 @@ def held(name):
 
 
 def compare(cases):
-    """Runs the program on the cases; its whole output must be what documents 01 and 02 give. How often each kind had each number."""
-    seen = {}
+    """Runs the program on the cases; its whole output must be what documents 01 and 02 give. How often each kind had each number, and
+    how often each trait of birth numbers came."""
+    seen, traits = {}, Counter()
     for case, want in probe.answered(cases):
         kind, number = probe.CALL.unpack_from(case)[0], probe.ANSWER.unpack_from(want)[0]
         if kind == STRETCH:  # why it was refused only its companion says
             number, = probe.ANSWER.unpack_from(probe.expected(COMPANION.to_bytes(4, "big") + case[4:]))[:1]
         seen[kind, number] = seen.get((kind, number), 0) + 1
-    return seen
+        traits.update(births.traits(case, want))
+    return seen, traits
 
 
 def check_replicas(kind, cases, least):
@@ -67,8 +72,20 @@ def check_replicas(kind, cases, least):
         done.update((place, level) for place in set(passed) if number == 0 and place in PLACES)
     print(f"test_probe: the {kind} cases follow a record with a replica and are done {done.total()} times, are refused for a replica "
           f"{refused.total()} times; at each of {len(done)} places and levels {min(done.values())} and {min(refused.values())} at least")
-    if done.keys() != refused.keys() or len(done) < 68 or min(*done.values(), *refused.values()) < least:
+    if done.keys() != refused.keys() or len(done) < 75 or min(*done.values(), *refused.values()) < least:
         sys.exit(f"test_probe: the {kind} cases do not show enough of replicas: {sorted(done.items())}, {sorted(refused.items())}")
+
+
+def check_numbers(kind, traits, least):
+    """That birth is answered at every level and refused in every way, the last number given at every level, and an allocation without a
+    number refused there, with 16 where it has room and with 14 where it hasn't; at least so often."""
+    def times(wanted):
+        return [traits[trait] for trait in births.TRAITS if trait[0] == wanted]
+    print(f"test_probe: the {kind} cases have birth answered {sum(times('birth'))} times, refused {sum(times(BIRTH))} times, the last "
+          f"number given {sum(times(births.LAST_GIVEN))} times; without a number 16 {sum(times(births.NONE_LEFT))} times, 14 "
+          f"{sum(times(births.ROOM_FIRST))} times; of each refusal and level at least {min(traits[trait] for trait in births.TRAITS)}")
+    if any(traits[trait] < least for trait in births.TRAITS):
+        sys.exit(f"test_probe: the {kind} cases do not show enough of birth numbers: {traits}")
 
 
 def check_scans(kind, cases):
@@ -93,23 +110,32 @@ def check_bad_cases():
     """A case that is cut short, or lends more than the program has, is not answered, and ends the program; an unknown kind is 15."""
     _, case = next(damage.few_stretches())
     want = probe.expected(case)
-    for n in (0, 1, 31, 32, 947, 948, len(case) - 1):
+    memory = probe.CALL.size + probe.RECORD.size  # where the lent words begin
+    for n in (0, 1, probe.CALL.size - 1, probe.CALL.size, memory - 1, memory, len(case) - 1):
         if probe.run(case + case[:n]) != want:
             sys.exit(f"test_probe: a case cut after {n} bytes is answered")
     for at in (20, 24, 28):
         if probe.run(case + case[:at] + (1025).to_bytes(4, "big") + case[at + 4:] + case * 9) != want:
             sys.exit("test_probe: a case that lends too much is answered")
-    for kind in (17, 255, 1 << 31):
+    for kind in (18, 255, 1 << 31):
         unknown = kind.to_bytes(4, "big") + case[4:]
         if probe.run(unknown) != probe.ANSWER.pack(15, 0) + case[probe.CALL.size:] + probe.words([0]):
             sys.exit(f"test_probe: kind {kind} is not answered with 15")
+
+
+def slipped(case, slip):
+    """What a store with this mistake answers; nothing where it is led out of its halves."""
+    try:
+        return probe.expected(case, slip)
+    except IndexError:
+        return None
 
 
 def check_slips(slips, cases):
     """Each of these mistakes built into the store in Python must show in some case."""
     right = functools.cache(probe.expected)
     for slip in slips:
-        seen = next((name for name, case in cases if probe.expected(case, slip) != right(case)), None)
+        seen = next((name for name, case in cases if slipped(case, slip) != right(case)), None)
         if seen is None:
             sys.exit(f"test_probe: the slip '{slip}' is not seen")
         print(f"test_probe: '{slip}' is seen by: {seen}")
@@ -121,9 +147,9 @@ def main():
         sys.exit("test_probe: crates/probe/stdin and stdout are not those that this test writes")
     check_bad_cases()
     directed, marking, by_chance = list(damage.directed()), list(barriers.directed()), list(chance.random_cases(RANDOM))
-    paired = list(replicas.directed())
-    for name, cases in [("directed", directed + marking + paired), ("random", by_chance)]:
-        seen = compare(cases)
+    paired, numbered = list(replicas.directed()), list(births.directed())
+    for name, cases, least in [("directed", directed + marking + paired + numbered, 20), ("random", by_chance, 10)]:
+        seen, traits = compare(cases)
         numbers = {}
         for (_, number), count in seen.items():
             numbers[number] = numbers.get(number, 0) + count
@@ -131,6 +157,7 @@ def main():
         lacking = [kind for kind, refusals in REFUSALS.items() if {number for k, number in seen if k == kind} != refusals | {0}]
         if lacking:
             sys.exit(f"test_probe: the {name} cases of the kinds {lacking} do not have just the refusals of document 01's table")
+        check_numbers(name, traits, least)
     check_replicas("directed", paired, 10)
     check_replicas("random", by_chance, 1)
     scans = scanning.directed()
@@ -140,6 +167,7 @@ def main():
     check_slips(MARKING_SLIPS, marking)
     check_slips([*WEAK_SLIPS, *PLACES.values(), *STRICT_SLIPS], random.Random(1).sample(paired, len(paired)))
     check_slips(SCAN_SLIPS, scans)
+    check_slips(NUMBER_SLIPS, numbered)
     print(f"test_probe: {time.time() - began:.0f} s")
 
 

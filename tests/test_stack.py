@@ -8,6 +8,7 @@ import sys
 import directory_scripts
 import load
 import program
+from layout import size
 from model import ALLOCATE, ATTACH, CLEAR, GET, PUT, STORE
 from scripts import ARGUMENTS, encode, finish, kept, long_scripts, look
 from test_bad_scripts import expected
@@ -15,8 +16,7 @@ from test_bad_scripts import expected
 STACK, DIRECTORY_STACK, LOAD_STACK = 96 * 1024, 112 * 1024, 32 * 1024
 HALVES = 2 * 4096 * 4
 BUFFERS = 2 * 4096  # of the load program: its own, and that of the kit's call which reads or writes
-# how many records of `kept`, of six words each, a half has room for
-RECORDS = 4096 // 6
+RECORDS = 4096 // size(2, 1)  # of `kept`, which a half has room for
 SESSIONS = list(range(16))
 
 

@@ -10,8 +10,8 @@ BAD_SCRIPT = 15
 REASONS = {
     4: "the control record is damaged", 5: "no such session", 6: "the session is not attached", 7: "the session is attached already",
     8: "no such register", 9: "no such global", 10: "too many fields", 11: "the register is null", 12: "damaged memory",
-    13: "no such field", 14: "no room", BAD_SCRIPT: "bad script", 23: "no such person or group", 24: "there already", 25: "not a member",
-    26: "a damaged chain without end"}
+    13: "no such field", 14: "no room", BAD_SCRIPT: "bad script", 16: "no birth number left", 23: "no such person or group",
+    24: "there already", 25: "not a member", 26: "a damaged chain without end"}
 DIRECTORY_REASONS = REASONS | {6: "the directory is not open", 7: "the directory is open already"}
 
 SCRIPT, DIRECTORY = 1, 2  # version bytes
@@ -25,6 +25,7 @@ def counted(number, thing):
 
 
 SESSION = {4, 5, 6}  # what every call of a session but attach may be refused with
+ALLOCATION = {14, 16}  # what only an allocation may be refused with
 RECORD = SESSION | {8, 11, 12, 13}  # and one on the record in a register
 CHAINS = {4, 6, 12, 13, 23, 26}  # what every call of the directory but open may be refused with
 
@@ -47,7 +48,7 @@ KINDS = {
     2: of_session("detach", [], lambda: "detach", SESSION),
     3: of_session("safe point", [], lambda: "safe point", SESSION),
     4: of_session("allocate", [BYTE] * 3, lambda to, r, p: f"allocate {counted(r, 'link')}, {counted(p, 'word')} into register {to}",
-                  SESSION | {8, 10, 14}),
+                  SESSION | ALLOCATION | {8, 10}),
     5: of_session("load", [BYTE] * 3, lambda to, record, field: f"load link {field} of register {record} into register {to}", RECORD),
     6: of_session("store", [BYTE] * 3, lambda record, field, source: f"store register {source} in link {field} of register {record}", RECORD),
     7: of_session("read", [BYTE] * 2, lambda record, field: f"read word {field} of register {record}", RECORD),
@@ -61,10 +62,10 @@ KINDS = {
 }
 DIRECTORY_KINDS = {
     16: of_directory("open", [], lambda: "open", {4, 7}),
-    17: of_directory("add", [WORD], lambda person: f"add person {person}", CHAINS | {14, 24}),
+    17: of_directory("add", [WORD], lambda person: f"add person {person}", CHAINS | ALLOCATION | {24}),
     18: of_directory("remove", [WORD], lambda person: f"remove person {person}", CHAINS),
-    19: of_directory("make", [WORD], lambda group: f"make group {group}", CHAINS | {14, 24}),
-    20: of_directory("join", [WORD] * 2, lambda person, group: f"person {person} joins group {group}", CHAINS | {14, 24}),
+    19: of_directory("make", [WORD], lambda group: f"make group {group}", CHAINS | ALLOCATION | {24}),
+    20: of_directory("join", [WORD] * 2, lambda person, group: f"person {person} joins group {group}", CHAINS | ALLOCATION | {24}),
     21: of_directory("leave", [WORD] * 2, lambda person, group: f"person {person} leaves group {group}", CHAINS | {25}),
     22: of_directory("list", [WORD, BYTE], lambda group, lent: f"list group {group}, {counted(lent, 'word')} lent", CHAINS),
 }

@@ -1,10 +1,10 @@
 -- A run of every directory call, collector steps between them, computed by the checker: what the calls answer, and that the table
 -- answers the same; and one in which the birth numbers run out.
-use Prim.Native.Nat.{ℕ, _-_}
+use Prim.Native.Nat.{ℕ}
 use mathlib.Core.Path.{_≡_, refl}
 use mathlib.Core.List.{List, [], _∷_, _++_, map}
 use lib.ListN.{replicate}
-use Rattle.rules.specs.Control.{Store, newStore, withBirths, mostBirths}
+use Rattle.rules.specs.Control.{Store, newStore, withBirths}
 use Rattle.rules.specs.Barriers.{putWrites}
 use Rattle.rules.specs.Calls as calls
 use Rattle.rules.specs.Runs.{Step}
@@ -57,7 +57,7 @@ table-example = refl
 -- ---- one birth number left: the store's 16 passes through, and the table is as before
 
 lastOf : Store
-lastOf = withBirths box (mostBirths - 1)
+lastOf = withBirths box 4294967294
 
 fewer : List Request
 fewer = Open ∷ Add 7 ∷ Add 3 ∷ Make 2 ∷ Add 7 ∷ Remove 3 ∷ Remove 7 ∷ Add 7 ∷ []

@@ -1,12 +1,12 @@
--- The starred examples, and runs computed by the checker: the script example of document 01, a whole collection, the last birth number,
--- and two runs in which marking takes as long as it can.
-use Prim.Native.Nat.{ℕ, zero, suc, _+_, _-_}
+-- The starred examples, and runs computed by the checker: the script example of document 01, a whole collection, a record allocated
+-- during one, the last birth number, and two runs in which marking takes as long as it can.
+use Prim.Native.Nat.{ℕ, zero, suc, _+_}
 use mathlib.Core.Path.{_≡_, refl}
 use mathlib.Core.List.{List, [], _∷_, _++_, map}
 use lib.ListN.{replicate, drop}
 use Rattle.rules.specs.Refusals.{Reply}
 use Rattle.rules.specs.Memory.{half, frontier, withHalf, withFrontier, reference, halfOf, wordOf, inHalf, shapeWord, refsOf, plainsOf, newRecord, word, put, colour, replica, birthNumber, refs, plains, size, append, nextReference, sound, pointsBack, followable, followed, copyOf, otherCopy, forward}
-use Rattle.rules.specs.Control.{sessionCount, globalCount, halfAllowed, listAllowed, lengthsAllowed, sameLengths, walkLimit, inRange, making, mostBirths, withBirths, Store}
+use Rattle.rules.specs.Control.{sessionCount, globalCount, halfAllowed, listAllowed, lengthsAllowed, sameLengths, walkLimit, inRange, making, withBirths, Store}
 use Rattle.rules.specs.Cycle.{atRest, atAllocate, atReclaim}
 use Rattle.rules.specs.Phases.{levelOf, nextPhase, otherHalf, fromspace, tospace, sessionAt, withSession, register, unmarked, moveOn}
 use Rattle.rules.specs.Barriers.{toShade, listRoom, shading, shade, listing, shadingAll, shadesAt, shadesOldAt, copiesAt, barrierShades, shadeBoth, replicaFor, ownWord, replicaWord, storeWrites, putBoth, sameAt, roomIn, allocationRoom, placed, allocated, allocatedReference}
@@ -75,11 +75,27 @@ births : drop 194 (values (before ++ steps 93 ++ (Birth 0 0 ∷ Load 0 1 0 0 ∷
 unfolding rules before steps
 births = refl
 
+-- ---- a record allocated while the collection runs, in both halves: the copy that is left has its birth number too
+during : List Call
+during = Attach 0 ∷ steps 38 ++ (SafePoint 0 ∷ Allocate 0 0 0 1 ∷ []) ++ steps 45
+
+both-halves : seen (after small (Attach 0 ∷ steps 38 ++ (SafePoint 0 ∷ Allocate 0 0 0 1 ∷ []))) ≡ atAllocate ∷ 5 ∷ 5 ∷ []
+unfolding rules steps seen
+both-halves = refl
+
+moved : seen (after small during) ≡ atRest ∷ 0 ∷ 5 ∷ []
+unfolding rules during steps seen
+moved = refl
+
+copy-birth : drop 169 (values (during ++ (Birth 0 0 ∷ []))) ≡ 1 ∷ []
+unfolding rules during steps
+copy-birth = refl
+
 -- ---- the last birth number is given, then 16 comes; where there is no room either, 14
 spentNumbers : List Reply
-spentNumbers = run (withBirths small (mostBirths - 1)) (Attach 0 ∷ Allocate 0 0 4 4 ∷ Birth 0 0 ∷ Allocate 0 1 0 0 ∷ Allocate 0 1 1 0 ∷ [])
+spentNumbers = run (withBirths small 4294967294) (Attach 0 ∷ Allocate 0 0 4 4 ∷ Birth 0 0 ∷ Allocate 0 1 0 0 ∷ Allocate 0 1 1 0 ∷ [])
 
-last-number : map replyValue spentNumbers ≡ 0 ∷ 0 ∷ mostBirths ∷ 0 ∷ 0 ∷ []
+last-number : map replyValue spentNumbers ≡ 0 ∷ 0 ∷ 4294967295 ∷ 0 ∷ 0 ∷ []
 unfolding rules spentNumbers
 last-number = refl
 

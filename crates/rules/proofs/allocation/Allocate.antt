@@ -73,7 +73,7 @@ module _ {K : ℕ → Type 0} {m : ℕ → ℕ} {s : Store} {f : Free} (h : Sim 
       both-check (isRegister k) 8 tt (λ i.
       both-check (isShape r p) 10 tt (λ j.
       both-check-eq (allocationRoom s level r p) (fedRoom fed) 14 (sym (e a i j)) tt (λ room.
-      both-check-eq (numberLeft (s .births)) (numberLeft (length (f .records))) 16 (ap numberLeft (h .births)) tt (λ left. written a i j room)))))
+      both-check-eq _ _ 16 (ap numberLeft (h .births)) tt (λ left. written a i j room)))))
 
   pub allocate-alike : Alike K (suc (length (f .records))) m s (allocate s n k r p) (freeAllocate f n k r p (fedBy (settle s (allocate s n k r p) .reply)))
   allocate-alike = fed-alike _ fed-room
