@@ -53,22 +53,9 @@ impl Control {
     ) -> rules::Answer
         ensures { λ r. ⌜ r ≡ doneOr (stretch (view self (now (h0 .entry)) (now (h1 .entry)) (now (list .entry))) s register) ⌝ }
     {
-        let operands = match self.held(h0, h1, list, s, register, register) {
-            Held::Refusal(n) => {
-                return rules::Answer::Refused(n);
-            }
-            Held::Operands(operands) => operands,
-        };
-        let v = operands.own;
-        let Followed::Sound(_, _, _) = follow(
-            h0,
-            h1,
-            self.cursor.frontier0,
-            self.cursor.frontier1,
-            v,
-        ) else {
-            return rules::Answer::Refused(12);
-        };
-        rules::Answer::Done
+        match self.held_record(h0, h1, list, s, register) {
+            Held::Refusal(n) => rules::Answer::Refused(n),
+            Held::Operands(_) => rules::Answer::Done,
+        }
     }
 }

@@ -17,7 +17,7 @@ use Rattle.rules.proofs.Ranges.{InRange, both, in-session, fronts, after-check}
 use Rattle.rules.proofs.memory.Followed.{can-follow}
 use Rattle.heap.specs.View.{Inside}
 use Rattle.heap.proofs.Passed.{bind-passed, same-passed}
-use Rattle.heap.proofs.Soundness.{Found, found, lost}
+use Rattle.heap.proofs.Soundness.{Found, found, lost, header-inside}
 use Rattle.heap.proofs.Fields.{found-header, found-ref, found-plain}
 use Rattle.store.specs.Plans.{tested}
 use Rattle.store.specs.declared.operands.Held.{Held}
@@ -90,6 +90,21 @@ module _ {h : Held} (s : Store) (n k o : ℕ) (e : tested h ≡ operandsOf s n k
             ref = found-ref _ _ _ _ _ a (lent .0) (lent .1);
             plain = found-plain _ _ _ _ _ a (lent .0) (lent .1);
           }
+
+-- by what the code's `held_record` answered
+module _ {h : Held} (s : Store) (n k : ℕ) (e : tested h ≡ recordOf s n k k) where
+  pub record-away : {g : ℕ} → h ≡ held.Refusal g → recordOf s n k k ≡ refused g
+  record-away m = sym e ∙ ap tested m
+
+  module _ {x : Operands} (m : h ≡ held.Operands x) where
+    pub record-here : recordOf s n k k ≡ passed x
+    record-here = sym e ∙ ap tested m
+
+    pub record-head : (j : ℕ) → j < header → Inside (s .memory .half0) (s .memory .half1) (x .own) j
+    record-head =
+        let a = recorded s n k k record-here in
+        let b = fronts (a .0 .known) in
+        header-inside _ _ _ _ (x .own) (a .1 .sound) (b .0) (b .1)
 
 -- 13: a field number beyond the count, or below it
 module _ {s : Store} {n k o at r p : ℕ} {x : Operands} (d : Opened s n k o x at r p) (i : ℕ) where

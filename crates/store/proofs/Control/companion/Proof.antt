@@ -1,54 +1,26 @@
 -- The companion: the tests of the stretch, each with its number.
 use Rattle.rules.specs.Calls.{stretch}
-use Rattle.store.proofs.tests.Opening.{away, lent, unsound, opened}
+use Rattle.store.proofs.tests.Opening.{record-away, record-here}
 use borrow.Author.Needs.{needs}
 use Rattle.store.proofs.Control.companion.Statement.{statement}
 use Rattle.store.proofs.Control.companion.Tie as tie
 
-held-requires : tie.Need-held-requires
-held-requires c κs = search needs
+held-record-requires : tie.Need-held-record-requires
+held-record-requires c κs = search needs
 
 enum-known-n : tie.Need-enum-known-n
 enum-known-n c = search needs
 
-returns : tie.Need-returns
-unfolding stretch
-returns c = rw (away _ _ _ _ (c .before .before .before .held .ensures) (c .before .n .given .1))
-
-enum-known-operands : tie.Need-enum-known-operands
-enum-known-operands c = search needs
-
-follow-requires : tie.Need-follow-requires
-follow-requires c κs = lent _ _ _ _ (c .before .before .before .held .ensures) (c .before .operands .given .1)
-
 enum-told : tie.Need-enum-told
 enum-told c = search needs
 
-enum-told-2 : tie.Need-enum-told-2
-enum-told-2 c = search needs
+returns : tie.Need-returns
+unfolding stretch
+returns c = rw (record-away _ _ _ (c .before .before .before .held-record .ensures) (c .before .n .given .1))
 
 returns-2 : tie.Need-returns-2
 unfolding stretch
-returns-2 c =
-    let x = c .before .before .before .before in
-    rw (unsound _ _ _ _ (x .before .before .held .ensures) (x .operands .given .1) (c .before .before .follow .ensures) (c .enum-told2 .given .1))
-
-returns-3 : tie.Need-returns-3
-unfolding stretch
-returns-3 c =
-    let x = c .before .before .before .before in
-    rw (opened _ _ _ _ (x .before .before .held .ensures) (x .operands .given .1) (c .before .before .follow .ensures) (c .enum-told .given .1) .tests)
+returns-2 c = rw (record-here _ _ _ (c .before .before .held-record .ensures) (c .enum-told .given .1))
 
 pub companion-spec : {M : Type 1} → statement M
-companion-spec =
-    tie.close
-    (tie.spec
-    held-requires
-    enum-known-n
-    returns
-    enum-known-operands
-    follow-requires
-    enum-told
-    enum-told-2
-    returns-2
-    returns-3)
+companion-spec = tie.close (tie.spec held-record-requires enum-known-n enum-told returns returns-2)
