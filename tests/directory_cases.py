@@ -1,11 +1,12 @@
-"""Cases of the directory's calls for the probe program: every call in every phase of the collector, numbers of the control record at the
-edges of their ranges, halves that are nearly full, records that are damaged, lack a field, have a replica that is not theirs or name each
-other in a ring. A case is a name with the bytes of tests/probe.py."""
+"""Directed cases for the probe program of the directory's calls: every call in every phase of the collector, numbers of the control record
+at the edges of their ranges, halves that are nearly full, few birth numbers left, records that are damaged, lack a field or have a replica
+that is not theirs; and the chains of directory_chains.py. A case is a name with the bytes of tests/probe.py."""
 import itertools
 
 from damage import LEAST, TOP, USUAL, changed, edges, lengths, putting, records, ref, set_item, set_word, setting
 from directory import MARK, MINE, ROOT, Directory
-from layout import HEADER, NUMBER, least_list, size
+from directory_chains import DONE, GROUP, LAST_PASSED, PERSON, RINGS, chain, long_chains, named, passed_groups, passes, rings
+from layout import HEADER, NUMBER, least_list
 from model import ATTACH, MOST_BIRTHS, SAFE, STEP
 from probe import OPEN, ADD, REMOVE, MAKE_GROUP, JOIN, LEAVE, LIST, MOST_LENT, decode, encode
 from replicas import changes, is_pair
@@ -14,24 +15,17 @@ from table import LAST
 
 PHASES = range(13)
 HALF, FEW = 84, 72  # words of a half: of the schools here, and of the few cases that are kept in files
-PERSON, GROUP = size(1, 1), size(2, 1)  # words of a person or membership, and of a group
 # people 1, 2 and 3 are in group 1, person 1 is in group 2
 SCHOOL = [(OPEN, []), (ADD, [1]), (MAKE_GROUP, [1]), (ADD, [2]), (ADD, [3]), (MAKE_GROUP, [2]), (JOIN, [1, 1]), (JOIN, [2, 1]),
           (JOIN, [3, 1]), (JOIN, [1, 2])]
 TINY = [(OPEN, []), (ADD, [1]), (MAKE_GROUP, [1]), (JOIN, [1, 1])]
-# one of each that succeeds, then each way to be refused by the table
-DONE = [(ADD, [4]), (REMOVE, [1]), (REMOVE, [3]), (MAKE_GROUP, [3]), (JOIN, [2, 2]), (LEAVE, [1, 1]), (LEAVE, [2, 1]), (LEAVE, [1, 2]),
-        (LIST, [1, 4])]
+# each way to be refused by the table
 REFUSED = [(OPEN, []), (ADD, [1]), (ADD, [LAST + 1]), (REMOVE, [4]), (REMOVE, [TOP]), (MAKE_GROUP, [2]), (MAKE_GROUP, [LAST + 1]),
            (JOIN, [1, 3]), (JOIN, [4, 1]), (JOIN, [1, 1]), (JOIN, [LAST + 1, 1]), (JOIN, [1, TOP]), (LEAVE, [2, 2]), (LEAVE, [1, 3]),
            (LEAVE, [4, 1]), (LEAVE, [LAST + 1, 1]), (LEAVE, [1, LAST + 1]), (LIST, [3, 4]), (LIST, [LAST + 1, 3])]
 # those that allocate, then two of them that are refused before it
 ALLOCATING = [(ADD, [4]), (MAKE_GROUP, [3]), (JOIN, [2, 2]), (ADD, [1]), (JOIN, [1, 1])]
 EACH = [(OPEN, []), *DONE[:2], *DONE[3:6], DONE[-1]]
-
-
-def named(kind, args):
-    return f"kind {kind} {args}"
 
 
 def told(directory, calls):
@@ -209,113 +203,6 @@ def replicas():
             for kind, args in EACH[1:] if v == first and early else calls:
                 yield (f"{named(kind, args)} in phase {store.phase}, {steps} steps after the start of {phase}{', roles changed' * again}, "
                        f"record {v}, {about}", encode(changed(decode(base)[0], change), kind, args))
-
-
-# ---- chains
-
-def chain(n, entries):
-    """A store of these records, in half 0 as far as they fit and then in half 1: links, by number from 1, and word of each. A link that
-    is no number of a record is taken as it is. Global 31 names the first."""
-    store, places = Sapphire(n, least_list(n)), [0]
-    for links, _ in entries:
-        h = 0 if store.frontier[0] + size(len(links), 1) <= n else 1
-        places.append(ref(h, store.frontier[h]))
-        store.frontier[h] += size(len(links), 1)
-    for number, (place, (links, word)) in enumerate(zip(places[1:], entries), 1):
-        fields = [places[to] if to < len(places) else to for to in links]
-        for i, value in enumerate([256 * len(links) + 1, 0, 0, number, *fields, word]):
-            store.put(place, i, value)
-    store.attached[MINE], store.globals[ROOT], store.births = True, places[1], len(entries)
-    return store
-
-
-def doubled(store):
-    """The records of half 0 with a second copy each, at the same place in half 1, whose links name the copies there."""
-    for at, r, p in records(store, 0):
-        shape, colour, _, number, *fields = store.half[0][at:at + size(r, p)]
-        links = [link and link + 1 for link in fields[:r]]
-        store.half[0][at + 2], store.half[1][at:at + size(r, p)] = ref(1, at), [shape, colour, ref(0, at), number, *links, *fields[r:]]
-    store.frontier[1] = store.frontier[0]
-    return store
-
-
-RINGS = {
-    "a person who comes after himself": [([1], 1)],
-    "two people in a ring": [([2], 1), ([1], 2)],
-    "groups in a ring": [([2, 0], MARK + 1), ([1, 0], MARK + 2)],
-    "a ring that a group leads to": [([2, 0], MARK + 1), ([3], 1), ([2], 2)],
-    "members in a ring": [([2, 3], MARK + 1), ([0], 1), ([4], 3), ([3], 4)],
-    "a ring with the person looked for": [([2, 3], MARK + 1), ([0], 1), ([3], 1)],
-    "the groups as members": [([2, 1], MARK + 1), ([3, 2], MARK + 2), ([0], 1)],
-    "the entries as members": [([2, 2], MARK + 1), ([3], 1), ([0], 2)],
-    "people before groups": [([2], 1), ([3, 0], MARK + 1), ([0], 2)],
-    "numbers above all": [([2, 3], TOP), ([0], 1), ([0], TOP)],
-    "a person without link": [([2], 1), ([3], 2), ([], 3)],
-    "a group with one link": [([2], MARK + 1), ([0], 1)],
-    "a group's member without link": [([2, 3], MARK + 1), ([0], 1), ([], 3)],
-}
-
-
-def rings():
-    calls = [*DONE, (ADD, [1]), (REMOVE, [9]), (MAKE_GROUP, [1]), (JOIN, [1, 1]), (JOIN, [3, 1]), (LEAVE, [3, 1]), (LIST, [2, MOST_LENT]),
-             (LIST, [1, 0])]
-    for name, entries in RINGS.items():
-        for store, phases in [(chain(16, entries), (0, 2, 8)), (chain(48, entries), (0, 2, 8)),
-                              (doubled(chain(48, entries)), (5, 7, 8, 10, 12))]:
-            for phase in phases:
-                store.phase = phase
-                for kind, args in calls:
-                    yield (f"{named(kind, args)} on {name}, {store.length[0]} words, phase {phase}, replicas up to {store.frontier[1]}",
-                           encode(store, kind, args))
-
-
-def people_in_a_row(count, last):
-    """The last of them names this one, or none."""
-    return [([i + 1 if i < count else last], 9 + i) for i in range(1, count + 1)]
-
-
-def members_in_a_row(count, last):
-    """The same of the members of group 1; person 5 is there too."""
-    return [([2, 3], MARK + 1), ([0], 5), *(([i + 1 if i < count + 2 else last], 7 + i) for i in range(3, count + 3))]
-
-
-def long_chains():
-    """As many records as both halves hold. They are fewer than a half has words: a chain that ends is never too long."""
-    for n in (48, 1000):
-        count = 2 * (n // PERSON)
-        for last in (0, 1, count):
-            store = chain(n, people_in_a_row(count, last))
-            for kind, args in [(ADD, [9]), (ADD, [9 + count]), (REMOVE, [9 + count]), (REMOVE, [9]), (MAKE_GROUP, [1]), (LIST, [1, 5])]:
-                yield f"{named(kind, args)} on {count} people, the last names {last}", encode(store, kind, args)
-        for last in (0, 3, count - 1):
-            store = chain(n, members_in_a_row(count - 3, last))
-            for kind, args in [(LIST, [1, MOST_LENT]), (LIST, [1, 1]), (JOIN, [5, 1]), (LEAVE, [5, 1]), (REMOVE, [5]), (JOIN, [10, 1])]:
-                yield f"{named(kind, args)} on {count - 3} members, the last names {last}", encode(store, kind, args)
-
-
-PASSED = 15  # members, so many that all records fit in two halves of as many words as groups are passed
-LAST_PASSED = 2 + 5 * PASSED
-
-
-def passed_groups(n, lead, members=PASSED):
-    """A removal of person 1 that makes its own ring. Behind `lead` groups come six; the members of the first are the sixth group itself
-    and the entry behind it, which is the person's. Cut out there, he leaves the sixth naming the second: these five come again and
-    again. The second loses a member each time and then names what is no record. That is met, and answered with 12, in the group
-    2 + lead + 5 * members of the walk, if it comes so far."""
-    person, first, nothing = lead + 7, lead + 8, 4 * n
-    groups = [([i + 1, 0], MARK + i) for i in range(1, lead + 7)]
-    groups[lead][0][1], groups[lead + 1][0][1] = lead + 6, first
-    return chain(n, [*groups, ([lead + 2], 1), *(([first + i if i < members else nothing], 1) for i in range(1, members + 1))])
-
-
-def passes():
-    """The group with the damage comes as the last that a removal may pass, or one later: then it is 26."""
-    for n in (LAST_PASSED - 1, LAST_PASSED, LAST_PASSED + 1):
-        for lead in (0, 1):
-            for phase in (0, 6, 8, 11):
-                store = passed_groups(n, lead)
-                store.phase = phase
-                yield f"group {lead + LAST_PASSED} of a walk in {n} words, phase {phase}", encode(store, REMOVE, [1])
 
 
 def directed():

@@ -241,7 +241,8 @@ BirthNumbers =
 unfoldable pub BirthsCounted : Type 0
 BirthsCounted = (s : Store) → Made s → (cs : List Call) → after s cs .births ≡ length (freeAfter s cs .records)
 
--- so no number is given twice: in every run two records of one half have different numbers
+-- so no number is given twice: every number given is at most the count, a new one is above it, and in every run two records of one half
+-- have different numbers
 unfoldable pub BirthsDiffer : Type 0
 BirthsDiffer =
     (s : Store) → Made s → (cs : List Call) (h : ℕ) → h < 2 → (u v : ℕ)

@@ -102,12 +102,12 @@ freeDetach f n = do
   x ← freeSessionOf f n
   done (withFreeSession f n freeNobody)
 
--- "Allocate answers 14 where that was fed, changing nothing; else it appends a record of r nulls and p zeros and puts its place in the register".
--- Request [6]: "16, after 14, refuses allocation once 4,294,967,295 numbers are used, there too"
+-- what is fed says whether there was room
 abbrev pub fedRoom : Fed → Bool
 fedRoom fitted = true
 fedRoom noRoom = false
 
+-- the store with a new record of r nulls and p zeros, whose place is in register k of session n
 abbrev pub freeAllocated : Free → ℕ → ℕ → ℕ → ℕ → Free
 freeAllocated f n k r p =
     withFreeRegister
@@ -118,6 +118,8 @@ freeAllocated f n k r p =
     })
     n k (suc (length (f .records)))
 
+-- "Allocate answers 14 where that was fed, changing nothing; else it appends a record of r nulls and p zeros and puts its place in the
+-- register". Request [6]: "16, after 14, refuses allocation once 4,294,967,295 numbers are used, there too"
 unfoldable pub freeAllocate : Free → ℕ → ℕ → ℕ → ℕ → Fed → Tested (Outcome Free)
 freeAllocate f n k r p fed = do
   x ← freeSessionOf f n
