@@ -4,6 +4,7 @@ that shade beside marks. A case is a name with the bytes of tests/probe.py."""
 import itertools
 
 from damage import TOP, changed, putting, ref
+from funds import wide
 from layout import COLOUR, HEADER
 from model import ATTACH, DETACH, SAFE, STORE, PUT, STEP
 from probe import encode
@@ -47,7 +48,7 @@ def marks(turn):
 def stage(level, phase, current, old, stored, room, turn):
     """Session 3 holds the holder and what is stored; the overwritten reference is in a field of the holder and in a global, beside a
     white one in each. The list has room for so many entries. From phase 5 on two turns of three have replicas."""
-    store = Sapphire(LENGTH, CAPACITY)
+    store = wide(Sapphire(LENGTH, CAPACITY))
     store.phase, store.current, store.frontier = phase, current, [END, END]
     for h, (at, words) in itertools.product((0, 1), RECORDS.items()):
         store.half[h][at:at + len(words)] = words

@@ -4,6 +4,7 @@ a name with the bytes of tests/probe.py."""
 import itertools
 
 from damage import END, LEVEL_PHASES, TOP, USED, USUAL, X, Y, Z, changed, injuries, pairs, putting, ref, set_item, set_word, setting, small
+from funds import wide
 from layout import HEADER, NUMBER, least_list, size
 from model import ALLOCATE, MOST_BIRTHS, STEP
 from probe import ANSWER, CALL, MAKE, decode, encode
@@ -82,7 +83,7 @@ def makings():
     for n in (16, 17, 19, 20, 23, 24, 32, 47, 48, 1024):
         for capacity in sorted({least_list(n) - 1, least_list(n), n // 3 - 1, n // 3}):
             for births in COUNTS:
-                store = changed(Sapphire(n, capacity), setting(births=births))
+                store = changed(wide(Sapphire(n, capacity)), setting(births=births))
                 yield f"making, halves of {n}, a list of {capacity}, {births} used", encode(store, MAKE, [])
 
 

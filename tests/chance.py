@@ -3,6 +3,7 @@ overlap, right pairs and replicas that name anything. Everything is made from a 
 name."""
 import random
 
+import funds
 from damage import TOP, edges, putting, ref
 from layout import HEADER, least_list, size
 from model import ATTACH, DETACH, SAFE, ALLOCATE, LOAD, STORE, READ, WRITE, MOVE, CLEAR, SAME, GET, PUT, STEP
@@ -107,6 +108,7 @@ def numbers(rng, store):
     store.attached = rng.choices([True, True, False], k=16) if style < 0.7 else [style < 0.9 and i == 3 for i in range(16)]
     store.scanned = rng.choice([rng.choices([True, False, False], k=16), [True] * 16])
     store.births = any_number(rng)
+    funds.scatter(rng, store)
     if rng.random() < 0.06:
         _, _, change = rng.choice(EDGES)
         change(store)
@@ -117,6 +119,8 @@ def arguments_for(rng, kind, store):
     args = [rng.choice([0, 0, 0, 1, 1, 2]) if kind in (LOAD, STORE, READ, WRITE) else rng.randrange(8) for _ in range(COUNTS[kind])]
     if kind == ALLOCATE and rng.random() < 0.7:
         args[2:] = rng.choice(SHAPES[:6])
+    if kind == ATTACH:
+        args[1] = funds.any_words(rng)
     attached = [s for s in range(16) if store.attached[s]]
     if args and attached and rng.random() < 0.9:
         args[0] = rng.choice(attached)
@@ -132,4 +136,6 @@ def random_cases(count, seed=1):
         store.length, store.capacity, store.frontier = list(kept[0]), kept[1], list(kept[2])
         numbers(rng, store)
         kind = rng.choice(KINDS)
-        yield f"random case {i} of seed {seed}", encode(store, kind, arguments_for(rng, kind, store))
+        args = arguments_for(rng, kind, store)
+        funds.fit(rng, store, kind, args)
+        yield f"random case {i} of seed {seed}", encode(store, kind, args)

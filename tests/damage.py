@@ -2,6 +2,7 @@
 end of their walks, and each way to meet damage. A case is a name with the bytes of tests/probe.py."""
 import itertools
 
+from funds import wide
 from layout import HEADER, NUMBER, least_list, size, size_of
 from model import ATTACH, DETACH, SAFE, ALLOCATE, LOAD, STORE, READ, WRITE, MOVE, CLEAR, SAME, GET, PUT, STEP
 from probe import MAKE, encode
@@ -25,7 +26,7 @@ def pairs(level=0, phase=0, current=0, n=USUAL[0], capacity=USUAL[1]):
     """Session 0 holds two records with two copies each and one without replica in each half: registers 0 and 1 are the copies of X
     (two reference fields, two plain ones), 2 and 3 those of Y (one and one), 4 and 5 the records Z (one, none), 6 and 7 null. The even
     ones are in fromspace. No two of them have the same birth number, not even two copies."""
-    store = Sapphire(n, capacity)
+    store = wide(Sapphire(n, capacity))
     store.births = USED
     store.phase, store.current, store.frontier = phase, current, [END, END]
     source = store.fromspace()
@@ -71,7 +72,7 @@ def copies(level):
 
 def plain(r, p, h, n):
     """A record of this shape that fills half h up to its frontier."""
-    store = Sapphire(n, least_list(n))
+    store = wide(Sapphire(n, least_list(n)))
     store.attached[0] = True
     store.half[h][:size(r, p)] = [256 * r + p, 2, 0, 9] + [0] * r + [TOP - i for i in range(p)]
     store.frontier[h] = size(r, p)
@@ -149,7 +150,7 @@ def stretches():
 
 # ---- arguments and numbers at the edges
 
-CALLS = [(MAKE, []), (ATTACH, [1]), (DETACH, [0]), (SAFE, [0]), (ALLOCATE, [0, 7, 1, 1]), (LOAD, [0, 7, 0, 1]), (STORE, [0, 0, 1, 2]),
+CALLS = [(MAKE, []), (ATTACH, [1, 8]), (DETACH, [0]), (SAFE, [0]), (ALLOCATE, [0, 7, 1, 1]), (LOAD, [0, 7, 0, 1]), (STORE, [0, 0, 1, 2]),
          (READ, [0, 0, 1]), (WRITE, [0, 0, 1, 9]), (MOVE, [0, 7, 0]), (CLEAR, [0, 0]), (SAME, [0, 0, 1]), (GET, [0, 7, 0]),
          (PUT, [0, 0, 2]), (STEP, []), (STRETCH, [0, 0]), (COMPANION, [0, 0]), (BIRTH, [0, 0])]
 
@@ -178,8 +179,8 @@ def rooms():
 
 
 def edges():
-    """Changes of a control record, each just inside or just outside one range of refusal 4, and the count of birth numbers, which has no
-    range; with them the halves and list to start from."""
+    """Changes of a control record, each just inside or just outside one range of refusal 4, and the count of birth numbers, shares and
+    charges, which have no range; with them the halves and list to start from."""
     n, listed = USUAL
     for h in (0, 1):
         for value in (0, 15, n - 1, n, n + 1, 1048576, 1048577, HUGE):
@@ -197,6 +198,8 @@ def edges():
     for s in (0, 1, 15):
         for value in (6, 7, TOP):
             yield USUAL, f"level {value} of session {s}", set_item("level", s, value)
+        for name, value in itertools.product(("share", "charge"), (0, 1, 1 << 31, TOP)):
+            yield USUAL, f"{name} {value} of session {s}", set_item(name, s, value)
     for phase in (3, 4, 10, 11):
         for value in (LEAST[0], LEAST[0] + 1, 32, 33, n, n + 1):
             for start in (USUAL, LEAST):

@@ -11,7 +11,7 @@ from collections import namedtuple
 
 from model import ATTACH, SAFE, ALLOCATE, LOAD, STORE, READ, WRITE, MOVE, CLEAR, GET, PUT
 from sapphire import Refused, Sapphire
-from table import OPEN, ADD, REMOVE, MAKE, JOIN, LEAVE, LIST, LAST, NO_NUMBER, NO_ROOM, UNKNOWN, ALREADY, ABSENT
+from table import OPEN, ADD, REMOVE, MAKE, JOIN, LEAVE, LIST, LAST, NO_NUMBER, NO_ROOM, OVER_SHARE, UNKNOWN, ALREADY, ABSENT
 
 MINE, ROOT = 15, 31  # the directory's session and global
 MARK = LAST + 1      # what tells a group's word from a person's
@@ -33,6 +33,13 @@ DAMAGE_SLIPS = [ENDS_AT_DAMAGE, GROUP_MORE, WRITES_EARLY, CLEARS_PASSED]
 # those that show where no birth number is left
 SAYS_NO_ROOM, LINKS_ANYWAY = "16 told as 14", "a call refused with 16 goes on"
 NUMBER_SLIPS = [SAYS_NO_ROOM, LINKS_ANYWAY]
+# those that show where session 15 has a share that can be passed
+OPENS_WHOLE, SWALLOWS_SHARE, SHARE_AS_ROOM = "open ignores its share", "17 told as done", "17 told as 14"
+LINKS_OVER_SHARE = "a call refused with 17 goes on"
+SHARE_SLIPS = [OPENS_WHOLE, SWALLOWS_SHARE, SHARE_AS_ROOM, LINKS_OVER_SHARE]
+# of these an allocation's refusal: its number, and what is told in its place; None where the call goes on
+MISTOLD = {SAYS_NO_ROOM: (NO_NUMBER, NO_ROOM), LINKS_ANYWAY: (NO_NUMBER, None), SWALLOWS_SHARE: (OVER_SHARE, 0),
+           SHARE_AS_ROOM: (OVER_SHARE, NO_ROOM), LINKS_OVER_SHARE: (OVER_SHARE, None)}
 
 
 def need(holds, number):
@@ -54,7 +61,7 @@ class Directory:
             return self.store.call(kind, args)
         self.calls, self.written = 0, []
         try:
-            self._begin(kind)
+            self._begin(kind, args)
         except Refused as refusal:
             return refusal.args[0], 0
         number = 0
@@ -76,9 +83,9 @@ class Directory:
         need(not number, number)
         return value
 
-    def _begin(self, kind):
+    def _begin(self, kind, args):
         if kind == OPEN:
-            self.ask(ATTACH)
+            self.ask(ATTACH, *args if self.slip != OPENS_WHOLE else [])
         elif self.slip != NO_SAFE_POINT:
             self.ask(SAFE)
 
@@ -138,16 +145,18 @@ class Directory:
         try:
             self.ask(ALLOCATE, register, links, 1)
         except Refused as refusal:
-            if self.slip == LINKS_ANYWAY and refusal.args[0] == NO_NUMBER:
+            number, told = MISTOLD.get(self.slip, (None, None))
+            if refusal.args[0] != number:
+                raise
+            if told is None:
                 return
-            need(self.slip != SAYS_NO_ROOM or refusal.args[0] != NO_NUMBER, NO_ROOM)
-            raise
+            raise Refused(told)
         self.ask(WRITE, register, 0, word)
 
     # ---- the calls
 
     def _work(self, kind, args):
-        numbers = args[:1] if kind == LIST else args
+        numbers = args[:{OPEN: 0, LIST: 1}.get(kind, len(args))]  # of people and groups
         need(all(number <= LAST for number in numbers), UNKNOWN)
         work = {ADD: self._add, REMOVE: self._remove, MAKE: self._make, JOIN: self._join, LEAVE: self._leave, LIST: self._list}
         return work[kind](*args) if kind in work else None

@@ -3,6 +3,7 @@ long as both halves can hold, or lead a removal past more groups than a half has
 tests/probe.py."""
 from damage import TOP, records, ref
 from directory import MARK, MINE, ROOT
+from funds import wide
 from layout import least_list, size
 from probe import ADD, REMOVE, MAKE_GROUP, JOIN, LEAVE, LIST, MOST_LENT, encode
 from sapphire import Sapphire
@@ -20,7 +21,7 @@ def named(kind, args):
 def chain(n, entries):
     """A store of these records, in half 0 as far as they fit and then in half 1: links, by number from 1, and word of each. A link that
     is no number of a record is taken as it is. Global 31 names the first."""
-    store, places = Sapphire(n, least_list(n)), [0]
+    store, places = wide(Sapphire(n, least_list(n))), [0]
     for links, _ in entries:
         h = 0 if store.frontier[0] + size(len(links), 1) <= n else 1
         places.append(ref(h, store.frontier[h]))

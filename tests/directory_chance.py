@@ -6,6 +6,8 @@ import chance
 from damage import TOP, records
 from directory import MARK, MINE, ROOT, Directory
 from directory_cases import SCHOOL, heads, school, step, told
+from directory_chains import GROUP, PERSON
+from funds import any_words
 from layout import HEADER
 from probe import OPEN, ADD, REMOVE, MAKE_GROUP, JOIN, LEAVE, LIST, MOST_LENT, decode, encode
 from table import LAST
@@ -17,7 +19,7 @@ def any_call(rng, most=4):
     if rng.random() < 0.02:
         person, group = rng.choice([(LAST + 1, 1), (1, TOP), (LAST, LAST)])
     lent = rng.choice([0, 1, 2, 5, MOST_LENT])
-    return kind, {OPEN: [], ADD: [person], REMOVE: [person], MAKE_GROUP: [group], LIST: [group, lent]}.get(kind, [person, group])
+    return kind, {OPEN: [any_words(rng)], ADD: [person], REMOVE: [person], MAKE_GROUP: [group], LIST: [group, lent]}.get(kind, [person, group])
 
 
 def any_school(rng):
@@ -53,6 +55,13 @@ def damage_at(rng, store):
         store.half[h][rng.randrange(store.frontier[h] or 1)] = value
 
 
+def tighten(rng, store):
+    """Now and then a charge and, on from it, a share for one more record, or not even that."""
+    if rng.random() < 0.3:
+        store.charge[MINE] = rng.choice([0, 6, rng.randrange(200), TOP - PERSON, TOP])
+        store.share[MINE] = min(store.charge[MINE] + rng.choice([0, PERSON - 1, PERSON, GROUP - 1, GROUP]), TOP)
+
+
 def damaged_school(rng, base):
     store, _, _ = decode(base)
     if rng.random() < 0.3:
@@ -65,6 +74,7 @@ def damaged_school(rng, base):
         store.attached[MINE] = False
     if rng.random() < 0.3:
         store.births = chance.any_number(rng)
+    tighten(rng, store)
     return store
 
 
@@ -79,6 +89,7 @@ def any_records(rng):
     chance.numbers(rng, store)
     store.length, store.capacity, store.frontier = kept
     store.attached[MINE] = rng.random() < 0.95
+    tighten(rng, store)
     return store
 
 

@@ -1,16 +1,18 @@
 """Holds the lines of a run to the collector-free store, and those of directory calls to the plain table."""
-from model import Model, SAFE, ALLOCATE, MOST_BIRTHS, STEP
-from table import NO_ROOM, OPEN, fed
+import model
+from model import SAFE, MOST_BIRTHS, STEP
+from table import OPEN, fed
 
 
 def said(line):
     return " ".join(str(word) for word in line)
 
 
-def faults(entries, lines, table=None, most_births=MOST_BIRTHS):
+def faults(entries, lines, table=None, most_births=MOST_BIRTHS, feeding=model.fed):
     """What is wrong with the lines that were answered to these entries, each (number, value) and, for a list of the directory, the
-    members; the first fault first. With a table kinds from 16 on are the directory's, which a run of the store alone hasn't."""
-    model, phase = Model(most_births), 0
+    members; the first fault first. With a table kinds from 16 on are the directory's, which a run of the store alone hasn't. `feeding`
+    says what the collector-free store is fed of a line."""
+    free, phase = model.Model(most_births), 0
     for n, ((kind, args), line) in enumerate(zip(entries, lines), 1):
         number, value = line[:2]
         if number in (4, 12):
@@ -20,14 +22,14 @@ def faults(entries, lines, table=None, most_births=MOST_BIRTHS):
                 yield f"entry {n}: phase {value} after {phase}"
             phase = value
         elif kind == SAFE:
-            if line != (model._session(args[0]), 0):
+            if line != (free._session(args[0]), 0):
                 yield f"entry {n}: safe point answered {said(line)}"
         elif table and kind >= OPEN:
             want = table.call(kind, args, fed(number))
             if line != want:
                 yield f"entry {n}: answered {said(line)}, the plain table answers {said(want)}"
         else:
-            want = model.call(kind, args, no_room=kind == ALLOCATE and number == NO_ROOM)
+            want = free.call(kind, args, feeding(kind, number))
             if line != want:
                 yield f"entry {n}: answered {said(line)}, the collector-free store answers {said(want)}"
     if len(lines) != len(entries):

@@ -3,11 +3,11 @@ on the record at once and ask for its number in every phase, through both copies
 
 What no run has is done aside, on a copy of the store: a register is set to the copy that no session holds, or the count is set near its
 end."""
-from damage import changed, setting
 from layout import NUMBER, least_list
 from model import ALLOCATE, ATTACH, BIRTH, CLEAR, GET, MOST_BIRTHS, PUT, READ, SAFE, SAME, STEP, WRITE
-from probe import MAKE, decode, encode
+from probe import MAKE, encode
 from sapphire import LEVELS, Sapphire
+from told import Told
 
 OFFICE, IMPORT = 0, 1     # the two sessions
 OURS, KEPT = 0, 1         # globals that name the record and another one
@@ -18,28 +18,14 @@ LENGTH = 160
 REFUSED = [(8, [8, 1, 1]), (10, [NEW, 256, 0]), (10, [NEW, 0, 256]), (14, [NEW, 0, LENGTH])]  # register and shape of allocations
 
 
-class Story:
-    """`cases` are the calls; each row of `rows` says in words and by the numbers of cases what they show."""
+class Story(Told):
+    """Each row of `rows` says in words and by the numbers of cases what they show."""
 
     def __init__(self):
-        self.store = Sapphire(LENGTH, least_list(LENGTH))
+        super().__init__(Sapphire(LENGTH, least_list(LENGTH)))
         self.store.half = [[(7 * k + h) % 5 for k in range(LENGTH)] for h in (0, 1)]
-        self.cases, self.rows, self.used, self.ours = [], [], 0, None
-        self.cases.append(("making", encode(changed(self.aside(), setting(births=99, phase=7)), MAKE, [])))
-
-    def aside(self, **numbers):
-        """A copy of the store, with these numbers."""
-        return changed(decode(encode(self.store, STEP, []))[0], setting(**numbers))
-
-    def ask(self, store, want, kind, args):
-        """A call, which must be answered so: the number of its case."""
-        self.cases.append((f"phase {store.phase}, kind {kind} {args}", encode(store, kind, args)))
-        answer = store.call(kind, args)
-        assert answer == want, (kind, args, answer, want)
-        return len(self.cases) - 1
-
-    def do(self, kind, *args, value=0):
-        return self.ask(self.store, (0, value), kind, list(args))
+        self.rows, self.used, self.ours = [], 0, None
+        self.cases.append(("making", encode(self.aside(births=99, phase=7), MAKE, [])))
 
     def allocated(self, session, register, r, p):
         """A new record, which gets the next number: the number of the case that asks for it."""
@@ -47,10 +33,10 @@ class Story:
         self.used += 1
         return self.do(BIRTH, session, register, value=self.used)
 
-    def refused(self, session):
+    def refused_all(self, session):
         """Refused allocations, which use no number."""
         for number, args in REFUSED:
-            self.ask(self.store, (number, 0), ALLOCATE, [session, *args])
+            self.refused(number, ALLOCATE, session, *args)
 
     def copies(self):
         """The references of the record's copies, by name."""
@@ -80,7 +66,7 @@ def begin(story):
     story.do(PUT, OFFICE, OURS, HELD)
     story.do(GET, IMPORT, HELD, OURS)
     story.allocated(OFFICE, NEW, 2, 0)
-    story.refused(OFFICE)
+    story.refused_all(OFFICE)
     story.allocated(IMPORT, NEW, 1, 0)
     story.do(PUT, IMPORT, KEPT, NEW)
 
@@ -96,7 +82,7 @@ def work(story):
     story.do(READ, IMPORT, HELD, 0, value=word)
     copies = story.copies()
     row.update({name: story.by_hand(v) for name, v in copies.items()})
-    story.refused(IMPORT)
+    story.refused_all(IMPORT)
     row["new"] = story.allocated(OFFICE, NEW, 0, 0)
     story.do(CLEAR, OFFICE, NEW)
     story.rows.append((phase, levels, copies, row))
@@ -118,8 +104,7 @@ def step(story):
     if story.store.level[IMPORT] != LEVELS[story.store.phase]:
         story.do(SAFE, IMPORT)
         story.do(BIRTH, OFFICE, HELD, value=story.ours)
-    story.cases.append((f"step in phase {story.store.phase}", encode(story.store, STEP, [])))
-    assert story.store.call(STEP, [])[0] == 0
+    story.step()
 
 
 def collect(story):

@@ -7,7 +7,7 @@ from collections import Counter
 from damage import records, ref
 from layout import NUMBER, least_list
 from marking import any_call
-from model import ALLOCATE, ATTACH, BIRTH, MOST_BIRTHS, SAFE, STEP, Model
+from model import ALLOCATE, ATTACH, BIRTH, MOST_BIRTHS, OVER_SHARE, SAFE, STEP, Model, fed
 from probe import encode
 from sapphire import LEVELS, Sapphire
 
@@ -43,7 +43,7 @@ class Known:
         return answer
 
     def _judge(self, kind, args, answer):
-        want = self.model.call(kind, args, no_room=kind == ALLOCATE and answer[0] == ROOM)
+        want = self.model.call(kind, args, fed(kind, answer[0]))
         if answer != want:
             raise Wrong(f"call {len(self.entries)}, {kind} {args}: {answer}, the collector-free store answers {want}")
 
@@ -158,20 +158,22 @@ class Player:
         return self.store.call(kind, args)
 
 
-def pair(seed, calls, seen, slip=None):
-    """Two runs with the same session calls: where they part, or None. They may where an allocation has no room in one of them alone;
-    after it nothing is compared."""
+def pair(seed, calls, seen, slip=None, chosen=session_call, shared=None):
+    """Two runs with the same session calls: where they part, or None. They may where an allocation is refused for room or for its share in
+    one of them and not in the other, or with another number; after it nothing is compared. `chosen` gives a session call, `shared` the
+    share of one that comes first, the whole one if there is none."""
     rng = random.Random(f"pair {seed}")
     most = MOST_BIRTHS if seed % 3 == 0 else rng.choice([5, 30, 200])
     players = [Player(rng, rng.choice([24, 64, 400, 4096]), most, slip) for _ in (0, 1)]
     model, sessions, makes = Model(most), rng.choice([1, 2, 4]), rng.choice([0.03, 0.1])
     for n in range(calls):
-        kind, args = (ATTACH, [n]) if n < sessions else session_call(rng, model, sessions, makes)
+        kind, args = (ATTACH, [n, shared(rng)] if shared else [n]) if n < sessions else chosen(rng, model, sessions, makes)
         one, other = [player.answer(kind, args) for player in players]
         if kind != SAFE:
-            model.call(kind, args, no_room=kind == ALLOCATE and one[0] == ROOM)
-        if kind == ALLOCATE and (one[0] == ROOM) != (other[0] == ROOM):
+            model.call(kind, args, fed(kind, one[0]))
+        if fed(kind, one[0]) != fed(kind, other[0]):
             seen["parted"] += 1
+            seen["parted", *sorted((one[0], other[0]))] += 1
             return None
         if one != other and kind != SAFE:
             return f"call {n + 1}, {kind} {args}: {one} and {other}"
@@ -179,5 +181,6 @@ def pair(seed, calls, seen, slip=None):
         seen["births"] += kind == BIRTH and one[0] == 0
         seen["left"] += one[0] == LEFT
         seen["room"] += one[0] == ROOM
+        seen["share"] += one[0] == OVER_SHARE
     seen["whole"] += 1
     return None

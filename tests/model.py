@@ -1,13 +1,28 @@
 """The collector-free store of documents 01 and 02, written from the papers alone.
 
-It is fed the session calls of a run in order and, for each allocation, whether the run answered it with 14. That all birth numbers are
-used, 16, it finds by the length of its list. It keeps which sessions are attached, their registers, the globals and a list of records;
-a register, global or reference field holds 0 for null or a record's place in the list, from 1.
+It is fed the session calls of a run in order and, for each allocation, whether the run had room for it (fitted), refused it for room (14)
+or refused it for its session's share (17). That all birth numbers are used, 16, it finds by the length of its list. It keeps which sessions
+are attached, their registers, the globals and a list of records, but no shares; a register, global or reference field holds 0 for null or a
+record's place in the list, from 1.
+
+An attach has a session and a share. In a script, and in the tests' entries of that form, it has the session alone, and its share is whole.
 """
 
 ATTACH, DETACH, SAFE, ALLOCATE, LOAD, STORE, READ, WRITE, MOVE, CLEAR, SAME, GET, PUT, STEP = range(1, 15)
 STRETCH, COMPANION, BIRTH = 15, 16, 17  # after the kinds of the script, which has none of them
 MOST_BIRTHS = (1 << 32) - 1  # birth numbers that there are, from 1
+WHOLE_SHARE = (1 << 32) - 1  # the share, in words, of an attach that names none
+FITTED, NO_ROOM, OVER_SHARE = 0, 14, 17  # what is fed for an allocation
+
+
+def share_in(args):
+    """The share that an attach asks for, by its arguments without the session, or an open of the directory by all of its own."""
+    return args[0] if args else WHOLE_SHARE
+
+
+def fed(kind, number):
+    """What the collector-free store is fed of a call that the run answered with this number."""
+    return number if kind == ALLOCATE and number in (NO_ROOM, OVER_SHARE) else FITTED
 
 
 class Model:
@@ -25,8 +40,8 @@ class Model:
             return 5
         return 0 if self.attached[s] else 6
 
-    def call(self, kind, args, no_room=False):
-        """The refusal number or 0, and the value."""
+    def call(self, kind, args, allocation=FITTED):
+        """The refusal number or 0, and the value. `allocation` is what is fed for it."""
         s = args[0]
         if kind == ATTACH:
             if s > 15:
@@ -50,8 +65,8 @@ class Model:
                 return 8, 0
             if r > 255 or p > 255:
                 return 10, 0
-            if no_room:
-                return 14, 0
+            if allocation:
+                return allocation, 0
             if len(self.records) >= self.most_births:
                 return 16, 0
             self.records.append(([0] * r, [0] * p))

@@ -4,11 +4,12 @@ which every number and every word is given, and all that comes out.
 A case in 32-bit words, big-endian: kind and four arguments of the call, the three lent lengths, the control record, then the words
 of half 0, half 1 and the list. A reply: refusal number, value in two words, the control record, the words of both halves and the
 list, then a count and that many words of a stretch. A control record: current half; in two words each lengths, frontiers, phase,
-walk place, walk field, and the list's place and end; 32 globals; for each session its registers, level, and whether it is attached
-and scanned; the birth numbers used.
+walk place, walk field, and the list's place and end; 32 globals; for each session its registers, level, share and charge, and whether it
+is attached and scanned; the birth numbers used.
 
-A call of the directory has 100 and the kind that it has in a directory script, and the arguments that it has there. In the place of a
-stretch its reply has the words that a list was lent: 1000, 1001 and so on, where the list has not written.
+A call of the directory has 100 and the kind that it has in a directory script, and the arguments that it has there. Attach has its share
+for a second argument, and open for its only one. In the place of a stretch a directory call's reply has the words that a list was lent:
+1000, 1001 and so on, where the list has not written.
 """
 import os
 import struct
@@ -16,7 +17,8 @@ import subprocess
 
 import table
 from directory import Directory
-from sapphire import BIRTH, COMPANION, STRETCH, Sapphire
+from model import ATTACH, share_in
+from sapphire import BIRTH, COMPANION, SESSIONS, STRETCH, Sapphire
 from scripts import ARGUMENTS
 
 BUILT = os.path.join(os.path.dirname(os.path.abspath(__file__)), "..", "target", "bin", "probe")
@@ -24,10 +26,12 @@ PROGRAM = os.environ.get("PROBE_PROGRAM", BUILT)
 MAKE = 0
 OPEN, ADD, REMOVE, MAKE_GROUP, JOIN, LEAVE, LIST = range(100 + table.OPEN, 100 + table.LIST + 1)
 MOST_LENT = 64  # words that a list may be lent
-COUNTS = {MAKE: 0, **ARGUMENTS, STRETCH: 2, COMPANION: 2, BIRTH: 2,  # of arguments, for each kind
-          OPEN: 0, ADD: 1, REMOVE: 1, MAKE_GROUP: 1, JOIN: 2, LEAVE: 2, LIST: 2}
+COUNTS = {MAKE: 0, **ARGUMENTS, ATTACH: 2, STRETCH: 2, COMPANION: 2, BIRTH: 2,  # of arguments, for each kind
+          OPEN: 1, ADD: 1, REMOVE: 1, MAKE_GROUP: 1, JOIN: 2, LEAVE: 2, LIST: 2}
+BEFORE_SHARE = {ATTACH: 1, OPEN: 0}  # arguments before the share, which may be left out where it is the whole one
 CALL = struct.Struct(">8I")
-RECORD = struct.Struct(">I10Q32I176II")
+RECORD = struct.Struct(">I10Q32I208II")
+FIRST, EACH = 43, 13  # where the sessions begin among the numbers of a control record, and the words of each
 ANSWER = struct.Struct(">IQ")
 
 
@@ -37,12 +41,15 @@ def words(values):
 
 def given(store):
     """The control record and the lent words of a store, as a case and a reply have them."""
-    sessions = [w for n in range(16) for w in (*store.registers[n], store.level[n], store.attached[n], store.scanned[n])]
+    sessions = [w for n in range(SESSIONS) for w in (*store.registers[n], store.level[n], store.share[n], store.charge[n],
+                                                     store.attached[n], store.scanned[n])]
     return RECORD.pack(store.current, *store.length, store.capacity, *store.frontier, store.phase, store.place, store.field, store.head,
                        store.tail, *store.globals, *sessions, store.births) + words(store.half[0] + store.half[1] + store.list)
 
 
 def encode(store, kind, args):
+    if kind in BEFORE_SHARE:
+        args = [*args[:BEFORE_SHARE[kind]], share_in(args[BEFORE_SHARE[kind]:])]
     args = [*args, 0, 0, 0, 0][:4]
     return CALL.pack(kind, *args, len(store.half[0]), len(store.half[1]), len(store.list)) + given(store)
 
@@ -56,11 +63,11 @@ def decode(case, slip=None):
     store = Sapphire(0, 0, slip)
     store.current, store.length, store.capacity, store.frontier = numbers[0], list(numbers[1:3]), numbers[3], list(numbers[4:6])
     store.phase, store.place, store.field, store.head, store.tail = numbers[6:11]
-    store.globals = list(numbers[11:43])
-    store.registers = [list(numbers[at:at + 8]) for at in range(43, 219, 11)]
-    store.level = list(numbers[51:219:11])
-    store.attached, store.scanned = [bool(w) for w in numbers[52:219:11]], [bool(w) for w in numbers[53:219:11]]
-    store.births = numbers[219]
+    store.globals, store.births = list(numbers[11:FIRST]), numbers[-1]
+    sessions = numbers[FIRST:-1]
+    store.registers = [list(sessions[at:at + 8]) for at in range(0, len(sessions), EACH)]
+    store.level, store.share, store.charge = (list(sessions[at::EACH]) for at in (8, 9, 10))
+    store.attached, store.scanned = ([bool(w) for w in sessions[at::EACH]] for at in (11, 12))
     store.half = [list(memory[:lent[0]]), list(memory[lent[0]:lent[0] + lent[1]])]
     store.list = list(memory[lent[0] + lent[1]:])
     return store, kind, rest[:COUNTS.get(kind, 0)]

@@ -4,6 +4,7 @@ import itertools
 
 from damage import LEVEL_PHASES, TOP, changed, putting, records, ref, set_item, setting
 from following import place
+from funds import wide
 from layout import HEADER, NUMBER, size, size_of
 from model import LOAD, STORE, READ, WRITE, SAME, PUT, STEP
 from probe import MAKE, ask, decode, encode
@@ -37,7 +38,7 @@ def words_of(name, h, aim):
 def stage(level, phase, current, side):
     """Session 0 holds copies of the records; the target is the one of fromspace or, on side 1, of tospace. A field of the holder and of
     the lone one name it too, and a global."""
-    store = Sapphire(LENGTH, CAPACITY)
+    store = wide(Sapphire(LENGTH, CAPACITY))
     store.phase, store.current, store.births = phase, current, USED
     source = store.fromspace()
     aim = named(TARGET, (source + side) % 2)

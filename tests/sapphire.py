@@ -3,26 +3,20 @@
 It is the second opinion on what the script program must print, collector steps and allocations without room included, and on what
 a call does to any control record and any words: a store may be set up with numbers out of range, other lengths than those that are
 lent, and damaged memory. `slip` builds in a mistake of tests/slips.py, or several together, so that the tests can show that they would
-see it. `most_births` is how many birth numbers there are, which tests may lower.
+see it. `most_births` is how many birth numbers there are, which tests may lower. What a collector step does stands in tests/collector.py.
 """
+import accounts
 import numbering
+from collector import BLACK, GREY, LEVELS, SESSIONS, WHITE, Collector, Refused
 from following import passes
 from layout import HEADER, NUMBER, least_list, size
 from model import (ATTACH, DETACH, SAFE, ALLOCATE, LOAD, STORE, READ, WRITE, MOVE, CLEAR, SAME, GET, PUT, STEP, STRETCH, COMPANION, BIRTH,
-                   MOST_BIRTHS)
-from slips import (ALLOCATE_ENDS_EARLY, ATTACHED_SCANNED, ATTACHED_UNSCANNED, BLACK_EARLY, COLOUR_THREE, COMPANION_BLIND, COPY_UNNUMBERED,
-                   COUNT_RECLAIMED, COUNT_TESTED, DETACH_UNMARKS, FIRST_LEFT, FOLLOWING_SLIPS, FULL_LIST_SLIPS, IN_TURN, LAST_FIRST,
-                   LEVELS_ATTACHED, LIST_BY_3, LISTED_TWICE, MAKING_COUNTS_ON, MARK_OF_BEFORE, MARKS_CLEARED, NUMBER_TESTED, OLD_AT_1,
-                   OLD_IN_4_ALONE, OLD_LEFT, OLD_LEFT_AT_3, OLD_LEFT_BY_PUT, OLD_LEFT_IN_4, OLD_READ_LATE, OTHER_ORDER, PASSED_OVER,
-                   PAST_BY_3, PLACE_IN_HALF, RECLAIM_CLEARS, ROOM_FOR_EIGHT, SCAN_ALONE, SOUND_BY_3, STORED_LEFT, STRETCH_EARLY,
-                   TESTED_LATE, UNMARKED, WORDS_COMPARED)
-
-LEVELS = [0, 1, 2, 2, 2, 3, 4, 4, 5, 6, 6, 6, 0]
-WHITE, GREY, BLACK = 0, 1, 2
-
-
-class Refused(Exception):
-    pass
+                   MOST_BIRTHS, share_in)
+from slips import (ATTACHED_SCANNED, ATTACHED_UNSCANNED, BLACK_EARLY, COLOUR_THREE, COMPANION_BLIND, COPY_UNNUMBERED,
+                   COUNT_TESTED, DETACH_UNMARKS, FOLLOWING_SLIPS, FULL_LIST_SLIPS, LEVELS_ATTACHED, LIST_BY_3, LISTED_TWICE,
+                   MAKING_COUNTS_ON, MARK_OF_BEFORE, MARKS_CLEARED, NUMBER_TESTED, OLD_AT_1, OLD_IN_4_ALONE, OLD_LEFT, OLD_LEFT_AT_3,
+                   OLD_LEFT_BY_PUT, OLD_LEFT_IN_4, OLD_READ_LATE, OTHER_ORDER, PLACE_IN_HALF, SOUND_BY_3, STORED_LEFT, STRETCH_EARLY,
+                   WORDS_COMPARED)
 
 
 def refused_lengths(length0, length1, capacity, slips=frozenset()):
@@ -34,7 +28,7 @@ def refused_lengths(length0, length1, capacity, slips=frozenset()):
     return 3 if capacity < (length0 // 3 if LIST_BY_3 in slips else least_list(length0)) else 0
 
 
-class Sapphire:
+class Sapphire(Collector):
     def __init__(self, length=4096, capacity=1365, slip=None, most_births=MOST_BIRTHS):
         self.half = [[0] * length, [0] * length]
         self.list = [0] * capacity
@@ -44,6 +38,7 @@ class Sapphire:
         self.globals = [0] * 32
         self.attached, self.scanned, self.level = [False] * 16, [False] * 16, [0] * 16
         self.registers = [[0] * 8 for _ in range(16)]
+        self.share, self.charge = [0] * SESSIONS, [0] * SESSIONS  # in words, of each session number, attached or not
         self.births, self.most_births = 0, most_births  # birth numbers used, and how many there are
         self.slips = frozenset([slip] if isinstance(slip, str) else slip or [])
         self.collections = 0
@@ -167,6 +162,7 @@ class Sapphire:
         number = refused_lengths(*lengths, self.slips)
         made = Sapphire(0, 0, self.slips, self.most_births)
         made.births = self.births if MAKING_COUNTS_ON in self.slips else 0
+        accounts.made(self, made)
         made.half, made.list = self.half, self.list
         if not number:
             made.length, made.capacity = lengths[:2], lengths[2]
@@ -178,6 +174,8 @@ class Sapphire:
         if self.length != [len(self.half[0]), len(self.half[1])] or self.capacity != len(self.list):
             return False
         if refused_lengths(*self.length, self.capacity, self.slips) or COUNT_TESTED in self.slips and self.births >= self.most_births:
+            return False
+        if self.slips and accounts.out_of_range(self):
             return False
         levels = self.level
         if LEVELS_ATTACHED in self.slips:
@@ -205,6 +203,7 @@ class Sapphire:
         except Refused as refusal:
             if self.slips:
                 numbering.refused(self, kind, refusal.args[0])
+                accounts.refused(self, kind, args, refusal.args[0])
             return refusal.args[0], 0
 
     def _call(self, kind, args):
@@ -217,16 +216,18 @@ class Sapphire:
             self.need(not self.attached[s], 7)
             self.attached[s], self.scanned[s] = True, self.marked_when_attached(s)
             self.level[s], self.registers[s] = LEVELS[self.phase], [0] * 8
+            self.share[s] = accounts.attached(self, s, share_in(args[1:])) if self.slips else share_in(args[1:])
             return 0
         self.session(s)
         regs, level = self.registers[s], self.level[s]
         if kind == DETACH:
             self.attached[s], self.level[s], self.registers[s] = False, 0, [0] * 8
             self.scanned[s] = self.scanned[s] and DETACH_UNMARKS not in self.slips
+            accounts.detached(self, s)
         elif kind == SAFE:
             self.level[s] = LEVELS[self.phase]
         elif kind == ALLOCATE:
-            self._allocate(regs, level, *args[1:])
+            self._allocate(*args)
         elif kind == LOAD:
             to, k, i = args[1:]
             self.need(to <= 7 and k <= 7, 8)
@@ -302,10 +303,22 @@ class Sapphire:
         self.births += 1
         return self.births
 
-    def _allocate(self, regs, level, k, r, p):
+    def _admit(self, s, halves, r, p):
+        """The number of a new record of this shape, which is charged to the session: refused with 17 where it would pass its share."""
+        if self.slips & accounts.ALLOCATING:
+            return accounts.admit(self, s, halves, r, p)
+        self.need(self.charge[s] + size(r, p) <= self.share[s], 17)
+        number = self._take_number(halves, r, p)
+        self.charge[s] += size(r, p)
+        return number
+
+    def _allocate(self, s, k, r, p):
+        regs, level = self.registers[s], self.level[s]
         self.need(k <= 7, 8)
+        if self.slips:
+            accounts.before_shape(self, s, r, p)
         self.need(r <= 255 and p <= 255, 10)
-        number = self._take_number([self.current] if level <= 2 else [0, 1], r, p)
+        number = self._admit(s, [self.current] if level <= 2 else [0, 1], r, p)
         refs = [2 * self.frontier[h] + 2 + h for h in (0, 1)]
         black_from = 1 if BLACK_EARLY in self.slips else 2
         if level <= 2:
@@ -384,168 +397,3 @@ class Sapphire:
         for v in shaded:
             self.shade(v)
         self.globals[g] = own
-
-    # ---- the collector step
-    def have_level(self):
-        return all(not a or l == LEVELS[self.phase] for a, l in zip(self.attached, self.level))
-
-    def move_on(self):
-        self.phase = (self.phase + 1) % 13
-        self.place = self.field = 0
-        self.scanned = [False] * 16
-        self.first_frontier = self.frontier[self.current]
-
-    def unmarked(self):
-        return next((n for n in range(16) if self.attached[n] and not self.scanned[n]), None)
-
-    def walked(self):
-        v = 2 * self.place + 2 + self.current
-        r, p = self.follow(v)
-        return v, r, p
-
-    def past(self, r, p):
-        self.place += size(r, p) - (PAST_BY_3 in self.slips)
-        self.field = 0
-
-    def _step(self):
-        work = {0: self._rest, 3: self._root_mark, 4: self._heap_mark, 5: self._shells, 7: self._copy, 10: self._root_flip,
-                11: self._stack_flip, 12: self._reclaim}
-        work.get(self.phase, self._handshake)()
-
-    def _handshake(self):
-        if self.have_level():
-            self.move_on()
-
-    def _rest(self):
-        self.head = self.tail = 0
-        self.move_on()
-
-    def _root_mark(self):
-        if self.place >= 32:
-            return self.move_on()
-        for v in self.shade_all([self.globals[self.place]]):
-            self.shade(v)
-        self.place += 1
-
-    def _heap_mark(self):
-        if self.head < self.tail:
-            v = self.list[self.head]
-            r, _ = self.follow(v)
-            if self.field < r:
-                for w in self.shade_all([self.at(v, HEADER + self.field)]):
-                    self.shade(w)
-                self.field += 1
-            else:
-                self.put(v, 1, BLACK)
-                self.head += 1
-                self.field = 0
-            return
-        n = self.unmarked()
-        if n is None:
-            return self.move_on()
-        self._scan(n)
-
-    def _scan(self, n):
-        if self.slips & SCAN_ALONE:
-            return self._scan_wrongly(n)
-        whites = self.shade_all(self.registers[n])
-        self.scanned[n] = True
-        for v in whites:
-            self.shade(v)
-
-    def _scan_wrongly(self, n):
-        """The scan with a mistake of its own."""
-        registers = self.registers[n]
-        if FIRST_LEFT in self.slips:
-            registers = registers[1:]
-        if LAST_FIRST in self.slips:
-            registers = registers[::-1]
-        whites = [] if IN_TURN in self.slips else self.shade_all(registers)
-        if ROOM_FOR_EIGHT in self.slips:
-            self.room_for(8)
-        if self.slips & TESTED_LATE:
-            whites = self._shade_in_turn(registers)
-        self.scanned[n] = UNMARKED not in self.slips
-        for v in whites:
-            self.shade(v)
-
-    def _shade_in_turn(self, registers):
-        """Each register is tested in the memory as those before it have left it, and shaded. What is left to shade after that: nothing."""
-        tail = self.tail
-        for v in registers:
-            try:
-                if self.white(v):
-                    self.room_for(1)
-                    self.shade(v)
-            except Refused:
-                if PASSED_OVER not in self.slips:
-                    self.tail = tail  # the control record comes back as it was: only the words show the mistake
-                    raise
-        return []
-
-    def _shells(self):
-        end = self.frontier[self.current]
-        if ALLOCATE_ENDS_EARLY in self.slips:
-            end = min(end, self.first_frontier)
-        if self.place >= end:
-            return self._handshake()
-        v, r, p = self.walked()
-        if self.at(v, 1) != WHITE and self.at(v, 2) == 0:
-            other = 1 - self.current
-            at = self.frontier[other]
-            if at + size(r, p) > len(self.half[other]):
-                raise Refused(12)
-            number = numbering.shell_number(self) if self.slips & numbering.SHELLS else self.at(v, NUMBER)
-            self._append(other, r, p, WHITE, v, number)
-            self.put(v, 2, 2 * at + 2 + other)
-        self.past(r, p)
-
-    def _copy(self):
-        if self.place >= self.frontier[self.current]:
-            return self.move_on()
-        v, r, p = self.walked()
-        t = self.at(v, 2)
-        if t == 0 or self.field >= r + p:
-            return self.past(r, p)
-        tr, tp = self.follow(t)
-        if self.field < r:
-            self.need(self.field < tr, 12)
-            self.put(t, HEADER + self.field, self.forward(self.at(v, HEADER + self.field)))
-        else:
-            i = self.field - r
-            self.need(i < tp, 12)
-            self.put(t, HEADER + tr + i, self.at(v, HEADER + r + i))
-        if self.slips & numbering.COPYING:
-            numbering.copied(self, v, t)
-        self.field += 1
-
-    def _root_flip(self):
-        if self.place >= 32:
-            return self.move_on()
-        self.globals[self.place] = self.forward(self.globals[self.place])
-        self.place += 1
-
-    def _stack_flip(self):
-        n = self.unmarked()
-        if n is None:
-            to = 1 - self.fromspace()
-            self.move_on()
-            self.current = to
-            return
-        self.registers[n] = [self.forward(v) for v in self.registers[n]]
-        self.scanned[n] = True
-
-    def _reclaim(self):
-        if not self.have_level():
-            return
-        if self.place < self.frontier[self.current]:
-            v, r, p = self.walked()
-            self.put(v, 2, 0)
-            if RECLAIM_CLEARS in self.slips:
-                self.put(v, NUMBER, 0)
-            return self.past(r, p)
-        self.frontier[1 - self.current] = 0
-        if COUNT_RECLAIMED in self.slips:
-            self.births = 0
-        self.move_on()
-        self.collections += 1

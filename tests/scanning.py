@@ -7,6 +7,7 @@ import random
 
 from chance import any_number, cross
 from damage import TOP, ref
+from funds import scatter
 from layout import HEADER, least_list, size
 from model import STEP
 from probe import ANSWER, decode, encode
@@ -213,6 +214,7 @@ def random_scan(rng):
     store.place, store.field, store.level = rng.randrange(n + 1), rng.randrange(511), rng.choices(range(7), k=16)
     store.attached, store.scanned = rng.choices([True, True, False], k=16), rng.choices([True, False], k=16)
     store.births = any_number(rng)
+    scatter(rng, store)
     s = rng.randrange(16)
     store.attached[s], store.scanned[s] = True, False
     pool = any_references(rng, store) + [v for v in crossed if is_pair(store, v) or rng.random() < 0.1] * 2

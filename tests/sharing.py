@@ -3,6 +3,7 @@ the store that all cases of tests/scanning.py set out from."""
 import itertools
 
 from damage import TOP, putting, ref
+from funds import wide
 from layout import HEADER, least_list, size_of
 from sapphire import Refused, Sapphire
 
@@ -18,7 +19,7 @@ def stage(halves, ends, registers, room, current, turn):
     """Session 3 is the lowest one without a mark that is attached, and holds these registers. Session 0 is detached, 1 and 2 have been
     scanned, 5 comes after it; they hold other ones. The list has room for so many entries. What else a scan must leave goes by turn."""
     n = len(halves[0])
-    store = Sapphire(n, max(least_list(n), room) + turn % 4)
+    store = wide(Sapphire(n, max(least_list(n), room) + turn % 4))
     store.half, store.frontier, store.current, store.phase = [list(words) for words in halves], list(ends), current, SCAN
     store.list, store.head, store.tail = listed(turn, store.capacity), store.capacity - room, store.capacity - room
     store.place, store.field, store.level = turn % (n + 1), turn % 511, [(turn + s) % 7 for s in range(16)]

@@ -101,6 +101,32 @@ SOUND_BY_3, LIST_BY_3, MAKING_COUNTS_ON = "sound by 3 + r + p words", "a list of
 NUMBER_SLIPS = [*RUN_NUMBER_SLIPS, *LINE_NUMBER_SLIPS, ASKS_BLINDLY, ASKS_REPLICA, COPY_CARRIES, NUMBER_TESTED, SOUND_BY_3, LIST_BY_3,
                 MAKING_COUNTS_ON, NUMBERS_COMPARED]
 
+# ---- shares and charges, in a session's answer that the collector-free store does not give: the runs of tests/test_shares.py
+UNFED, FED_AS_ROOM = "the collector-free store is fed 17 as fitted", "the collector-free store is fed 17 as 14"
+SHARE_BEFORE_SHAPE, CHARGE_TESTED = "17 before 10", "4 where a charge is above its share"
+FREE_SHARE_SLIPS = [SHARE_BEFORE_SHAPE, CHARGE_TESTED]
+
+# ---- shares and charges, in a line that is another one, though the collector-free store gives it too where it is fed so: the same runs
+ATTACH_CLEARS, SHARE_KEPT = "attach sets the charge to 0", "attach keeps the old share"
+REFUSED_SHARES = "an attach refused with 7 sets the share"
+DETACH_CLEARS = "detach sets the charge to 0"
+CHARGE_FORGOTTEN, SHARE_JUST_REFUSED = "17 without the charge", "17 where the share would be just filled"
+ROOM_BEFORE_SHARE, NUMBERS_BEFORE_SHARE = "14 before 17", "16 before 17"
+HEADER_FREE = "the header neither tested nor charged"
+BOTH_CHARGED, SHELLS_CHARGED, NEXT_CHARGED = "both copies charged", "shells charged to session 0", "charged to the next session"
+CHARGED_BY = {number: f"an allocation refused with {number} is charged" for number in (14, 16, 17)}
+CHARGES_STAY, ATTACHED_CLEARED = "charges stay when Reclaim ends", "charges of attached sessions alone cleared"
+CLEARED_AT_RECLAIM, CLEARED_AFTER_REST = "charges cleared when Reclaim begins too", "charges cleared when Rest is left too"
+CLEARED_WAITING = "charges cleared by a step of Reclaim that waits too"
+LINE_SHARE_SLIPS = [ATTACH_CLEARS, SHARE_KEPT, REFUSED_SHARES, DETACH_CLEARS, CHARGE_FORGOTTEN, SHARE_JUST_REFUSED, ROOM_BEFORE_SHARE,
+                    NUMBERS_BEFORE_SHARE, HEADER_FREE, BOTH_CHARGED, SHELLS_CHARGED, NEXT_CHARGED, *CHARGED_BY.values(), CHARGES_STAY, ATTACHED_CLEARED,
+                    CLEARED_AT_RECLAIM, CLEARED_AFTER_REST, CLEARED_WAITING]
+
+# ---- shares and charges, in words alone or where no run comes; these and all of the above show in the cases of tests/shares.py
+DETACH_UNSHARES = "detach sets the share to 0"  # which the next attach sets anew
+SHARE_MODULO, MAKING_KEEPS = "17 by words modulo 2^32", "making keeps shares and charges"
+SHARE_SLIPS = [*FREE_SHARE_SLIPS, *LINE_SHARE_SLIPS, DETACH_UNSHARES, SHARE_MODULO, MAKING_KEEPS]
+
 # ---- all in what is shaded and marked
 MARKING_SLIPS = MISSED_SLIPS + LINE_SLIPS + FULL_LIST_SLIPS + WORD_SLIPS
 # together they are the rules as they were before request [3]

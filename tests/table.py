@@ -1,17 +1,19 @@
 """The plain table of people, groups and pairs, written from the words of document 02 alone.
 
-It is fed the directory calls of a run in order and, for each, whether the run answered it with 14 or 16, the refusals of its allocation.
-A pair says that a person is a member of a group; people, groups and pairs are kept in the order in which they came.
+It is fed the directory calls of a run in order and, for each, whether the run answered it with 14, 16 or 17, the refusals of its
+allocation. A pair says that a person is a member of a group; people, groups and pairs are kept in the order in which they came. The share
+that open takes is nothing to it.
 """
+from model import NO_ROOM, OVER_SHARE
 
 OPEN, ADD, REMOVE, MAKE, JOIN, LEAVE, LIST = range(16, 23)  # the kinds of their entries in a script
 LAST = 99999999  # the last eight-digit number
-NOT_OPEN, OPEN_ALREADY, NO_ROOM, NO_NUMBER, UNKNOWN, ALREADY, ABSENT = 6, 7, 14, 16, 23, 24, 25
+NOT_OPEN, OPEN_ALREADY, NO_NUMBER, UNKNOWN, ALREADY, ABSENT = 6, 7, 16, 23, 24, 25
 
 
 def fed(number):
     """What the table is fed of a call that was answered with this number."""
-    return number if number in (NO_ROOM, NO_NUMBER) else 0
+    return number if number in (NO_ROOM, NO_NUMBER, OVER_SHARE) else 0
 
 
 class Table:

@@ -19,7 +19,7 @@ from explained import need
 from judge import faults
 from lifetime import FROM, TO
 from model import BIRTH, MOST_BIRTHS
-from sapphire import Sapphire
+from replaying import played, seen_in
 from slips import COUNT_RECLAIMED, COUNTED_BOTH, LINE_NUMBER_SLIPS, RUN_NUMBER_SLIPS, SHELL_RENUMBERED, SHELL_UNNUMBERED, UNCOUNTED
 
 RUNS, CALLS = 120, 3000
@@ -135,32 +135,9 @@ def check_pairs():
 
 # ---- mistakes
 
-def played(run, slip=None):
-    """The lines of a store, with a mistake or none, on the calls of a run."""
-    store, lines = Sapphire(run.store.length[0], run.store.capacity, slip, run.store.most_births), []
-    try:
-        for kind, args in run.entries:
-            lines.append(store.call(kind, args))
-    except IndexError:  # a slip may lead the store out of its halves
-        pass
-    return lines
-
-
-def fault_of(run, slip):
-    """What the collector-free store has against the lines of a run with a mistake, or None; of those that no session can tell, the line
-    that differs."""
-    lines = played(run, slip)
-    if slip in RUN_NUMBER_SLIPS:
-        return next(faults(run.entries, lines, most_births=run.store.most_births), None)
-    right = played(run)
-    return next((f"entry {n}: {a}, not {b}" for n, (a, b) in enumerate(zip(lines, right), 1) if a != b), None)
-
-
 def check_slips(runs):
     for slip in RUN_NUMBER_SLIPS + LINE_NUMBER_SLIPS:
-        seen = next((f"random run {seed}, {fault}" for seed, run in enumerate(runs) if (fault := fault_of(run, slip))), None)
-        need(seen, f"the slip '{slip}' is not seen")
-        print(f"test_birth: '{slip}' is seen: {seen}")
+        print(f"test_birth: '{slip}' is seen: {seen_in(runs, slip, slip in RUN_NUMBER_SLIPS)}")
     limited = next(run for run in runs if run.store.births == run.store.most_births)
     fault = next(faults(limited.entries, played(limited)), None)
     need(fault, "a collector-free store without 16 is not seen")

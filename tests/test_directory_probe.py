@@ -20,7 +20,7 @@ from table import NO_NUMBER, NO_ROOM, Table, fed
 RANDOM = 6000
 # the refusals that each call has, by document 02
 WALK = {4, 6, 12, 13, 23, 26}
-ALLOCATING = WALK | {14, 16, 24}
+ALLOCATING = WALK | {14, 16, 17, 24}
 REFUSALS = {OPEN: {4, 7}, ADD: ALLOCATING, REMOVE: WALK, MAKE_GROUP: ALLOCATING, JOIN: ALLOCATING, LEAVE: WALK | {25}, LIST: WALK}
 
 

@@ -8,17 +8,18 @@ use Rattle.rules.specs.Refusals.{Reply}
 use Rattle.rules.specs.Memory.{half, frontier, withHalf, withFrontier, reference, halfOf, wordOf, inHalf, shapeWord, refsOf, plainsOf, newRecord, word, put, colour, replica, birthNumber, refs, plains, size, append, nextReference, sound, pointsBack, followable, followed, copyOf, otherCopy, forward}
 use Rattle.rules.specs.Control.{sessionCount, globalCount, halfAllowed, listAllowed, lengthsAllowed, sameLengths, walkLimit, inRange, making, withBirths, Store}
 use Rattle.rules.specs.Cycle.{atRest, atAllocate, atReclaim}
-use Rattle.rules.specs.Phases.{levelOf, nextPhase, otherHalf, fromspace, tospace, sessionAt, withSession, register, unmarked, moveOn}
+use Rattle.rules.specs.Phases.{levelOf, nextPhase, otherHalf, fromspace, tospace, sessionAt, withSession, register, unmarked, uncharged, moveOn}
 use Rattle.rules.specs.Barriers.{toShade, listRoom, shading, shade, listing, shadingAll, shadesAt, shadesOldAt, copiesAt, barrierShades, shadeBoth, replicaFor, ownWord, replicaWord, storeWrites, putBoth, sameAt, roomIn, allocationRoom, placed, allocated, allocatedReference}
 use Rattle.rules.specs.Calls as calls
 use Rattle.rules.specs.Collector as collector
 use Rattle.rules.specs.Runs.{Call, Attach, SafePoint, Allocate, Load, StoreRef, Read, Write, Clear, Birth, Step, run, after, spent}
+use Rattle.rules.specs.Script.{scriptShare}
 use Rattle.rules.specs.Examples.{makingOf, small, replyNumber, replyValue, numbers, values, starred}
 use Rattle.rules.specs.Claims.{Starred}
 
 -- opens every definition that a closed run computes with
 unfoldable pub rules : Unit {0}
-unfolding small numbers values halfAllowed listAllowed lengthsAllowed sameLengths walkLimit inRange half frontier withHalf withFrontier reference halfOf wordOf inHalf shapeWord refsOf plainsOf newRecord word put colour replica birthNumber refs plains size append nextReference sound pointsBack followable followed copyOf otherCopy forward levelOf nextPhase otherHalf fromspace tospace sessionAt withSession register unmarked moveOn toShade listRoom shading shade listing shadingAll shadesAt shadesOldAt copiesAt barrierShades shadeBoth replicaFor ownWord replicaWord storeWrites putBoth roomIn allocationRoom placed allocated allocatedReference calls.sessionOf calls.operandsOf calls.recordOf calls.withRegister calls.attach calls.safePoint calls.numberLeft calls.allocate calls.loadPlan calls.load calls.storePlan calls.storeCommit calls.store calls.read calls.birth calls.writePlan calls.writeCommit calls.write calls.clear collector.walked collector.below collector.pastRecord collector.haveLevel collector.rest collector.handshake collector.rootMark collector.scanRecord collector.scanSession collector.heapMark collector.needsShell collector.shellOf collector.withShell collector.allocateShells collector.copyRef collector.copyPlain collector.copyField collector.copy collector.rootFlip collector.stackFlip collector.reclaim collector.step calls.same making makingOf sameAt
+unfolding small numbers values halfAllowed listAllowed lengthsAllowed sameLengths walkLimit inRange half frontier withHalf withFrontier reference halfOf wordOf inHalf shapeWord refsOf plainsOf newRecord word put colour replica birthNumber refs plains size append nextReference sound pointsBack followable followed copyOf otherCopy forward levelOf nextPhase otherHalf fromspace tospace sessionAt withSession register unmarked uncharged moveOn toShade listRoom shading shade listing shadingAll shadesAt shadesOldAt copiesAt barrierShades shadeBoth replicaFor ownWord replicaWord storeWrites putBoth roomIn allocationRoom placed allocated allocatedReference calls.sessionOf calls.operandsOf calls.recordOf calls.withRegister calls.attach calls.safePoint calls.withinShare calls.numberLeft calls.charged calls.allocate calls.loadPlan calls.load calls.storePlan calls.storeCommit calls.store calls.read calls.birth calls.writePlan calls.writeCommit calls.write calls.clear collector.walked collector.below collector.pastRecord collector.haveLevel collector.rest collector.handshake collector.rootMark collector.scanRecord collector.scanSession collector.heapMark collector.needsShell collector.shellOf collector.withShell collector.allocateShells collector.copyRef collector.copyPlain collector.copyField collector.copy collector.rootFlip collector.stackFlip collector.reclaim collector.step calls.same making makingOf sameAt
 rules = tt
 
 pub starred-hold : Starred
@@ -27,7 +28,7 @@ starred-hold = refl
 
 -- ---- the script example of document 01, in halves of 16 words
 script : List Call
-script = Attach 0 ∷ Allocate 0 0 1 1 ∷ Write 0 0 0 7 ∷ Step ∷ SafePoint 0 ∷ Read 0 0 0 ∷ []
+script = Attach 0 scriptShare ∷ Allocate 0 0 1 1 ∷ Write 0 0 0 7 ∷ Step ∷ SafePoint 0 ∷ Read 0 0 0 ∷ []
 
 script-numbers : numbers script ≡ replicate 6 0
 unfolding rules script
@@ -40,7 +41,7 @@ script-values = refl
 -- ---- a whole collection: a record of 6 words that names one of 5, and a third of 5 that nothing names
 before : List Call
 before =
-    Attach 0 ∷ Allocate 0 0 1 1 ∷ Allocate 0 1 0 1 ∷ Write 0 1 0 42 ∷ StoreRef 0 0 0 1 ∷ Allocate 0 2 0 1 ∷ Clear 0 1
+    Attach 0 scriptShare ∷ Allocate 0 0 1 1 ∷ Allocate 0 1 0 1 ∷ Write 0 1 0 42 ∷ StoreRef 0 0 0 1 ∷ Allocate 0 2 0 1 ∷ Clear 0 1
     ∷ Clear 0 2 ∷ []
 
 -- n steps, each after a safe point
@@ -77,9 +78,9 @@ births = refl
 
 -- ---- a record allocated while the collection runs, in both halves: the copy that is left has its birth number too
 during : List Call
-during = Attach 0 ∷ steps 38 ++ (SafePoint 0 ∷ Allocate 0 0 0 1 ∷ []) ++ steps 45
+during = Attach 0 scriptShare ∷ steps 38 ++ (SafePoint 0 ∷ Allocate 0 0 0 1 ∷ []) ++ steps 45
 
-both-halves : seen (after small (Attach 0 ∷ steps 38 ++ (SafePoint 0 ∷ Allocate 0 0 0 1 ∷ []))) ≡ atAllocate ∷ 5 ∷ 5 ∷ []
+both-halves : seen (after small (Attach 0 scriptShare ∷ steps 38 ++ (SafePoint 0 ∷ Allocate 0 0 0 1 ∷ []))) ≡ atAllocate ∷ 5 ∷ 5 ∷ []
 unfolding rules steps seen
 both-halves = refl
 
@@ -93,7 +94,7 @@ copy-birth = refl
 
 -- ---- the last birth number is given, then 16 comes; where there is no room either, 14
 spentNumbers : List Reply
-spentNumbers = run (withBirths small 4294967294) (Attach 0 ∷ Allocate 0 0 4 4 ∷ Birth 0 0 ∷ Allocate 0 1 0 0 ∷ Allocate 0 1 1 0 ∷ [])
+spentNumbers = run (withBirths small 4294967294) (Attach 0 scriptShare ∷ Allocate 0 0 4 4 ∷ Birth 0 0 ∷ Allocate 0 1 0 0 ∷ Allocate 0 1 1 0 ∷ [])
 
 last-number : map replyValue spentNumbers ≡ 0 ∷ 0 ∷ 4294967295 ∷ 0 ∷ 0 ∷ []
 unfolding rules spentNumbers
@@ -113,7 +114,7 @@ everyone c (suc n) = c n ∷ everyone c n
 -- sixteen sessions attach and make the calls cs; then up to the last step that begins in phase 4, of which there are n
 marked : List Call → ℕ → List Call
 marked cs n =
-    everyone Attach sessionCount ++ cs ++ (Step ∷ everyone SafePoint sessionCount) ++ (Step ∷ everyone SafePoint sessionCount)
+    everyone (λ n. Attach n scriptShare) sessionCount ++ cs ++ (Step ∷ everyone SafePoint sessionCount) ++ (Step ∷ everyone SafePoint sessionCount)
     ++ (Step ∷ replicate (globalCount + 1) Step) ++ replicate n Step
 
 -- the steps that began in phase 4, the used words of the current half, and the phase

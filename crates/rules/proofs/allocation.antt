@@ -18,6 +18,7 @@ pub mod Shell
 -- 5 Allocate: the walk, the whole unit
 pub mod WalkOn
 pub mod AllocateShells
--- allocate: what it writes at each level, the call
+-- allocate: what it writes at each level, the call, how it ends
 pub mod Allocated
 pub mod Allocate
+pub mod Outcome

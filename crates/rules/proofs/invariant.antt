@@ -33,6 +33,9 @@ pub mod Counted
 pub mod Places
 -- the record at the walk, and the walk moved
 pub mod Walked
+-- shares and charges, which it doesn't read; room for what the shares leave
+pub mod Accounts
+pub mod Room
 -- the bound on marking, and what steps add to it
 pub mod Spent
 pub mod Spending

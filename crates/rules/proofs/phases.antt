@@ -17,3 +17,5 @@ pub mod StackFlip
 pub mod Clear
 pub mod Reclaimed
 pub mod Reclaim
+-- on any store: charges when Reclaim ends
+pub mod Uncharged

@@ -19,3 +19,5 @@ pub mod Claims
 -- claim 7: marking ends; in HeapMark marks stay
 pub mod MarkingEnds
 pub mod MarksStay
+-- shares and charges, and room for what the shares leave
+pub mod Shares

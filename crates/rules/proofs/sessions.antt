@@ -9,6 +9,8 @@ pub mod Session
 pub mod Registers
 -- attach, detach, and the safe point
 pub mod Attaching
+-- what an attach that isn't refused leaves of its session
+pub mod Given
 -- the fields of a record in a register; load, read, and the stretch
 pub mod Values
 pub mod Reading

@@ -6,10 +6,10 @@ use mathlib.Core.List.{List}
 use lib.Dec.{leb, ltb, eqb}
 use lib.ListN.{getD, set, take, drop}
 use Rattle.rules.specs.Refusals.{Tested, passed, check, _>>=_, _>>_, Outcome, done, answered}
-use Rattle.rules.specs.Memory.{half, null, halfOf, wordOf, header, mostCount, word, birthNumber, refs, plains, refField, plainField, followed}
+use Rattle.rules.specs.Memory.{half, null, halfOf, wordOf, header, mostCount, sizeOf, word, birthNumber, refs, plains, refField, plainField, followed}
 use Rattle.rules.specs.Cycle.{atHeapMark}
 use Rattle.rules.specs.Control.{Store, withMemory, withGlobals, withBirths, inRange, mostBirths, lastSession, lastRegister, lastGlobal}
-use Rattle.rules.specs.Phases.{levelOf, sessionAt, withSession, register, withRegisters, withLevel, attachedAt, detached}
+use Rattle.rules.specs.Phases.{levelOf, sessionAt, withSession, register, withRegisters, withLevel, withCharge, attachedAt, detached}
 use Rattle.rules.specs.Barriers.{heapOf, shadeBoth, replicaFor, storeWrites, putWrites, putBoth, sameAt, allocationRoom, nextBirth, allocated, allocatedReference}
 use Rattle.rules.specs.declared.Session.{Session}
 use Rattle.rules.specs.declared.Operands.{Operands}
@@ -38,6 +38,10 @@ isGlobal g = leb g lastGlobal
 abbrev pub isShape : ℕ → ℕ → Bool
 isShape r p = leb r mostCount && leb p mostCount
 
+-- 17: "refuses an allocation that would pass the share"; no bound on what is compared
+unfoldable pub withinShare : Session → ℕ → ℕ → Bool
+withinShare x r p = leb (x .charge + sizeOf r p) (x .share)
+
 -- 16: "refuses allocation once 4,294,967,295 numbers are used", by how many are
 unfoldable pub numberLeft : ℕ → Bool
 numberLeft used = ltb used mostBirths
@@ -62,17 +66,22 @@ recordOf s n k o = do
 unfoldable pub withRegister : Store → ℕ → ℕ → ℕ → Store
 withRegister s n k v = withSession s n (withRegisters (sessionAt s n) (set (sessionAt s n .registers) k v))
 
+-- request [7]: the store with n more words charged to session number m
+unfoldable pub charged : Store → ℕ → ℕ → Store
+charged s m n = withSession s m (withCharge (sessionAt s m) (sessionAt s m .charge + n))
+
 -- ---- the calls
 
--- "level becomes the phase's level, registers null, unscanned"; request [3]: "a session attached in phase 4 counts as scanned"
-unfoldable pub attach : Store → ℕ → Tested (Outcome Store)
-attach s n = do
+-- "level becomes the phase's level, registers null, unscanned"; request [3]: "a session attached in phase 4 counts as scanned"; request [7]:
+-- "Attach and the directory's open now take a share in words"; the charge stays "across detach and attach"
+unfoldable pub attach : Store → ℕ → ℕ → Tested (Outcome Store)
+attach s n share = do
   check (inRange s) 4
   check (leb n lastSession) 5
   check (not (sessionAt s n .attached)) 7
-  done (withSession s n (attachedAt (levelOf (s .phase)) (eqb (s .phase) atHeapMark)))
+  done (withSession s n (attachedAt (sessionAt s n) share (levelOf (s .phase)) (eqb (s .phase) atHeapMark)))
 
--- "registers null, level 0"
+-- "registers null, level 0"; share and charge stay
 unfoldable pub detach : Store → ℕ → Tested (Outcome Store)
 detach s n = do
   x ← sessionOf s n
@@ -84,15 +93,17 @@ safePoint s n = do
   x ← sessionOf s n
   done (withSession s n (withLevel x (levelOf (s .phase))))
 
--- "register gets a record of zero fields"
+-- "register gets a record of zero fields"; request [7]: "Allocated words, each record's once, are charged to the session number"
 unfoldable pub allocate : Store → ℕ → ℕ → ℕ → ℕ → Tested (Outcome Store)
 allocate s n k r p = do
   x ← sessionOf s n
   check (isRegister k) 8
   check (isShape r p) 10
+  check (withinShare x r p) 17
   check (allocationRoom s (x .level) r p) 14
   check (numberLeft (s .births)) 16
-  done (withRegister (withBirths (withMemory s (allocated s (x .level) r p)) (nextBirth s)) n k (allocatedReference s (x .level)))
+  let t = withBirths (withMemory s (allocated s (x .level) r p)) (nextBirth s)
+  done (charged (withRegister t n k (allocatedReference s (x .level))) n (sizeOf r p))
 
 -- the word that the register of a load gets
 unfoldable pub loadPlan : Store → ℕ → ℕ → ℕ → ℕ → Tested ℕ

@@ -1,19 +1,20 @@
--- The claims about the rules. Together with the contracts of the code they say points 1, 2 and 3, and requests [3], [5] and [6].
-use Prim.Native.Nat.{ℕ, _+_, _≤_, _<_}
+-- The claims about the rules. Together with the contracts of the code they say points 1, 2 and 3, and requests [3], [5], [6] and [7].
+use Prim.Native.Nat.{ℕ, suc, _+_, _-_, _≤_, _<_}
 use mathlib.Core.Path.{_≡_}
 use mathlib.Core.Logic.{_≢_, _⊎_}
 use mathlib.Core.Bool.{true}
 use mathlib.Core.List.{List, [], _∷_, map, List·Memᴰ}
 use lib.ListN.{getD, length, take}
 use Rattle.rules.specs.Refusals.{passed, answer, doneOr}
-use Rattle.rules.specs.Memory.{Memory, frontier, null, reference, halfOf, shapeAt, word, replica, birthNumber, refs, plains, size, sound, followed}
+use Rattle.rules.specs.Memory.{Memory, frontier, null, reference, halfOf, shapeAt, word, replica, birthNumber, refs, plains, sizeOf, size, sound, followed}
 use Rattle.rules.specs.Cycle.{atRest, atHeapMark, atReclaim}
 use Rattle.rules.specs.Control.{Store, make, inRange, sessionCount}
 use Rattle.rules.specs.Phases.{otherHalf, sessionAt}
-use Rattle.rules.specs.Runs.{Call, Attach, SafePoint, Step, apply, after, isSession, isAllocation, sessionCalls, sessionRun, fedBy, feeds, steps, spent}
+use Rattle.rules.specs.Runs.{Call, Attach, SafePoint, Allocate, Step, apply, after, isSession, isAllocation, sessionCalls, sessionRun, fedBy, feeds, steps, spent}
 use Rattle.rules.specs.Free.{Free, newFree, freeSession, freeRegister, freeSessionOf, freeApply, freeRun}
 use Rattle.rules.specs.Tracking.{Beside, newBeside, beside, Reached, recordsOf, wordsAt}
 use Rattle.rules.specs.Examples.{starred}
+use Rattle.rules.specs.declared.Session.{Session}
 use Rattle.rules.specs.declared.Answer.the-variants.{Refused, Done}
 
 -- a store from a making that wasn't refused, "whatever words halves and list then hold"
@@ -56,7 +57,8 @@ Filled = (s : Store) → Made s → (cs : List Call) (h : ℕ) → h < 2 → Fil
 
 -- ---- 3. Two runs
 -- Point 3: "two runs with the same calls agree exactly when the same allocations met no room". The calls are the session calls;
--- collector steps, safe points, lengths and first words are each run's own.
+-- collector steps, safe points, lengths and first words are each run's own. Request [7]: "Equality of runs takes share refusals beside those for
+-- room, number for number": what is fed says of each allocation which of the two it was, if any.
 unfoldable pub TwoRuns : Type 0
 TwoRuns =
     (s t : Store) → Made s → Made t → (cs ds : List Call) → sessionCalls cs ≡ sessionCalls ds
@@ -133,15 +135,15 @@ LiveFits =
     → ((i j : ℕ) → i < length qs → j < length qs → getD qs i 0 ≡ getD qs j 0 → i ≡ j)
     → wordsAt (freeAfter s cs) qs ≤ after s cs .lengths .half0
 
--- the numbers that only an allocation is refused with: no room, and no birth number left
+-- the numbers that only an allocation is refused with: no room, no birth number left, and past the share
 abbrev pub allocationNumbers : List ℕ
-allocationNumbers = 14 ∷ 16 ∷ []
+allocationNumbers = 14 ∷ 16 ∷ 17 ∷ []
 
 -- the numbers that a call may be refused with; 1 to 3 are of making
 abbrev pub storeNumbers : List ℕ
 storeNumbers = 4 ∷ 5 ∷ 6 ∷ 7 ∷ 8 ∷ 9 ∷ 10 ∷ 11 ∷ 12 ∷ 13 ∷ allocationNumbers
 
--- no call of any store is refused with another number, and only an allocation with 14 or 16: a number that a crate above gives meaning to
+-- no call of any store is refused with another number, and only an allocation with 14, 16 or 17: a number that a crate above gives meaning to
 -- comes from no store call
 unfoldable pub Numbers : Type 0
 Numbers =
@@ -193,8 +195,8 @@ MarksStay =
 -- "a session attached in phase 4 counts as scanned": in every run
 unfoldable pub AttachedScanned : Type 0
 AttachedScanned =
-    (s : Store) → Made s → (cs : List Call) (n : ℕ) → after s cs .phase ≡ atHeapMark → apply (after s cs) (Attach n) .reply ≡ answer Done
-    → sessionAt (apply (after s cs) (Attach n) .store) n .scanned ≡ true
+    (s : Store) → Made s → (cs : List Call) (n share : ℕ) → after s cs .phase ≡ atHeapMark → apply (after s cs) (Attach n share) .reply ≡ answer Done
+    → sessionAt (apply (after s cs) (Attach n share) .store) n .scanned ≡ true
 
 -- ---- 8. Replicas point back
 -- Request [5], of a replica w of v: "a record in the other half, sound by the old test, with equal word 0 and a replica word naming this one"
@@ -248,3 +250,75 @@ BirthsDiffer =
     (s : Store) → Made s → (cs : List Call) (h : ℕ) → h < 2 → (u v : ℕ)
     → List·Memᴰ u (recordsOf (after s cs .memory) h) → List·Memᴰ v (recordsOf (after s cs .memory) h)
     → birthNumber (after s cs .memory) u ≡ birthNumber (after s cs .memory) v → u ≡ v
+
+-- ---- 10. Shares
+-- Request [7]: "A share .. stays until its number's next attach": on every store, no call but an attach of that number changes a share
+unfoldable pub SharesStay : Type 0
+SharesStay =
+    (s : Store) (c : Call) (n : ℕ) → ((share : ℕ) → c ≢ Attach n share) → sessionAt (apply s c .store) n .share ≡ sessionAt s n .share
+
+-- an attach that isn't refused gives the number its share
+unfoldable pub ShareGiven : Type 0
+ShareGiven =
+    (s : Store) → Made s → (cs : List Call) (n share : ℕ) → apply (after s cs) (Attach n share) .reply ≡ answer Done
+    → sessionAt (apply (after s cs) (Attach n share) .store) n .share ≡ share
+
+-- a step of s ends Reclaim
+abbrev pub EndsReclaim : Store → Type 0
+EndsReclaim s = (s .phase ≡ atReclaim) × (apply s Step .store .phase ≡ atRest)
+
+-- "Allocated words .. are charged to the session number across detach and attach": on every store, no call but an allocation of that number
+-- and the step that ends Reclaim changes a charge
+unfoldable pub ChargesStay : Type 0
+ChargesStay =
+    (s : Store) (c : Call) (n : ℕ) → ((k r p : ℕ) → c ≢ Allocate n k r p) → (c ≡ Step → EndsReclaim s → ⊥)
+    → sessionAt (apply s c .store) n .charge ≡ sessionAt s n .charge
+
+-- "each record's once": an allocation that isn't refused charges the record's words, whether it is written to one half or to both
+unfoldable pub ChargeGrows : Type 0
+ChargeGrows =
+    (s : Store) → Made s → (cs : List Call) (n k r p : ℕ) → apply (after s cs) (Allocate n k r p) .reply ≡ answer Done
+    → sessionAt (apply (after s cs) (Allocate n k r p) .store) n .charge ≡ sessionAt (after s cs) n .charge + sizeOf r p
+
+-- "charges return to 0 when Reclaim ends": on every store, each number's, attached or not
+unfoldable pub ChargesEnd : Type 0
+ChargesEnd = (s : Store) (n : ℕ) → EndsReclaim s → sessionAt (apply s Step .store) n .charge ≡ 0
+
+-- the current half's used words
+abbrev pub usedWords : Store → ℕ
+usedWords s = frontier (s .memory) (s .current)
+
+-- "all shares" together, of sessions that aren't attached too
+abbrev pub allShares : List Session → ℕ
+allShares [] = 0
+allShares (x ∷ xs) = x .share + allShares xs
+
+-- "no share changes": after each call of ds every share is what it was in t
+abbrev pub SharesKept : Store → List Call → Type 0
+SharesKept t ds = (i n : ℕ) → sessionAt (after t (take i ds)) n .share ≡ sessionAt t n .share
+
+-- "In runs as in point 3, suppose that, then, used words plus all shares fit in the half and no share changes: no session within its share meets 14
+-- before the next Reclaim begins". "Then" is just after a step that ended Reclaim, t the store there; after no call of ds is the phase 12.
+-- No allocation answers 14: one that would pass its share answers 17.
+unfoldable pub ShareAfterReclaim : Type 0
+ShareAfterReclaim =
+    (s : Store) → Made s → (cs : List Call) → EndsReclaim (after s cs)
+    → let t = apply (after s cs) Step .store in
+    usedWords t + allShares (t .sessions) ≤ t .lengths .half0
+    → (ds : List Call) → SharesKept t ds → ((i : ℕ) → after t (take i ds) .phase ≢ atReclaim)
+    → (n k r p : ℕ) → apply (after t ds) (Allocate n k r p) .reply ≢ answer (Refused 14)
+
+-- what the shares leave to all sessions together: of each share what isn't charged, or nothing where the charge is above it
+abbrev pub sharesLeft : List Session → ℕ
+sharesLeft [] = 0
+sharesLeft (x ∷ xs) = (x .share - x .charge) + sharesLeft xs
+
+-- stronger: from every moment outside Reclaim on, with what the shares leave then, and until the next Reclaim ends
+unfoldable pub RoomForShares : Type 0
+RoomForShares =
+    (s : Store) → Made s → (cs : List Call)
+    → let t = after s cs in
+    t .phase ≢ atReclaim → usedWords t + sharesLeft (t .sessions) ≤ t .lengths .half0
+    → (ds : List Call) → SharesKept t ds
+    → ((i : ℕ) → after t (take i ds) .phase ≡ atReclaim → after t (take (suc i) ds) .phase ≢ atRest)
+    → (n k r p : ℕ) → apply (after t ds) (Allocate n k r p) .reply ≢ answer (Refused 14)

@@ -7,7 +7,7 @@ use lib.ListN.{getD, set, length}
 use Rattle.rules.specs.Refusals.{Tested, passed, check, _>>=_, _>>_, Outcome, answered}
 use Rattle.rules.specs.Memory.{Memory, half, frontier, withFrontier, null, reference, white, black, shapeAt, colourAt, replicaAt, newRecord, word, put, colour, replica, birthNumber, refs, plains, size, refField, plainField, append, nextReference, followed, forward}
 use Rattle.rules.specs.Control.{Store, withMemory, withWalk, withList, withGlobals, withCurrent, inRange, globalCount}
-use Rattle.rules.specs.Phases.{levelOf, otherHalf, tospace, sessionAt, withSession, withRegisters, withMark, allAt, lowestUnmarked, moveOn}
+use Rattle.rules.specs.Phases.{levelOf, otherHalf, tospace, sessionAt, withSession, withRegisters, withMark, uncharged, allAt, lowestUnmarked, moveOn}
 use Rattle.rules.specs.Barriers.{heapOf, shading, shade, shadingAll, shadeAll}
 use Rattle.rules.specs.declared.Answer.the-variants.{Phase}
 
@@ -156,7 +156,7 @@ stackFlip s =
     (passed (withCurrent (moveOn s) (tospace s)))
 
 -- 12 Reclaim: "if some attached session isn't at level 0, nothing. Else below the current frontier set the next record's
--- replica word to 0. At the frontier the other half's frontier becomes 0 and the step moves on"
+-- replica word to 0. At the frontier the other half's frontier becomes 0 and the step moves on". Request [7]: "charges return to 0 when Reclaim ends"
 unfoldable pub reclaim : Store → Tested Store
 reclaim s =
     let M = s .memory in
@@ -164,7 +164,7 @@ reclaim s =
     cond (not (haveLevel s)) (passed s)
     (cond (below s)
     (do followed M v; passed (pastRecord s (put M v replicaAt null)))
-    (passed (moveOn (withMemory s (withFrontier M (otherHalf (s .current)) 0)))))
+    (passed (uncharged (moveOn (withMemory s (withFrontier M (otherHalf (s .current)) 0))))))
 
 -- the rule of each phase
 abbrev pub units : List (Store → Tested Store)

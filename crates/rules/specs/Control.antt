@@ -223,9 +223,9 @@ mostBirths = 4294967295
 
 -- ---- making
 
--- nobody attached, every number 0
+-- nobody attached, every number 0; request [7]: "A share starts at 0"
 abbrev pub nobody : Session
-nobody = record { registers = replicate registerCount null; level = 0; attached = false; scanned = false }
+nobody = record { registers = replicate registerCount null; level = 0; share = 0; charge = 0; attached = false; scanned = false }
 
 -- "A newly made control record has every number 0 and nobody attached, the three lengths apart", over the lent words
 abbrev pub newStore : Lengths → List ℕ → List ℕ → List ℕ → Store

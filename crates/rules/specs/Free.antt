@@ -9,7 +9,7 @@ use Rattle.rules.specs.Refusals.{Tested, passed, check, _>>=_, _>>_, Out
 use Rattle.rules.specs.Memory.{null}
 use Rattle.rules.specs.Control.{globalCount, sessionCount, registerCount, lastSession}
 use Rattle.rules.specs.Calls.{isRegister, isGlobal, isShape, numberLeft}
-use Rattle.rules.specs.Runs.{Call, Attach, Detach, SafePoint, Allocate, Load, StoreRef, Read, Write, Move, Clear, SameAs, Get, Put, Stretch, Companion, Birth, Step, isAllocation, Fed, fitted, noRoom}
+use Rattle.rules.specs.Runs.{Call, Attach, Detach, SafePoint, Allocate, Load, StoreRef, Read, Write, Move, Clear, SameAs, Get, Put, Stretch, Companion, Birth, Step, isAllocation, Fed, fitted, overShare, noRoom}
 use Rattle.rules.specs.declared.Answer.the-variants.{Done, Word, Same}
 
 -- ---- what it keeps
@@ -102,9 +102,15 @@ freeDetach f n = do
   x ← freeSessionOf f n
   done (withFreeSession f n freeNobody)
 
--- what is fed says whether there was room
+-- what is fed says whether the share was enough, and whether there was room
+abbrev pub fedShare : Fed → Bool
+fedShare fitted = true
+fedShare overShare = false
+fedShare noRoom = true
+
 abbrev pub fedRoom : Fed → Bool
 fedRoom fitted = true
+fedRoom overShare = true
 fedRoom noRoom = false
 
 -- the store with a new record of r nulls and p zeros, whose place is in register k of session n
@@ -119,12 +125,14 @@ freeAllocated f n k r p =
     n k (suc (length (f .records)))
 
 -- "Allocate answers 14 where that was fed, changing nothing; else it appends a record of r nulls and p zeros and puts its place in the
--- register". Request [6]: "16, after 14, refuses allocation once 4,294,967,295 numbers are used, there too"
+-- register". Request [6]: "16, after 14, refuses allocation once 4,294,967,295 numbers are used, there too". Request [7]: "the collector-free store
+-- is fed them likewise, answers 17 there and changes nothing"
 unfoldable pub freeAllocate : Free → ℕ → ℕ → ℕ → ℕ → Fed → Tested (Outcome Free)
 freeAllocate f n k r p fed = do
   x ← freeSessionOf f n
   check (isRegister k) 8
   check (isShape r p) 10
+  check (fedShare fed) 17
   check (fedRoom fed) 14
   check (numberLeft (length (f .records))) 16
   done (freeAllocated f n k r p)
@@ -214,7 +222,7 @@ freeStretch f n k = do
 
 -- what a call leaves; safe points and steps are not fed to it
 abbrev pub freeApply : Free → Call → Fed → Outcome Free
-freeApply f (Attach n) fed = settle f (freeAttach f n)
+freeApply f (Attach n share) fed = settle f (freeAttach f n)
 freeApply f (Detach n) fed = settle f (freeDetach f n)
 freeApply f (SafePoint n) fed = record { store = f; reply = answer Done }
 freeApply f (Allocate n k r p) fed = settle f (freeAllocate f n k r p fed)
@@ -242,7 +250,7 @@ laterFed [] = []
 laterFed (x ∷ xs) = xs
 
 -- "The collector-free store is fed a run's calls and arguments in order, safe points and collector steps left out,
--- and for each allocation whether the run answered it with 14; no more"
+-- and for each allocation whether the run answered it with 14; no more"; request [7]: or with 17
 abbrev pub freeRun : Free → List Call → List Fed → List Reply
 freeRun f [] fs = []
 freeRun f (c ∷ cs) fs =

@@ -3,11 +3,11 @@ use Prim.Native.Nat.{ℕ, suc, _-_}
 use mathlib.Core.Bool.{Bool, true, false, cond, not, _&&_, _||_}
 use mathlib.Core.List.{List, [], _∷_, map}
 use lib.Dec.{eqb}
-use lib.ListN.{getD, set}
+use lib.ListN.{getD, set, replicate}
 use Rattle.rules.specs.Memory.{null}
 use Rattle.rules.specs.Cycle.{atReclaim}
 unfoldable pub use Rattle.rules.specs.Cycle.{levelOf, nextPhase}
-use Rattle.rules.specs.Control.{Store, withSessions, nobody}
+use Rattle.rules.specs.Control.{Store, withSessions, registerCount}
 use Rattle.rules.specs.declared.Session.{Session}
 
 -- ---- fromspace and tospace
@@ -26,7 +26,7 @@ tospace s = otherHalf (fromspace s)
 
 -- what stands past the last session; no call reaches it
 abbrev pub absent : Session
-absent = record { registers = []; level = 0; attached = false; scanned = false }
+absent = record { registers = []; level = 0; share = 0; charge = 0; attached = false; scanned = false }
 
 unfoldable pub sessionAt : Store → ℕ → Session
 sessionAt s n = getD (s .sessions) n absent
@@ -37,31 +37,45 @@ withSession s n x = withSessions s (set (s .sessions) n x)
 unfoldable pub register : Session → ℕ → ℕ
 register x k = getD (x .registers) k null
 
+-- ---- a session with one part changed
+
 abbrev pub withRegisters : Session → List ℕ → Session
-withRegisters x vs = record { registers = vs; level = x .level; attached = x .attached; scanned = x .scanned }
+withRegisters x vs = record { registers = vs; level = x .level; share = x .share; charge = x .charge; attached = x .attached; scanned = x .scanned }
+
+abbrev pub withLevel : Session → ℕ → Session
+withLevel x l = record { registers = x .registers; level = l; share = x .share; charge = x .charge; attached = x .attached; scanned = x .scanned }
+
+abbrev pub withShare : Session → ℕ → Session
+withShare x n = record { registers = x .registers; level = x .level; share = n; charge = x .charge; attached = x .attached; scanned = x .scanned }
+
+abbrev pub withCharge : Session → ℕ → Session
+withCharge x n = record { registers = x .registers; level = x .level; share = x .share; charge = n; attached = x .attached; scanned = x .scanned }
+
+abbrev pub withAttached : Session → Bool → Session
+withAttached x b = record { registers = x .registers; level = x .level; share = x .share; charge = x .charge; attached = b; scanned = x .scanned }
 
 abbrev pub withMark : Session → Bool → Session
-withMark x b = record { registers = x .registers; level = x .level; attached = x .attached; scanned = b }
+withMark x b = record { registers = x .registers; level = x .level; share = x .share; charge = x .charge; attached = x .attached; scanned = b }
 
--- a session at another level
-abbrev pub withLevel : Session → ℕ → Session
-withLevel x l = record { registers = x .registers; level = l; attached = x .attached; scanned = x .scanned }
+-- registers null, attached or not; the rest stays
+abbrev pub cleared : Session → Bool → Session
+cleared x b = withAttached (withRegisters x (replicate registerCount null)) b
 
--- a session attached, or not
-abbrev pub withAttached : Session → Bool → Session
-withAttached x b = record { registers = x .registers; level = x .level; attached = b; scanned = x .scanned }
+-- a session newly attached at level l, with a scanned mark or without. Request [7]: it gets the share, and the charge stays
+abbrev pub attachedAt : Session → ℕ → ℕ → Bool → Session
+attachedAt x share l b = withMark (withLevel (withShare (cleared x true) share) l) b
 
--- a session newly attached at level l: registers null, with a scanned mark or without
-abbrev pub attachedAt : ℕ → Bool → Session
-attachedAt l b = withMark (withLevel (withAttached nobody true) l) b
-
--- "registers null, level 0"; the scanned mark stays
+-- "registers null, level 0"; the scanned mark stays, and share and charge
 abbrev pub detached : Session → Session
-detached x = withMark nobody (x .scanned)
+detached x = withLevel (cleared x false) 0
 
 -- no session has a scanned mark
 unfoldable pub unmarked : List Session → List Session
 unmarked = map (λ x. withMark x false)
+
+-- request [7]: nothing is charged to a session, of all sixteen
+unfoldable pub uncharged : Store → Store
+uncharged s = withSessions s (map (λ x. withCharge x 0) (s .sessions))
 
 -- "every attached session has the level"
 abbrev pub allAt : ℕ → List Session → Bool

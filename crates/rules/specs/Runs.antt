@@ -13,7 +13,7 @@ use Rattle.rules.specs.declared.Answer.the-variants.{Refused, Done, Word
 
 -- the calls, with their arguments in the script's order; the stretch, its companion and the birth number are in no script
 pub data Call : Type 0 where
-  Attach : ℕ → Call
+  Attach : ℕ → ℕ → Call
   Detach : ℕ → Call
   SafePoint : ℕ → Call
   Allocate : ℕ → ℕ → ℕ → ℕ → Call
@@ -33,7 +33,7 @@ pub data Call : Type 0 where
 
 -- what a call leaves
 abbrev pub apply : Store → Call → Outcome Store
-apply s (Attach n) = settle s (calls.attach s n)
+apply s (Attach n share) = settle s (calls.attach s n share)
 apply s (Detach n) = settle s (calls.detach s n)
 apply s (SafePoint n) = settle s (calls.safePoint s n)
 apply s (Allocate n k r p) = settle s (calls.allocate s n k r p)
@@ -65,7 +65,7 @@ after s (c ∷ cs) = after (apply s c .store) cs
 
 -- "Session answers are those of all calls but safe point and collector step"
 abbrev pub isSession : Call → Bool
-isSession (Attach n) = true
+isSession (Attach n share) = true
 isSession (Detach n) = true
 isSession (SafePoint n) = false
 isSession (Allocate n k r p) = true
@@ -84,7 +84,7 @@ isSession (Birth n k) = true
 isSession Step = false
 
 abbrev pub isAllocation : Call → Bool
-isAllocation (Attach n) = false
+isAllocation (Attach n share) = false
 isAllocation (Detach n) = false
 isAllocation (SafePoint n) = false
 isAllocation (Allocate n k r p) = true
@@ -112,13 +112,15 @@ sessionRun s [] = []
 sessionRun s (c ∷ cs) =
     cond (isSession c) (apply s c .reply ∷ sessionRun (apply s c .store) cs) (sessionRun (apply s c .store) cs)
 
--- what the collector-free store is fed for an allocation: whether the run answered it with 14. Nothing is fed for 16, which it tests itself
+-- what the collector-free store is fed for an allocation: whether the run answered it with 14 or, by request [7], with 17. Nothing is fed for
+-- 16, which it tests itself
 pub data Fed : Type 0 where
   fitted : Fed
+  overShare : Fed
   noRoom : Fed
 
 abbrev pub fedBy : Reply → Fed
-fedBy (answer (Refused n)) = cond (eqb n 14) noRoom fitted
+fedBy (answer (Refused n)) = cond (eqb n 17) overShare (cond (eqb n 14) noRoom fitted)
 fedBy (answer Done) = fitted
 fedBy (answer (Word w)) = fitted
 fedBy (answer (Same b)) = fitted
@@ -134,7 +136,7 @@ feeds s (c ∷ cs) =
 -- ---- collector steps
 
 abbrev pub isStep : Call → Bool
-isStep (Attach n) = false
+isStep (Attach n share) = false
 isStep (Detach n) = false
 isStep (SafePoint n) = false
 isStep (Allocate n k r p) = false

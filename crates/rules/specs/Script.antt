@@ -23,10 +23,14 @@ bigEndian a b c d = ((a * 256 + b) * 256 + c) * 256 + d
 unfoldable pub numberAt : List ℕ → ℕ → ℕ
 numberAt b i = bigEndian (getD b i 0) (getD b (i + 1) 0) (getD b (i + 2) 0) (getD b (i + 3) 0)
 
+-- request [7], of a share: "in a script it is 4,294,967,295"
+abbrev pub scriptShare : ℕ
+scriptShare = 4294967295
+
 -- the kinds 1 to 14 in order, "argument bytes in the order given"; a body's byte 0 is the kind
 unfoldable pub kinds : List ℕ → List Kind
 kinds b =
-    record { size = 2; call = Attach (getD b 1 0) }
+    record { size = 2; call = Attach (getD b 1 0) scriptShare }
     ∷ record { size = 2; call = Detach (getD b 1 0) }
     ∷ record { size = 2; call = SafePoint (getD b 1 0) }
     ∷ record { size = 5; call = Allocate (getD b 1 0) (getD b 2 0) (getD b 3 0) (getD b 4 0) }

@@ -3,10 +3,13 @@
 // "eight registers"
 pub const REGISTERS: usize = 8;
 
-// A session: "eight registers, a level and a scanned mark", and whether it is attached.
+// A session: "eight registers, a level and a scanned mark", and whether it is attached. Request [7]: its share in words, and the
+// words charged to it.
 pub struct Session {
     pub registers: [u32; REGISTERS],
     pub level: u32,
+    pub share: u32,
+    pub charge: u32,
     pub attached: bool,
     pub scanned: bool,
 }

@@ -30,6 +30,7 @@ use Rattle.rules.proofs.invariant.Following.{followed-start, follow-hom
 use Rattle.rules.proofs.invariant.Range.{half-length}
 use Rattle.rules.proofs.invariant.Counted.{copied-none, copied-le}
 use Rattle.rules.proofs.invariant.Walked.{walked-in}
+use Rattle.rules.proofs.invariant.Room.{shelled}
 use Rattle.rules.proofs.invariant.Spent.{Grows, grows-then, appended-grows}
 use Rattle.rules.proofs.invariant.Spending.{Spends, spends-still, spends-walking}
 use Rattle.rules.proofs.frames.Change.{put-frame}
@@ -137,7 +138,7 @@ module _ {K : ℕ → Type 0} {m : ℕ → ℕ} {s : Store} {f : Free} (h : Sim 
           check (leb (frontier M other + size M (walked s)) (length (half M other))) 12
           passed (pastRecord s (withShell M other (walked s))))
         (passed (pastRecord s M)))
-  unfolding pastRecord tracked
+  unfolding pastRecord tracked withShell
   unit-stepped l =
       let t = walked-in h (h .walking .at-allocate at-allocate) l in
       rw (followed-start (follow-home h t))
@@ -149,6 +150,7 @@ module _ {K : ℕ → Type 0} {m : ℕ → ℕ} {s : Store} {f : Free} (h : Sim 
         sim = shell-stepped l (needs-marked M (walked s) e) (needs-alone M (walked s) e);
         tracks = λ u. refl;
         spent = shell-spends l (needs-marked M (walked s) e) (needs-alone M (walked s) e);
+        fronts = shelled (omega arith) refl (omega (arith, shell-front t (needs-marked M (walked s) e) (needs-alone M (walked s) e)));
       })
       (λ e. stepped-same (rw e) (walks-on h at-allocate l (needs-not M (walked s) e) (s .walk .place + size M (walked s)) refl) refl
       (spends-still (h .range) (omega arith) refl refl refl)))

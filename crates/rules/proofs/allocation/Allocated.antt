@@ -1,6 +1,6 @@
 -- What an allocation writes at each level keeps the invariant, and the reference that it gives may be put in a register.
 use Prim.Native.Nat.{ℕ, zero, suc, _+_, _≤_, _<_}
-use mathlib.Core.Path.{_≡_, refl}
+use mathlib.Core.Path.{_≡_, refl, sym, _∙_}
 use mathlib.Core.Logic.{_⊎_, inl, inr}
 use mathlib.Core.Bool.{true}
 use mathlib.Core.List.{[], _∷_, _++_}
@@ -16,7 +16,7 @@ use Rattle.rules.specs.Free.{Free}
 use Rattle.rules.specs.declared.Session.{Session}
 use Rattle.rules.proofs.Ranges.{both}
 use Rattle.rules.proofs.memory.Cases.{lt-or, eq-or, either}
-use Rattle.rules.proofs.memory.Encoding.{other-below-2, other-differs}
+use Rattle.rules.proofs.memory.Encoding.{other-below-2, other-differs, other-other, only-other}
 use Rattle.rules.proofs.memory.Records.{Filled}
 use Rattle.rules.proofs.memory.Append.{Appended}
 use Rattle.rules.proofs.memory.Allocation.{Placeable, placed-kept}
@@ -60,6 +60,7 @@ pub record Allocation (K : ℕ → Type 0) (m : ℕ → ℕ) (s : Store) (f : Fr
   pub sim : Sim K (tracked (suc (length (f .records))) m (s .memory) M′) (withBirths (withMemory s M′) (nextBirth s)) (withRecords f (f .records ++ blankRecord r p ∷ []))
   pub fits : (y : Session) → WordFits K (tracked (suc (length (f .records))) m (s .memory) M′) (withBirths (withMemory s M′) (nextBirth s)) y v (suc (length (f .records)))
   pub grows : Grows s (withBirths (withMemory s M′) (nextBirth s))
+  pub fronts : (g : ℕ) → g < 2 → frontier M′ g ≤ frontier (s .memory) g + sizeOf r p
 
 -- the count of birth numbers is no part of it
 counted-grows : {s t : Store} {n : ℕ} → Grows s t → Grows s (withBirths t n)
@@ -86,7 +87,12 @@ module _ {K : ℕ → Type 0} {m : ℕ → ℕ} {s : Store} {f : Free} (h : Sim 
   one-half : (c : ℕ) → l ≤ 2 → Tint (stage (s .phase)) c → Allocation K m s f r p (placed M (s .current) r p c null (nextBirth s)) (nextReference M (s .current))
   one-half c i t =
       let k = placed-kept (placeable (h .filled) (cur-two h) (t .small) (room-one i)) null (nextBirth s) in
-      record { sim = single-sim h r p pb t k; fits = single-fits h r p pb t k; grows = counted-grows (appended-grows (cur-two h) k) }
+      record {
+        sim = single-sim h r p pb t k;
+        fits = single-fits h r p pb t k;
+        grows = counted-grows (appended-grows (cur-two h) k);
+        fronts = λ g two. eq-or g (s .current) (λ e. rw e (omega (arith, k .front))) (λ d. omega (arith, k .front-other g two d));
+      }
 
   -- ---- both halves
   room-both : 3 ≤ l → (g : ℕ) → g < 2 → frontier M g + sizeOf r p ≤ length (half M g)
@@ -125,11 +131,17 @@ module _ {K : ℕ → Type 0} {m : ℕ → ℕ} {s : Store} {f : Free} (h : Sim 
     both-grow : Grows s (withBirths (withMemory s M₂) (nextBirth s))
     both-grow = counted-grows (grows-then (appended-grows (cur-two h) first) (appended-grows {s = withMemory s M₁} (cur-two h) second))
 
+    both-fronts : (g : ℕ) → g < 2 → frontier M₂ g ≤ frontier M g + sizeOf r p
+    both-fronts g two = eq-or g (otherHalf from)
+        (λ e. rw e (omega (arith, second .front, first .front-other (otherHalf from) (other-below-2 from) (other-differs from (sides late .two)))))
+        (λ d. let o : g ≡ from = only-other (otherHalf from) g (other-below-2 from) two d ∙ other-other from (sides late .two) in
+        rw o (omega (arith, second .front-other from (sides late .two) (λ e. other-differs from (sides late .two) (sym e)), first .front)))
+
     both-from : stage (s .phase) ≤ stPreFlip2 → Allocation K m s f r p M₂ (nextReference M from)
-    both-from hi = record { sim = double-sim h r p pb (sides late) first second; fits = from-fits h r p pb (sides late) first second hi; grows = both-grow }
+    both-from hi = record { sim = double-sim h r p pb (sides late) first second; fits = from-fits h r p pb (sides late) first second hi; grows = both-grow; fronts = both-fronts }
 
     both-to : stPreFlip2 ≤ stage (s .phase) → Allocation K m s f r p M₂ (nextReference M (otherHalf from))
-    both-to lo = record { sim = double-sim h r p pb (sides late) first second; fits = to-fits h r p pb (sides late) first second lo; grows = both-grow }
+    both-to lo = record { sim = double-sim h r p pb (sides late) first second; fits = to-fits h r p pb (sides late) first second lo; grows = both-grow; fronts = both-fronts }
 
   -- ---- all levels
   abbrev Goal : Type 0

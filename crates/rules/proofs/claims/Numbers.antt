@@ -9,6 +9,7 @@ use lib.Dec.{eqb}
 use borrow.Author.Tests.{eqb-true, eq-eqb}
 use Rattle.rules.specs.Refusals.{answer, Outcome}
 use Rattle.rules.specs.Control.{Store}
+use Rattle.rules.specs.Runs.{Call, isAllocation}
 use Rattle.rules.specs.Claims.{storeNumbers, allocationNumbers, Numbers}
 use Rattle.rules.specs.declared.Answer.the-variants.{Refused}
 use Rattle.rules.proofs.memory.Cases.{bool-or}
@@ -33,7 +34,7 @@ Claimed room n = List·Memᴰ n storeNumbers × (List·Memᴰ n allocationNumber
 claimed : {room : Bool} {n : ℕ} → Allowed room n → Claimed room n
 claimed {n = n} (allowed e f) = (member n storeNumbers e, λ q. rw (listed-in q) at f)
 
-of-call : {room : Bool} {s : Store} {o : Outcome Store} → CallEnds room s o → (n : ℕ) → o .reply ≡ answer (Refused n) → Claimed room n
+of-call : {c : Call} {s : Store} {o : Outcome Store} → CallEnds c s o → (n : ℕ) → o .reply ≡ answer (Refused n) → Claimed (isAllocation c) n
 of-call (refusal k a) n e = rw (ap numberIn e) at (claimed a)
 of-call (success o h) n e = absurd (unrefused (o .reply) n (h .reply) e)
 

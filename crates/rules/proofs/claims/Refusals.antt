@@ -2,15 +2,15 @@
 -- A rule answers a refusal only by a test that fails, and `settle` then hands back what came in.
 use Prim.Native.Nat.{ℕ}
 use mathlib.Core.Path.{_≡_, refl}
-use mathlib.Core.Bool.{Bool}
 use Rattle.rules.specs.Refusals.{answer, Outcome}
 use Rattle.rules.specs.Control.{Store}
+use Rattle.rules.specs.Runs.{Call}
 use Rattle.rules.specs.Claims.{RefusalsKeep}
 use Rattle.rules.specs.declared.Answer.the-variants.{Refused}
 use Rattle.rules.proofs.relation.Rules.{CallEnds, refusal, success, call-ends}
 use Rattle.rules.proofs.relation.Replies.{unrefused}
 
-keeps : {room : Bool} {s : Store} {o : Outcome Store} → CallEnds room s o → (n : ℕ) → o .reply ≡ answer (Refused n) → o .store ≡ s
+keeps : {c : Call} {s : Store} {o : Outcome Store} → CallEnds c s o → (n : ℕ) → o .reply ≡ answer (Refused n) → o .store ≡ s
 keeps (refusal k a) n e = refl
 keeps (success o h) n e = absurd (unrefused (o .reply) n (h .reply) e)
 

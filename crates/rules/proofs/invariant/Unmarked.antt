@@ -27,6 +27,12 @@ unmarked-attached xs n = rw (unmarked-at xs n)
 pub unmarked-level : (xs : List Session) (n : ℕ) → getD (unmarked xs) n absent .level ≡ getD xs n absent .level
 unmarked-level xs n = rw (unmarked-at xs n)
 
+pub unmarked-share : (xs : List Session) (n : ℕ) → getD (unmarked xs) n absent .share ≡ getD xs n absent .share
+unmarked-share xs n = rw (unmarked-at xs n)
+
+pub unmarked-charge : (xs : List Session) (n : ℕ) → getD (unmarked xs) n absent .charge ≡ getD xs n absent .charge
+unmarked-charge xs n = rw (unmarked-at xs n)
+
 unmarked-scanned : (xs : List Session) (n : ℕ) → getD (unmarked xs) n absent .scanned ≡ false
 unmarked-scanned xs n = rw (unmarked-at xs n)
 

@@ -7,7 +7,7 @@ use borrow.Author.Tests.{lt-ltb, le-ltb}
 use Rattle.rules.specs.Memory.{null, replicaAt, frontier}
 use Rattle.rules.specs.Control.{Store}
 use Rattle.rules.specs.Cycle.{stage}
-use Rattle.rules.specs.Phases.{moveOn}
+use Rattle.rules.specs.Phases.{moveOn, uncharged}
 use Rattle.rules.specs.Collector.{walked, below, pastRecord, haveLevel, reclaim}
 use Rattle.rules.specs.Free.{Free}
 use Rattle.rules.proofs.memory.Cases.{lt-or, bool-or}
@@ -15,6 +15,7 @@ use Rattle.rules.proofs.memory.Put.{frontier-put}
 use Rattle.rules.proofs.invariant.Stages.{stReclaim}
 use Rattle.rules.proofs.invariant.Sim.{Sim}
 use Rattle.rules.proofs.invariant.Following.{followed-start, follow-home}
+use Rattle.rules.proofs.invariant.Accounts.{uncharged-sim}
 use Rattle.rules.proofs.invariant.Spent.{spent-grows}
 use Rattle.rules.proofs.invariant.Spending.{spends-late, spends-waiting}
 use Rattle.rules.proofs.relation.Stepped.{Stepped, stepped, stepped-same}
@@ -39,10 +40,10 @@ module _ {K : ℕ → Type 0} {m : ℕ → ℕ} {s : Store} {f : Free} (h : Sim 
 
   -- at the frontier
   ends : haveLevel s ≡ true → frontier (s .memory) (s .current) ≤ s .walk .place → Stepped K m s f (reclaim s)
-  unfolding reclaim below moveOn
+  unfolding reclaim below moveOn uncharged
   ends a d = stepped
       (rw (a, le-ltb (s .walk .place) (frontier (s .memory) (s .current)) d))
-      (reclaim-moves h e d a) (front-less-0 h e d) (front-less-1 h e d) (reclaim-spends h e d)
+      (uncharged-sim (reclaim-moves h e d a)) (front-less-0 h e d) (front-less-1 h e d) (reclaim-spends h e d)
 
   waits : haveLevel s ≡ false → Stepped K m s f (reclaim s)
   unfolding reclaim

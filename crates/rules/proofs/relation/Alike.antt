@@ -11,6 +11,7 @@ use Rattle.rules.specs.Memory.{frontier}
 use Rattle.rules.specs.Control.{Store}
 use Rattle.rules.specs.Free.{Free}
 use Rattle.rules.proofs.invariant.Sim.{Sim}
+use Rattle.rules.proofs.invariant.Room.{Fronts, still}
 use Rattle.rules.proofs.invariant.Spent.{SpentKept}
 use Rattle.rules.proofs.relation.Tracks.{Tracks, tracks-stay}
 
@@ -49,8 +50,8 @@ pub both-commit : {A B C : Type 0} {R : B → C → Type 0} (j : A → B) {t : T
 both-commit j (refused-both n x y) = refused-both n x y
 both-commit j (passed-both r) = passed-both r
 
--- ---- a session call on both stores: where it passes, with the same reply, the invariant kept, and the bound on marking too; q is the
--- place of a record that the call may have written
+-- ---- a session call on both stores: where it passes, with the same reply, the invariant kept, and the bound on marking too, and how it moves
+-- the frontiers; q is the place of a record that the call may have written
 
 pub record Left (K : ℕ → Type 0) (q : ℕ) (m : ℕ → ℕ) (s : Store) (o : Outcome Store) (p : Outcome Free) : Type 0 where
   pub place : ℕ → ℕ
@@ -58,6 +59,7 @@ pub record Left (K : ℕ → Type 0) (q : ℕ) (m : ℕ → ℕ) (s : Store) (o 
   pub reply : o .reply ≡ p .reply
   pub tracks : Tracks q m place (s .memory) (o .store .memory)
   pub spent : SpentKept s (o .store)
+  pub fronts : Fronts s (o .store)
 
 abbrev pub Alike : (K : ℕ → Type 0) (q : ℕ) (m : ℕ → ℕ) (s : Store) → Tested (Outcome Store) → Tested (Outcome Free) → Type 0
 Alike K q m s = Both (Left K q m s)
@@ -66,7 +68,14 @@ Alike K q m s = Both (Left K q m s)
 module _ {K : ℕ → Type 0} {q : ℕ} {m : ℕ → ℕ} {s t : Store} {g : Free} {r r′ : Reply} (h : Sim K m t g) (e : r ≡ r′)
     (a : frontier (t .memory) 0 ≡ frontier (s .memory) 0) (b : frontier (t .memory) 1 ≡ frontier (s .memory) 1) (c : SpentKept s t) where
   pub left-done : Left K q m s (record { store = t; reply = r }) (record { store = g; reply = r′ })
-  left-done = record { place = m; sim = h; reply = e; tracks = tracks-stay q m (s .memory) (t .memory) (omega arith) (omega arith); spent = c }
+  left-done = record {
+    place = m;
+    sim = h;
+    reply = e;
+    tracks = tracks-stay q m (s .memory) (t .memory) (omega arith) (omega arith);
+    spent = c;
+    fronts = still (omega arith) (omega arith);
+  }
 
   pub alike-done : Alike K q m s (passed (record { store = t; reply = r })) (passed (record { store = g; reply = r′ }))
   alike-done = passed-both left-done

@@ -11,7 +11,7 @@ pub data Kind (c : Call) : Type 0 where
   silent : isSession c ≡ false → isAllocation c ≡ false → Kind c
 
 pub kind : (c : Call) → Kind c
-kind (Attach n) = unfed refl refl (λ f x y. refl)
+kind (Attach n share) = unfed refl refl (λ f x y. refl)
 kind (Detach n) = unfed refl refl (λ f x y. refl)
 kind (SafePoint n) = silent refl refl
 kind (Allocate n k r p) = allocation refl refl

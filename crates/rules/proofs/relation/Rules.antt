@@ -1,14 +1,16 @@
--- How every rule ends: refused with a number that its call may be refused with, or with a store in which lengths and marks stay and an
--- answer that is no refusal.
+-- How every rule ends: refused with a number that its call may be refused with, or with a store in which lengths, marks, shares and charges
+-- stay, but for the share of an attach and the charge of an allocation, and an answer that is no refusal.
 use Prim.Native.Nat.{ℕ}
 use mathlib.Core.Path.{_≡_, refl}
+use mathlib.Core.Logic.{_≢_}
 use mathlib.Core.Bool.{Bool, true, false, not}
 use lib.Dec.{leb}
 use lib.ListN.{getD}
+use native.Mathlib.Nat.{le-refl}
 use native.Mathlib.Omega.{arith}
 use borrow.Author.Tests.{eq-eqb}
 use Rattle.rules.specs.Refusals.{Tested, check, _>>_, answer, Outcome, settle, done, doneOr}
-use Rattle.rules.specs.Cycle.{atHeapMark}
+use Rattle.rules.specs.Cycle.{atHeapMark, atReclaim}
 use Rattle.rules.specs.Control.{Store, inRange, lastSession}
 use Rattle.rules.specs.Phases.{sessionAt, withSession, moveOn}
 use Rattle.rules.specs.Calls as calls
@@ -19,83 +21,84 @@ use Rattle.rules.specs.declared.Answer.the-variants.{Refused}
 use Rattle.rules.proofs.relation.Replies.{isRefusal}
 use Rattle.rules.proofs.relation.Units.{each-unit}
 use Rattle.rules.proofs.relation.Rows.{Ends, refuses, passes, then-row, row, Allowed, Row, followed-row, forward-row, shading-row, shading-all-row, replica-row, store-writes-row, put-writes-row, same-at-row, forward-all-row, of-session, record-row}
-use Rattle.rules.proofs.relation.Stays.{Stays, unwritten, stays}
+use Rattle.rules.proofs.relation.Stays.{NoAttach, NoAllocation, Stays, Kept, unwritten, uncharged-stays, stays}
 
--- what a rule of s leaves where all its tests pass
-pub record Passed (s : Store) (o : Outcome Store) : Type 0 where
-  pub stays : Stays s (o .store)
+-- what the rule of the call c of s leaves where all its tests pass
+pub record Passed (c : Call) (s : Store) (o : Outcome Store) : Type 0 where
+  pub stays : Stays c s (o .store)
   pub reply : isRefusal (o .reply) ≡ false
 
-leaves : {s : Store} (o : Outcome Store) → Stays s (o .store) → isRefusal (o .reply) ≡ false → Passed s o
+leaves : {c : Call} {s : Store} (o : Outcome Store) → Stays c s (o .store) → isRefusal (o .reply) ≡ false → Passed c s o
 leaves o h e = record { stays = h; reply = e }
 
--- the rule of a call of s; room says whether it may be refused with the numbers of an allocation
-abbrev pub RuleEnds : Bool → Store → Tested (Outcome Store) → Type 0
-RuleEnds room s t = Ends (Allowed room) (Passed s) t
+-- the rule of a call, and that of a phase
+abbrev pub RuleEnds : Call → Store → Tested (Outcome Store) → Type 0
+RuleEnds c s t = Ends (Allowed (isAllocation c)) (Passed c s) t
 
--- the rule of a phase
 abbrev UnitEnds : Store → Tested Store → Type 0
-UnitEnds s t = Ends (Allowed false) (Stays s) t
+UnitEnds s t = Ends (Allowed false) (Stays Step s) t
 
 ruleset rule = (row, passes, leaves, stays)
 
 -- ---- the session calls
 
 module _ (s : Store) where
-  -- in HeapMark the new session has a mark
-  pub attach-ends : (n : ℕ) → RuleEnds false s (calls.attach s n)
+  -- in HeapMark the new session has a mark; its charge stays
+  pub attach-ends : (n share : ℕ) → RuleEnds (Attach n share) s (calls.attach s n share)
   unfolding calls.attach
-  attach-ends n = keeps-mark _ (λ e m. eq-eqb (s .phase) _ (omega arith))
+  attach-ends n share = keeps-charge _
+      (record { mark = λ e m. eq-eqb (s .phase) _ (omega arith); share = λ a. absurd (a share refl); charge = λ a. refl; rise = le-refl _ })
     where
-      keeps-mark : (x : Session) → (s .phase ≡ atHeapMark → sessionAt s n .scanned ≡ true → x .scanned ≡ true)
-          → RuleEnds false s (check (inRange s) 4 >> (check (leb n lastSession) 5 >> (check (not (sessionAt s n .attached)) 7 >> done (withSession s n x))))
-      keeps-mark x h = search rule depth 7
+      keeps-charge : (x : Session) → Kept (s .phase ≡ atHeapMark) (NoAttach (Attach n share) n) (NoAllocation (Attach n share) n) (sessionAt s n) x
+          → RuleEnds (Attach n share) s
+          (check (inRange s) 4 >> (check (leb n lastSession) 5 >> (check (not (sessionAt s n .attached)) 7 >> done (withSession s n x))))
+      keeps-charge x h = search rule depth 7
 
-  pub detach-ends : (n : ℕ) → RuleEnds false s (calls.detach s n)
+  pub detach-ends : (n : ℕ) → RuleEnds (Detach n) s (calls.detach s n)
   unfolding calls.detach
   detach-ends n = search (rule, of-session)
 
-  pub safe-point-ends : (n : ℕ) → RuleEnds false s (calls.safePoint s n)
+  pub safe-point-ends : (n : ℕ) → RuleEnds (SafePoint n) s (calls.safePoint s n)
   unfolding calls.safePoint
   safe-point-ends n = search (rule, of-session)
 
-  pub load-ends : (n to k i : ℕ) → RuleEnds false s (calls.load s n to k i)
+  pub load-ends : (n to k i : ℕ) → RuleEnds (Load n to k i) s (calls.load s n to k i)
   unfolding calls.load calls.loadPlan
   load-ends n to k i = search (rule, record-row)
 
-  pub store-ends : (n k i from : ℕ) → RuleEnds false s (calls.store s n k i from)
+  pub store-ends : (n k i from : ℕ) → RuleEnds (StoreRef n k i from) s (calls.store s n k i from)
   unfolding calls.store calls.storePlan calls.storeCommit
   store-ends n k i from = search (rule, record-row, store-writes-row)
 
-  pub read-ends : (n k i : ℕ) → RuleEnds false s (calls.read s n k i)
+  pub read-ends : (n k i : ℕ) → RuleEnds (Read n k i) s (calls.read s n k i)
   unfolding calls.read
   read-ends n k i = search (rule, record-row)
 
-  pub birth-ends : (n k : ℕ) → RuleEnds false s (calls.birth s n k)
+  pub birth-ends : (n k : ℕ) → RuleEnds (Birth n k) s (calls.birth s n k)
   unfolding calls.birth
   birth-ends n k = search (rule, record-row)
 
-  pub write-ends : (n k i a : ℕ) → RuleEnds false s (calls.write s n k i a)
+  pub write-ends : (n k i a : ℕ) → RuleEnds (Write n k i a) s (calls.write s n k i a)
   unfolding calls.write calls.writePlan calls.writeCommit
   write-ends n k i a = search (rule, record-row, replica-row)
 
-  pub move-ends : (n to from : ℕ) → RuleEnds false s (calls.move s n to from)
+  pub move-ends : (n to from : ℕ) → RuleEnds (Move n to from) s (calls.move s n to from)
   unfolding calls.move
-  move-ends n to from = search (rule, of-session)
+  move-ends n to from = search (rule, of-session) depth 6
 
-  pub clear-ends : (n k : ℕ) → RuleEnds false s (calls.clear s n k)
+  pub clear-ends : (n k : ℕ) → RuleEnds (Clear n k) s (calls.clear s n k)
   unfolding calls.clear
-  clear-ends n k = search (rule, of-session)
+  clear-ends n k = search (rule, of-session) depth 6
 
-  pub same-ends : (n x y : ℕ) → RuleEnds false s (calls.same s n x y)
+  pub same-ends : (n x y : ℕ) → RuleEnds (SameAs n x y) s (calls.same s n x y)
   unfolding calls.same
   same-ends n x y = search (rule, of-session, same-at-row) depth 7
 
-  pub get-ends : (n to g : ℕ) → RuleEnds false s (calls.get s n to g)
+  pub get-ends : (n to g : ℕ) → RuleEnds (Get n to g) s (calls.get s n to g)
   unfolding calls.get
   get-ends n to g = search (rule, of-session) depth 7
 
-  pub put-ends : (n g from : ℕ) → RuleEnds false s (calls.put s n g from)
+  pub put-ends : (n g from : ℕ) → RuleEnds (Put n g from) s (calls.put s n g from)
   unfolding calls.put calls.putPlan calls.putCommit
   put-ends n g from = search (rule, of-session, put-writes-row) depth 7
 
@@ -103,10 +106,10 @@ module _ (s : Store) where
   unfolding calls.stretch
   stretch-row n k = search (rule, record-row)
 
-  -- the one call that may be refused with 14 and 16
-  pub allocate-ends : (n k r p : ℕ) → RuleEnds true s (calls.allocate s n k r p)
+  -- the one call that may be refused with 14, 16 and 17
+  pub allocate-ends : (n k r p : ℕ) → RuleEnds (Allocate n k r p) s (calls.allocate s n k r p)
   unfolding calls.allocate
-  allocate-ends n k r p = search (rule, of-session) depth 8
+  allocate-ends n k r p = search (rule, of-session) depth 12
 
   -- ---- the collector step
 
@@ -154,34 +157,36 @@ module _ (s : Store) where
   unfolding collector.stackFlip moveOn
   stack-flip-ends = search (rule, forward-all-row)
 
-  reclaim-ends : UnitEnds s (collector.reclaim s)
+  -- in Reclaim, which its last step ends
+  reclaim-ends : s .phase ≡ atReclaim → UnitEnds s (collector.reclaim s)
   unfolding collector.reclaim collector.pastRecord moveOn
-  reclaim-ends = search (rule, followed-row)
+  reclaim-ends e = search (rule, followed-row, uncharged-stays) depth 7
 
-  unit-ends : (ph : ℕ) → UnitEnds s (getD collector.units ph collector.handshake s)
-  unit-ends = each-unit (UnitEnds s) s rest-ends handshake-ends root-mark-ends heap-mark-ends shells-ends copy-ends root-flip-ends stack-flip-ends reclaim-ends
+  unit-ends : UnitEnds s (getD collector.units (s .phase) collector.handshake s)
+  unit-ends =
+      each-unit (UnitEnds s) s rest-ends handshake-ends root-mark-ends heap-mark-ends shells-ends copy-ends root-flip-ends stack-flip-ends (s .phase) reclaim-ends
 
-  step-ends : RuleEnds false s (collector.step s)
+  step-ends : RuleEnds Step s (collector.step s)
   unfolding collector.step
-  step-ends = search (rule, then-row, unit-ends (s .phase))
+  step-ends = search (rule, then-row, unit-ends)
 
 -- ---- any call
 
 -- a refused call hands the store back as it came, and any other leaves what a rule does
-pub data CallEnds (room : Bool) (s : Store) : Outcome Store → Type 0 where
-  refusal : (n : ℕ) → Allowed room n → CallEnds room s (record { store = s; reply = answer (Refused n) })
-  success : (o : Outcome Store) → Passed s o → CallEnds room s o
+pub data CallEnds (c : Call) (s : Store) : Outcome Store → Type 0 where
+  refusal : (n : ℕ) → Allowed (isAllocation c) n → CallEnds c s (record { store = s; reply = answer (Refused n) })
+  success : (o : Outcome Store) → Passed c s o → CallEnds c s o
 
-settled : {room : Bool} {s : Store} {t : Tested (Outcome Store)} → RuleEnds room s t → CallEnds room s (settle s t)
+settled : {c : Call} {s : Store} {t : Tested (Outcome Store)} → RuleEnds c s t → CallEnds c s (settle s t)
 settled (refuses n a) = refusal n a
 settled (passes o h) = success o h
 
-companion : {room : Bool} {s : Store} {A : Type 0} {t : Tested A} → Row room t → CallEnds room s (record { store = s; reply = answer (doneOr t) })
+companion : {c : Call} {s : Store} {A : Type 0} {t : Tested A} → Row (isAllocation c) t → CallEnds c s (record { store = s; reply = answer (doneOr t) })
 companion (refuses n a) = refusal n a
 companion (passes o h) = success _ (leaves _ (unwritten refl) refl)
 
-pub call-ends : (s : Store) (c : Call) → CallEnds (isAllocation c) s (apply s c)
-call-ends s (Attach n) = settled (attach-ends s n)
+pub call-ends : (s : Store) (c : Call) → CallEnds c s (apply s c)
+call-ends s (Attach n share) = settled (attach-ends s n share)
 call-ends s (Detach n) = settled (detach-ends s n)
 call-ends s (SafePoint n) = settled (safe-point-ends s n)
 call-ends s (Allocate n k r p) = settled (allocate-ends s n k r p)
@@ -199,9 +204,9 @@ call-ends s (Companion n k) = companion (stretch-row s n k)
 call-ends s (Birth n k) = settled (birth-ends s n k)
 call-ends s Step = settled (step-ends s)
 
-pub call-stays : (s : Store) (c : Call) → Stays s (apply s c .store)
+pub call-stays : (s : Store) (c : Call) → Stays c s (apply s c .store)
 call-stays s c = of-call (call-ends s c)
   where
-    of-call : {room : Bool} {o : Outcome Store} → CallEnds room s o → Stays s (o .store)
+    of-call : {o : Outcome Store} → CallEnds c s o → Stays c s (o .store)
     of-call (refusal n a) = unwritten refl
     of-call (success o h) = h .stays

@@ -1,10 +1,11 @@
--- One call on both stores: the invariant and the bound on marking are kept, session answers are equal, and no call is refused with 4
--- or 12.
+-- One call on both stores: the invariant and the bound on marking are kept, frontiers move in known ways, session answers are equal, and no
+-- call is refused with 4 or 12.
 use Prim.Native.Nat.{ℕ, suc}
 use mathlib.Core.Path.{_≡_, refl, sym, ap, _∙_, fun-ext, subst}
 use mathlib.Core.Logic.{_≢_}
 use mathlib.Core.Bool.{Bool, true, false, cond, true≢false}
 use mathlib.Core.List.{List}
+use native.Mathlib.Nat.{le-refl}
 use lib.ListN.{length}
 use Rattle.rules.specs.Refusals.{Tested, refused, passed, _>>=_, Reply, answer, words, Outcome, settle, done, wordsOr, doneOr}
 use Rattle.rules.specs.Memory.{Memory}
@@ -15,6 +16,7 @@ use Rattle.rules.specs.Free.{Free, FreeSession, freeSessionOf, freeApply
 use Rattle.rules.specs.Tracking.{Beside, track, besideCall}
 use Rattle.rules.specs.declared.Answer.the-variants.{Refused, Done, Phase}
 use Rattle.rules.proofs.invariant.Sim.{Sim}
+use Rattle.rules.proofs.invariant.Room.{Fronts, still}
 use Rattle.rules.proofs.invariant.Spent.{Spent}
 use Rattle.rules.proofs.relation.Tracks.{tracked, Tracks, tracks-none}
 use Rattle.rules.proofs.relation.Alike.{Alike, Both, refused-both, passed-both}
@@ -43,16 +45,18 @@ pub record Settled (K : ℕ → Type 0) (q : ℕ) (m : ℕ → ℕ) (s : Store) 
   pub not-4 : o .reply ≢ answer (Refused 4)
   pub not-12 : o .reply ≢ answer (Refused 12)
   pub spent : (n : ℕ) → Spent n s → Spent (spentBy n s c) (o .store)
+  pub fronts : Fronts s (o .store)
 
 -- no test failed, or one that is neither 4 nor 12
 settled : {K : ℕ → Type 0} {q : ℕ} {m : ℕ → ℕ} {s : Store} {f : Free} → Sim K m s f → (c : Call) → isStep c ≡ false
-    → {room : Bool} {t : Tested (Outcome Store)} {u : Tested (Outcome Free)} → RuleEnds room s t → Alike K q m s t u → Settled K q m s c (settle s t) (settle f u)
+    → {t : Tested (Outcome Store)} {u : Tested (Outcome Free)} → RuleEnds c s t → Alike K q m s t u → Settled K q m s c (settle s t) (settle f u)
 settled {K} {q} {m} {s} h c e r (refused-both n a b) = record {
   sim = by-tracks q m (s .memory) h (tracks-none q m (s .memory));
   reply = refl;
   not-4 = refusal-number n 4 a;
   not-12 = refusal-number n 12 b;
   spent = λ i k. rw e k;
+  fronts = still (le-refl _) (le-refl _);
 }
 settled {K} {q} {m} {s} h c e r (passed-both {a = o} {b = p} w) = record {
   sim = by-tracks q m (s .memory) (w .sim) (w .tracks);
@@ -60,6 +64,7 @@ settled {K} {q} {m} {s} h c e r (passed-both {a = o} {b = p} w) = record {
   not-4 = unrefused (o .reply) 4 (of-passed r .reply);
   not-12 = unrefused (o .reply) 12 (of-passed r .reply);
   spent = λ i k. rw e (w .spent i k);
+  fronts = w .fronts;
 }
 
 -- ---- the stretch, its companion, the safe point and the step
@@ -73,6 +78,7 @@ kept-same {K} {m} {s} h c z q e a b = record {
   not-4 = a;
   not-12 = b;
   spent = λ i k. rw z k;
+  fronts = still (le-refl _) (le-refl _);
 }
 
 companion-reply : {t u : Tested (List ℕ)} → Both (λ a b. a ≡ b) t u
@@ -101,6 +107,7 @@ pub record CallKept (K : ℕ → Type 0) (b : Beside) (c : Call) : Type 0 where
   pub not-4 : apply (b .store) c .reply ≢ answer (Refused 4)
   pub not-12 : apply (b .store) c .reply ≢ answer (Refused 12)
   pub spent : (n : ℕ) → Spent n (b .store) → Spent (spentBy n (b .store) c) (besideCall b c .store)
+  pub fronts : Fronts (b .store) (besideCall b c .store)
 
 -- the place that a record written by the call gets
 abbrev placeOf : Beside → Call → ℕ
@@ -109,7 +116,7 @@ placeOf b c = cond (isAllocation c) (suc (length (b .free .records))) (b .place 
 of-kept : {K : ℕ → Type 0} (b : Beside) (c : Call) → isSession c ≡ true
     → Settled K (placeOf b c) (b .place) (b .store) c (apply (b .store) c) (freeApply (b .free) c (fedBy (apply (b .store) c .reply))) → CallKept K b c
 unfolding track tracked
-of-kept b c e k = record { sim = rw e (k .sim); reply = λ z. k .reply; not-4 = k .not-4; not-12 = k .not-12; spent = k .spent }
+of-kept b c e k = record { sim = rw e (k .sim); reply = λ z. k .reply; not-4 = k .not-4; not-12 = k .not-12; spent = k .spent; fronts = k .fronts }
 
 module _ {K : ℕ → Type 0} (b : Beside) (h : Sim K (b .place) (b .store) (b .free)) where
   abbrev s : Store
@@ -130,6 +137,7 @@ module _ {K : ℕ → Type 0} (b : Beside) (h : Sim K (b .place) (b .store) (b .
         not-4 = k .not-4;
         not-12 = k .not-12;
         spent = k .spent;
+        fronts = k .fronts;
       }
 
   -- a step changes nothing beside
@@ -142,6 +150,7 @@ module _ {K : ℕ → Type 0} (b : Beside) (h : Sim K (b .place) (b .store) (b .
         not-4 = unrefused _ 4 refl;
         not-12 = unrefused _ 12 refl;
         spent = u .spent;
+        fronts = u .fronts;
       })
 
   step-call : CallKept K b Step
@@ -152,10 +161,11 @@ module _ {K : ℕ → Type 0} (b : Beside) (h : Sim K (b .place) (b .store) (b .
     not-4 = step-kept .not-4;
     not-12 = step-kept .not-12;
     spent = step-kept .spent;
+    fronts = step-kept .fronts;
   }
 
   pub one-call : (c : Call) → CallKept K b c
-  one-call (Attach n) = of-kept b (Attach n) refl (settled h (Attach n) refl (attach-ends s n) (attach-alike h n _))
+  one-call (Attach n share) = of-kept b (Attach n share) refl (settled h (Attach n share) refl (attach-ends s n share) (attach-alike h n share _))
   one-call (Detach n) = of-kept b (Detach n) refl (settled h (Detach n) refl (detach-ends s n) (detach-alike h n _))
   one-call (SafePoint n) = safe-point-call n
   one-call (Allocate n k r p) = of-kept b (Allocate n k r p) refl (settled h (Allocate n k r p) refl (allocate-ends s n k r p) (allocate-alike h n k r p))

@@ -27,9 +27,9 @@ module _ {K : ℕ → Type 0} {m : ℕ → ℕ} {s : Store} {f : Free} (h : Sim 
   phase-level : levelOf (s .phase) ≤ lastLevel
   phase-level = level-most (s .phase) (levelOf (s .phase)) (h .range .phases) (inl refl)
 
-  -- with a mark or without: its registers are null
-  attached-fits : (b : Bool) → SessionFits K m s (attachedAt (levelOf (s .phase)) b) (withFreeAttached freeNobody true)
-  attached-fits b = record {
+  -- with a mark or without, and with any share: its registers are null
+  attached-fits : (x : Session) (share : ℕ) (b : Bool) → SessionFits K m s (attachedAt x share (levelOf (s .phase)) b) (withFreeAttached freeNobody true)
+  attached-fits x share b = record {
     registers = refl;
     free-registers = refl;
     attached = refl;
@@ -66,11 +66,11 @@ module _ {K : ℕ → Type 0} {m : ℕ → ℕ} {s : Store} {f : Free} (h : Sim 
     free-idle = z .free-idle;
   }
 
-  pub attach-alike : (n q : ℕ) → Alike K q m s (calls.attach s n) (freeAttach f n)
+  pub attach-alike : (n share q : ℕ) → Alike K q m s (calls.attach s n share) (freeAttach f n)
   unfolding calls.attach freeAttach withSession
-  attach-alike n q = rw (in-range-tested (h .range), same-attached h n) (both-check (leb n lastSession) 5 tt
+  attach-alike n share q = rw (in-range-tested (h .range), same-attached h n) (both-check (leb n lastSession) 5 tt
       (λ l. both-check (not (sessionAt s n .attached)) 7 tt
-      (λ e. alike-done (session-sim h n (leb-true n lastSession l) (attached-fits _)) refl refl refl
+      (λ e. alike-done (session-sim h n (leb-true n lastSession l) (attached-fits (sessionAt s n) share _)) refl refl refl
       (spent-grows (session-grows s n _ (λ p z. eq-eqb (s .phase) _ (omega (arith, phase-is atHeapMark (h .range .phases) (omega arith) p))))))))
 
   pub detach-alike : (n q : ℕ) → Alike K q m s (calls.detach s n) (freeDetach f n)
