@@ -1,36 +1,45 @@
 """Runs in which every word is counted beside the store: what each session number was charged, by its successful allocations since Reclaim
-last ended, and its share, by its last successful attach. They watch document 02's claim: with used words and all shares together no more
-than a half at the end of a Reclaim, no allocation meets 14 before the next one begins, as long as no share changes. And a stronger one: from
-any moment outside Reclaim, with what is left of the shares in their place, on to the end of the next Reclaim. All are made from a seed."""
+last ended, and its share, by its last successful attach. Outside Reclaim all charges together are the words that the current half has more
+than at Reclaim's end. They watch document 02's claim: with used words and all shares together no more than a half at the end of a Reclaim,
+no allocation meets 14 before the next one begins, as long as no share changes. And a stronger one: from any moment outside Reclaim, with
+what is left of the shares in their place, on to the end of the next Reclaim. All are made from a seed."""
 import random
 from collections import Counter
 
 from layout import HEADER, least_list, size
 from lives import Wrong, collector_calls, session_call
-from model import ALLOCATE, ATTACH, CLEAR, DETACH, MOST_BIRTHS, NO_ROOM, OVER_SHARE, PUT, SAFE, STEP, WHOLE_SHARE, Model, fed
+from model import (ALLOCATE, ATTACH, CLEAR, DETACH, FITTED, MOST_BIRTHS, NO_ROOM, OVER_SHARE, PUT, SAFE, STEP, WHOLE_SHARE, Model, fed,
+                   share_in)
+from probe import encode
 from sapphire import SESSIONS, Sapphire
+from table import NO_NUMBER
 
 REST, RECLAIM = 0, 12  # phases
+CLAIM, STRONGER = "document 02's claim", "the stronger claim"
+OTHERS = 40  # of so many other calls one is shown to the probe program
 MOST_FIELDS, NOTHING = 255, 7  # of a record; a register that holds nothing
 
 
 class Budget:
-    """The store in Python beside the collector-free store and the counts. `after_reclaim` and `from_now` say whether document 02's claim and
-    the stronger one cover the next call. For claims that are false: `lacking` words of the half are not asked for, or the shares of
-    sessions that are not attached are not counted."""
+    """The store in Python beside the collector-free store and the counts. `after_reclaim` and `from_now` say whether document 02's claim
+    and the stronger one cover the next call. For claims that are false: `lacking` words of the half are not asked for, or the shares of
+    sessions that are not attached are not counted. `showing`: `cases` has for the probe program all calls to which shares and charges
+    matter, and of the others some."""
 
-    def __init__(self, length, most_births=MOST_BIRTHS, lacking=0, attached_alone=False):
+    def __init__(self, length, most_births=MOST_BIRTHS, lacking=0, attached_alone=False, showing=False):
         self.store, self.model = Sapphire(length, least_list(length), most_births=most_births), Model(most_births)
         self.entries, self.lines, self.seen = [], [], Counter()
         self.share, self.charge = [0] * SESSIONS, [0] * SESSIONS
-        self.phase, self.after_reclaim, self.from_now = REST, False, False
-        self.lacking, self.attached_alone = lacking, attached_alone
+        self.phase, self.after_reclaim, self.from_now, self.kept = REST, False, False, 0  # the last: words used at Reclaim's end
+        self.lacking, self.attached_alone, self.showing, self.cases = lacking, attached_alone, showing, []
 
     def used(self):
         return self.store.frontier[self.store.current]
 
     def do(self, kind, args):
         self.entries.append((kind, args))
+        if self.showing and (kind in (ALLOCATE, ATTACH, DETACH) or at_the_end(self.store) or len(self.entries) % OTHERS == 0):
+            self.cases.append((f"call {len(self.entries)}", encode(self.store, kind, args)))
         line = self.store.call(kind, args)
         self.lines.append(line)
         if kind not in (STEP, SAFE):
@@ -42,6 +51,9 @@ class Budget:
         ended = self._count(kind, args, line)
         self.need((self.store.share, self.store.charge) == (self.share, self.charge),
                   f"shares {self.store.share} and charges {self.store.charge}, counted {self.share} and {self.charge}")
+        if ended:
+            self.kept = self.used()
+        self.need(self.phase == RECLAIM or self.used() == self.kept + sum(self.charge), f"{self.used()} words used, {self.kept} before")
         self._promise(shares != self.share, ended)
         return line
 
@@ -60,17 +72,21 @@ class Budget:
                 self.seen["cleared"] += any(self.charge)
                 self.charge = [0] * SESSIONS
         elif kind == ATTACH and line[0] == 0:
-            self.seen["attached again"] += self.share[args[0]] == args[1] and self.charge[args[0]] > 0
-            self.share[args[0]] = args[1]
+            share = share_in(args[1:])
+            self.seen["attached again"] += self.share[args[0]] == share and self.charge[args[0]] > 0
+            self.share[args[0]] = share
         elif kind == ALLOCATE and line[0] == 0:
             self.charge[args[0]] += size(*args[2:])
         return ended
 
     def _watch(self, args, number):
-        """An allocation: none may meet 14 that one of the claims covers."""
-        for claim, holds in (("claim", self.after_reclaim), ("stronger", self.from_now)):
+        """An allocation: 17 where it would pass its share, by the counts, and never else; and none may meet 14 that a claim covers."""
+        if number in (FITTED, NO_ROOM, OVER_SHARE, NO_NUMBER):
+            total = self.charge[args[0]] + size(*args[2:])
+            self.need((total > self.share[args[0]]) == (number == OVER_SHARE), f"answered {number}, {total} words of {self.share[args[0]]}")
+        for claim, holds in ((CLAIM, self.after_reclaim), (STRONGER, self.from_now)):
             if holds:
-                self.need(number != NO_ROOM, f"14, against the {claim}")
+                self.need(number != NO_ROOM, f"14, against {claim}")
                 self.seen[claim, number] += 1
                 if number == 0 and self.used() == self.store.length[0]:
                     self.seen[claim, "full"] += 1
@@ -87,10 +103,10 @@ class Budget:
                    if there or not self.attached_alone)
         if ended and left <= room:  # nothing is charged
             self.after_reclaim = True
-            self.seen["claim", "just"] += left == room
+            self.seen[CLAIM, "just"] += left == room
         if self.phase != RECLAIM and not self.from_now and left <= room:
             self.from_now = True
-            self.seen["stronger", "just"] += left == room
+            self.seen[STRONGER, "just"] += left == room
 
 
 # ---- random runs
@@ -107,7 +123,8 @@ def parts(rng, whole, count):
 
 
 def share_out(rng, run, sessions):
-    """Some sessions come anew, so that what is left of all shares is as much as there is room, or a little less or more."""
+    """All sessions come anew, so that what is left of all shares is as much as there is room, or a little less or more. One or the other
+    leaves again; its share stays."""
     store = run.store
     room = store.length[0] - run.used() + rng.choice([0, 0, 0, 0, -1, 1])
     counted = [0] * SESSIONS if store.phase == RECLAIM else store.charge
@@ -116,6 +133,8 @@ def share_out(rng, run, sessions):
         if store.attached[s]:
             run.do(DETACH, [s])
         run.do(ATTACH, [s, counted[s] + part])
+        if rng.random() < 0.1:
+            run.do(DETACH, [s])
 
 
 def any_share(rng, before):
@@ -127,7 +146,8 @@ def greedy(rng, run, s):
     """An allocation of a session of just what is left of its share, or of so much that another record is left, or of a word too much; cut
     to a record that there is."""
     left = run.share[s] - run.charge[s]
-    words = rng.choice([left, left, rng.randint(HEADER, max(left - HEADER, HEADER)), rng.randint(HEADER, max(left - HEADER, HEADER)), left + 1])
+    part = rng.randint(HEADER, max(left - HEADER, HEADER))
+    words = rng.choice([left, left, part, part, left + 1])
     fields = min(max(words - HEADER, 0), MOST_FIELDS)
     links = rng.randint(0, min(fields, 3))
     return ALLOCATE, [s, rng.randrange(4), links, fields - links]
@@ -149,13 +169,14 @@ def at_the_end(store):
     return store.phase == RECLAIM and store.place >= store.frontier[store.current]
 
 
-def random_run(seed, calls, **false):
-    """A run of many collections, whose claims are those of Budget, or false ones. Shares are dealt out before Reclaim's last step, and now
-    and then outside Reclaim."""
+def random_run(seed, calls, **how):
+    """A run of many collections, with what Budget is told. Shares are dealt out before Reclaim's last step, and now and then outside
+    Reclaim."""
     rng = random.Random(f"budget {seed}")
     sessions, makes, busy = rng.choice([1, 2, 3, 5]), rng.choice([0.03, 0.1, 0.4]), rng.choice([0.2, 0.4, 0.6])
     most = MOST_BIRTHS if seed % 4 else rng.choice([20, 100])
-    run, changes = Budget(rng.choice([16, 17, 24, 40, 64, 100, 160]), most, **false), rng.choice([0, 0.002, 0.01])
+    run, changes = Budget(rng.choice([16, 17, 24, 40, 64, 100, 160]), most, **how), rng.choice([0, 0.002, 0.01])
+    moving = rng.choice([0.1, 0.3])
     for s in range(sessions):
         run.do(ATTACH, [s, rng.randrange(2 * run.store.length[0] // sessions)])
     while len(run.entries) < calls:
@@ -163,9 +184,22 @@ def random_run(seed, calls, **false):
             share_out(rng, run, sessions)
         elif rng.random() < busy:
             kind, args = next_call(rng, run, sessions, makes)
-            if kind not in (ATTACH, DETACH) or rng.random() < 0.2:
+            if kind not in (ATTACH, DETACH) or rng.random() < moving:
                 run.do(kind, args)
         else:
             for entry in collector_calls(rng, run.store):
                 run.do(*entry)
     return run
+
+
+# ---- pairs of runs
+
+def first_share(rng):
+    """A share that no record has place in, one for a few records, or more than is ever used."""
+    return rng.choice([0, HEADER - 1, 12, 40, 150, WHOLE_SHARE, WHOLE_SHARE])
+
+
+def shared_call(rng, store, sessions, makes):
+    """A call of a session, attach with a share."""
+    kind, args = session_call(rng, store, sessions, makes)
+    return kind, [*args, first_share(rng)] if kind == ATTACH else args

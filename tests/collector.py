@@ -5,6 +5,7 @@ from layout import HEADER, NUMBER, size
 from slips import (ALLOCATE_ENDS_EARLY, COUNT_RECLAIMED, FIRST_LEFT, IN_TURN, LAST_FIRST, PASSED_OVER, PAST_BY_3, RECLAIM_CLEARS,
                    ROOM_FOR_EIGHT, SCAN_ALONE, TESTED_LATE, UNMARKED)
 
+PHASES = "Rest PreMark1 PreMark2 RootMark HeapMark Allocate PreCopy Copy PreFlip1 PreFlip2 RootFlip StackFlip Reclaim".split()
 LEVELS = [0, 1, 2, 2, 2, 3, 4, 4, 5, 6, 6, 6, 0]  # of each phase
 WHITE, GREY, BLACK = 0, 1, 2
 SESSIONS = 16

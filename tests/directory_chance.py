@@ -19,7 +19,8 @@ def any_call(rng, most=4):
     if rng.random() < 0.02:
         person, group = rng.choice([(LAST + 1, 1), (1, TOP), (LAST, LAST)])
     lent = rng.choice([0, 1, 2, 5, MOST_LENT])
-    return kind, {OPEN: [any_words(rng)], ADD: [person], REMOVE: [person], MAKE_GROUP: [group], LIST: [group, lent]}.get(kind, [person, group])
+    return kind, {OPEN: [any_words(rng)], ADD: [person], REMOVE: [person], MAKE_GROUP: [group],
+                  LIST: [group, lent]}.get(kind, [person, group])
 
 
 def any_school(rng):

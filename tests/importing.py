@@ -100,8 +100,8 @@ def days():
 # ---- from phase to phase
 
 def tries(day):
-    """The secretary's safe point. The import tries to make a record, at the level of before, and the secretary makes one, up to the last word of the
-    half before Reclaim begins. The row."""
+    """The secretary comes to her safe point, before the import, which tries to make a record; she makes one, the last before Reclaim with
+    the last word of the half. The row."""
     store = day.store
     if store.level[SECRETARY] != LEVELS[store.phase]:
         day.do(SAFE, SECRETARY)

@@ -171,9 +171,10 @@ def pair(seed, calls, seen, slip=None, chosen=session_call, shared=None):
         one, other = [player.answer(kind, args) for player in players]
         if kind != SAFE:
             model.call(kind, args, fed(kind, one[0]))
-        if fed(kind, one[0]) != fed(kind, other[0]):
+        reasons = fed(kind, one[0]), fed(kind, other[0])
+        if reasons[0] != reasons[1]:
             seen["parted"] += 1
-            seen["parted", *sorted((one[0], other[0]))] += 1
+            seen["parted", *sorted(reasons)] += 1
             return None
         if one != other and kind != SAFE:
             return f"call {n + 1}, {kind} {args}: {one} and {other}"

@@ -2,10 +2,10 @@
 import re
 from collections import Counter
 
+from collector import LEVELS, PHASES
 from directory import Directory
 from explained import need
 from model import ATTACH, DETACH, SAFE, ALLOCATE, LOAD, STORE, READ, WRITE, MOVE, CLEAR, SAME, GET, PUT, STEP
-from sapphire import LEVELS
 from table import OPEN, ADD, REMOVE, MAKE, JOIN, LEAVE, LIST
 
 # the words of each kind, with the order in which they name a script's arguments
@@ -24,7 +24,6 @@ WORDS = [
     (OPEN, r"directory: open", []), (ADD, r"directory: add person (\d+)", [0]), (REMOVE, r"directory: remove person (\d+)", [0]),
     (MAKE, r"directory: make group (\d+)", [0]), (JOIN, r"directory: person (\d+) joins group (\d+)", [0, 1]),
     (LEAVE, r"directory: person (\d+) leaves group (\d+)", [0, 1]), (LIST, r"directory: list group (\d+), (\d+) words? lent", [0, 1])]
-PHASES = "Rest PreMark1 PreMark2 RootMark HeapMark Allocate PreCopy Copy PreFlip1 PreFlip2 RootFlip StackFlip Reclaim".split()
 REASONS = {5: "no such session", 6: "the session is not attached", 7: "the session is attached already", 8: "no such register",
            9: "no such global", 11: "the register is null", 13: "no such field", 14: "no room"}
 DIRECTORY_REASONS = {6: "the directory is not open", 7: "the directory is open already", 23: "no such person or group",

@@ -212,12 +212,7 @@ class Sapphire(Collector):
             return self.phase
         s = args[0]
         if kind == ATTACH:
-            self.need(s <= 15, 5)
-            self.need(not self.attached[s], 7)
-            self.attached[s], self.scanned[s] = True, self.marked_when_attached(s)
-            self.level[s], self.registers[s] = LEVELS[self.phase], [0] * 8
-            self.share[s] = accounts.attached(self, s, share_in(args[1:])) if self.slips else share_in(args[1:])
-            return 0
+            return self._attach(s, share_in(args[1:]))
         self.session(s)
         regs, level = self.registers[s], self.level[s]
         if kind == DETACH:
@@ -269,6 +264,13 @@ class Sapphire(Collector):
         elif kind == BIRTH:
             return self._birth(regs, args[1])
         return 0
+
+    def _attach(self, s, share):
+        self.need(s <= 15, 5)
+        self.need(not self.attached[s], 7)
+        self.attached[s], self.scanned[s] = True, self.marked_when_attached(s)
+        self.level[s], self.registers[s] = LEVELS[self.phase], [0] * 8
+        self.share[s] = accounts.attached(self, s, share) if self.slips else share
 
     def _plain_fields(self, regs, k):
         self.need(k <= 7, 8)

@@ -80,9 +80,10 @@ def orders():
     shape, no room in one half or in both, no number left."""
     n, charged = USUAL[0], 7
     ends = [(END, END), (END, n), (n, END), (n - size(1, 0), n - size(1, 0))]
+    asked = [(THERE, FREE, 1, 1), (THERE, 0, 0, 3), (THERE, 1, 2, 0), (THERE, 8, 1, 1), (THERE, FREE, 256, 0), (THERE, FREE, 0, 256),
+             (AWAY, FREE, 1, 1), (16, FREE, 1, 1)]
     for (level, phase), current, within, frontier, births, args in itertools.product(
-            LEVEL_PHASES, (0, 1), (True, False), ends, (USED, TOP),
-            [(THERE, FREE, 1, 1), (THERE, 0, 0, 3), (THERE, 1, 2, 0), (THERE, 8, 1, 1), (THERE, FREE, 256, 0), (THERE, FREE, 0, 256), (AWAY, FREE, 1, 1), (16, FREE, 1, 1)]):
+            LEVEL_PHASES, (0, 1), (True, False), ends, (USED, TOP), asked):
         store = changed(pairs(level, phase, current), setting(frontier=list(frontier), births=births))
         store.share, store.charge = [charged + size(*args[2:]) - 1 + within] * SESSIONS, [charged] * SESSIONS
         yield (f"allocate {args} at level {level} in phase {phase}, current half {current}, within {within}, frontiers {frontier}, "
@@ -126,7 +127,8 @@ def few():
         yield (f"allocate at level {level}, share {share}, charge {charge}",
                encode(changed(pairs(level, phase), account(THERE, share, charge)), ALLOCATE, [THERE, FREE, 1, 1]))
     for phase in (11, RECLAIM):
-        yield f"step that ends phase {phase}", encode(changed(pairs(LEVELS[phase], phase), setting(place=END, scanned=[True] * 16)), STEP, [])
+        store = changed(pairs(LEVELS[phase], phase), setting(place=END, scanned=[True] * SESSIONS))
+        yield f"step that ends phase {phase}", encode(store, STEP, [])
     yield "making", encode(wide(Sapphire(16, least_list(16))), MAKE, [])
 
 

@@ -119,8 +119,8 @@ CHARGES_STAY, ATTACHED_CLEARED = "charges stay when Reclaim ends", "charges of a
 CLEARED_AT_RECLAIM, CLEARED_AFTER_REST = "charges cleared when Reclaim begins too", "charges cleared when Rest is left too"
 CLEARED_WAITING = "charges cleared by a step of Reclaim that waits too"
 LINE_SHARE_SLIPS = [ATTACH_CLEARS, SHARE_KEPT, REFUSED_SHARES, DETACH_CLEARS, CHARGE_FORGOTTEN, SHARE_JUST_REFUSED, ROOM_BEFORE_SHARE,
-                    NUMBERS_BEFORE_SHARE, HEADER_FREE, BOTH_CHARGED, SHELLS_CHARGED, NEXT_CHARGED, *CHARGED_BY.values(), CHARGES_STAY, ATTACHED_CLEARED,
-                    CLEARED_AT_RECLAIM, CLEARED_AFTER_REST, CLEARED_WAITING]
+                    NUMBERS_BEFORE_SHARE, HEADER_FREE, BOTH_CHARGED, SHELLS_CHARGED, NEXT_CHARGED, *CHARGED_BY.values(), CHARGES_STAY,
+                    ATTACHED_CLEARED, CLEARED_AT_RECLAIM, CLEARED_AFTER_REST, CLEARED_WAITING]
 
 # ---- shares and charges, in words alone or where no run comes; these and all of the above show in the cases of tests/shares.py
 DETACH_UNSHARES = "detach sets the share to 0"  # which the next attach sets anew

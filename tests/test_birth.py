@@ -15,6 +15,7 @@ import births
 import lifetime
 import lives
 import probe
+from collector import PHASES
 from explained import need
 from judge import faults
 from lifetime import FROM, TO
@@ -25,7 +26,6 @@ from slips import COUNT_RECLAIMED, COUNTED_BOTH, LINE_NUMBER_SLIPS, RUN_NUMBER_S
 RUNS, CALLS = 120, 3000
 AGED, AGED_CALLS = 100, 1200
 PAIRS, PAIR_CALLS = 120, 1500
-PHASES = "Rest PreMark1 PreMark2 RootMark HeapMark Allocate PreCopy Copy PreFlip1 PreFlip2 RootFlip StackFlip Reclaim".split()
 
 
 # ---- the life of a record, by the probe program

@@ -1,8 +1,9 @@
 #!/usr/bin/env python3
 """Every call of the directory on any control record and any memory: the probe program writes, word for word, what the directory in Python
 gives, over the store in Python. Directed cases (every phase and level, edges of every range, damaged records, records without the
-field, right and wrong replicas, chains in a ring, birth numbers used up) and random damaged directories. Where no number is left, and
-where the last one is given, the words hold what the plain table has. Mistakes built into the directory in Python are seen."""
+field, right and wrong replicas, chains in a ring, birth numbers used up, shares filled and passed) and random damaged directories. Where
+no number is left, where the last one is given, and around the edge of a share, the words hold what the plain table has. Mistakes built
+into the directory in Python are seen."""
 import sys
 import time
 from collections import Counter
@@ -10,12 +11,13 @@ from collections import Counter
 import directory
 import directory_cases
 import directory_chance
+import directory_shares
 import probe
 import replicas
 from model import MOST_BIRTHS
 from probe import OPEN, ADD, REMOVE, MAKE_GROUP, JOIN, LEAVE, LIST
 from sapphire import LEVELS
-from table import NO_NUMBER, NO_ROOM, Table, fed
+from table import NO_NUMBER, NO_ROOM, OVER_SHARE, Table, fed
 
 RANDOM = 6000
 # the refusals that each call has, by document 02
@@ -53,7 +55,7 @@ def check_bad_cases():
 
 def check_slips(cases, replies):
     """Each mistake built into the directory in Python must show in some case."""
-    for slip in directory.SLIPS + directory.DAMAGE_SLIPS + directory.NUMBER_SLIPS:
+    for slip in directory.SLIPS + directory.DAMAGE_SLIPS + directory.NUMBER_SLIPS + directory.SHARE_SLIPS:
         seen = next((name for (name, case), reply in zip(cases, replies) if probe.expected(case, slip) != reply), None)
         if seen is None:
             sys.exit(f"test_directory_probe: the slip '{slip}' is not seen")
@@ -84,26 +86,49 @@ def plain_table(store):
     return plain
 
 
-def check_numbers():
-    """Where one birth number is left, or none: the number of the reply is the plain table's, and so is what the words hold after it."""
-    cases, seen = list(directory_cases.numbers()), Counter()
+def beside_table(cases):
+    """Runs the program on cases of sound stores: the number of the reply is the plain table's, and so is what the words hold after it; a
+    record that is made takes a number and is charged to session 15. Number, the store before the call, and whether it made a record."""
     names = {case: name for name, case in cases}
     for case, reply in probe.answered(cases):
         number = probe.ANSWER.unpack_from(reply)[0]
         before, kind, args = probe.decode(case)
         after, plain = probe.decode(case[:probe.CALL.size] + reply[probe.ANSWER.size:])[0], plain_table(before)
         told = plain.call(kind - 100, args, fed(number))[0]
-        used = int(number == 0 and kind in (ADD, MAKE_GROUP, JOIN))
+        made = number == 0 and kind in (ADD, MAKE_GROUP, JOIN)
         held = plain.people, {group: plain.members(group) for group in plain.groups}
-        if told != number or directory_cases.table_of(after) != held or after.births != before.births + used:
-            sys.exit(f"test_directory_probe: {names[case]}: answered {number}, the plain table {told} and {held}; {after.births} numbers "
-                     "used")
-        seen[before.births, number] += used or number > 0
+        words = directory_shares.words_of(kind) * made
+        found = after.births - before.births, after.charge[directory.MINE] - before.charge[directory.MINE]
+        if told != number or directory_cases.table_of(after) != held or found != (made, words):
+            sys.exit(f"test_directory_probe: {names[case]}: answered {number}, the plain table {told} and {held}; {found[0]} numbers used, "
+                     f"{found[1]} words charged")
+        yield number, before, made
+
+
+def check_numbers():
+    """Where one birth number is left, or none."""
+    cases, seen = list(directory_cases.numbers()), Counter()
+    for number, before, made in beside_table(cases):
+        seen[before.births, number] += made or number > 0
     last, none = seen[MOST_BIRTHS - 1, 0], seen[MOST_BIRTHS, NO_NUMBER]
     print(f"test_directory_probe: {len(cases)} calls where few birth numbers are left: the last one is given {last} times, {none} are "
           f"refused with 16, {seen[MOST_BIRTHS, NO_ROOM]} with 14 though no number is left; the table is as before")
     if min(last, none, seen[MOST_BIRTHS, NO_ROOM]) < 60 or seen[MOST_BIRTHS - 1, NO_NUMBER]:
         sys.exit(f"test_directory_probe: the calls do not show enough of birth numbers: {seen}")
+
+
+def check_shares():
+    """Around the edge of a share, and past it where there is no room or no number either."""
+    cases, seen = [*directory_shares.edges(), *directory_shares.orders()], Counter()
+    for number, before, made in beside_table(cases):
+        seen[number] += 1
+        seen["both"] += made and LEVELS[before.phase] > 2
+        seen["past all"] += number == OVER_SHARE and before.charge[directory.MINE] + directory_shares.PERSON > directory_shares.TOP
+    print(f"test_directory_probe: {len(cases)} calls around the edge of a share: {seen[OVER_SHARE]} are refused with 17, "
+          f"{seen['past all']} of them past the highest word, {seen[NO_ROOM]} with 14, {seen[NO_NUMBER]} with 16; {seen['both']} records "
+          f"of two copies are charged once")
+    if min(seen[OVER_SHARE], seen["both"], seen["past all"]) < 100 or min(seen[NO_ROOM], seen[NO_NUMBER]) < 20:
+        sys.exit(f"test_directory_probe: the calls do not show enough of shares: {seen}")
 
 
 def check_refusals(name, seen):
@@ -120,13 +145,14 @@ def main():
     began = time.time()
     check_bad_cases()
     paired = list(directory_cases.replicas())
-    directed = [*directory_cases.directed(), *paired]
+    directed = [*directory_cases.directed(), *paired, *directory_shares.directed()]
     replies, seen, levels = compare(directed)
     check_refusals("directed", seen)
     if levels != {(kind, level) for kind in REFUSALS if kind != OPEN for level in range(7)}:
         sys.exit(f"test_directory_probe: 12 does not come in every call but open at every level, but only at {sorted(levels)}")
     check_replicas(paired)
     check_numbers()
+    check_shares()
     check_refusals("random", compare(list(directory_chance.random_cases(RANDOM)))[1])
     check_slips(directed, replies)
     print(f"test_directory_probe: {time.time() - began:.0f} s")

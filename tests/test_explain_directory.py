@@ -72,12 +72,13 @@ def lies(programs):
         done = ran("-", data=encode(entries), program=programs.writing(line + "\\n"))
         want = f"tools/explain: the directory program {reason}\n"
         need((done.returncode, done.stderr.decode()) == (2, want), f"{line} gives {done.stderr!r}")
-    data = encode([(ADD, [7]), (JOIN, [7, 8]), (MAKE, [8])])
-    done = ran("--only", "refused", "-", data=data, program=programs.writing("1 12 0\\n2 4 0\\n3 26 0\\n"))
+    data = encode([(ADD, [7]), (JOIN, [7, 8]), (MAKE, [8]), (ADD, [9])])
+    done = ran("--only", "refused", "-", data=data, program=programs.writing("1 12 0\\n2 4 0\\n3 26 0\\n4 17 0\\n"))
     want = ["1  directory: add person 7  -> refused 12, damaged memory",
             "2  directory: person 7 joins group 8  -> refused 4, the control record is damaged",
-            "3  directory: make group 8  -> refused 26, a damaged chain without end"]
-    need(done.stdout.decode().splitlines()[:3] == want, f"damage gives {done.stdout!r}")
+            "3  directory: make group 8  -> refused 26, a damaged chain without end",
+            "4  directory: add person 9  -> refused 17, more than the directory's share"]
+    need(done.stdout.decode().splitlines()[:len(want)] == want, f"damage gives {done.stdout!r}")
 
 
 def unbuilt(folder):

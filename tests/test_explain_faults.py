@@ -8,7 +8,7 @@ import subprocess
 import tempfile
 
 from explained import DAY, EXPLAIN, TOP, Programs, need, printed, ran
-from model import ATTACH, SAFE, STEP
+from model import ALLOCATE, ATTACH, SAFE, STEP
 from scripts import encode, random_script
 
 GOOD = encode([(ATTACH, [0]), (STEP, [])])
@@ -79,13 +79,16 @@ def unbuilt(folder):
 
 
 def damage(programs):
-    """Answers that the program gives on broken memory alone: they have words, and far ones are not folded into one row."""
-    data = encode([(STEP, []), (ATTACH, [0]), (STEP, []), (STEP, []), (SAFE, [0])])
-    lines = "1 12 0\\n2 0 0\\n3 12 0\\n4 12 0\\n5 4 0\\n"
+    """Answers that the program gives on broken memory alone, or where numbers or a share are used up, which no script can do: they have
+    words, and far ones are not folded into one row."""
+    data = encode([(STEP, []), (ATTACH, [0]), (STEP, []), (STEP, []), (SAFE, [0])] + [(ALLOCATE, [0, 0, 0, 0])] * 2)
+    lines = "1 12 0\\n2 0 0\\n3 12 0\\n4 12 0\\n5 4 0\\n6 16 0\\n7 17 0\\n"
     done = ran("--only", "refused", "--fold", "-", data=data, program=programs.writing(lines))
     want = ["1  collector step  -> refused 12, damaged memory", "3 to 4  2 collector steps  -> refused 12, damaged memory",
-            "5  session 0: safe point  -> refused 4, the control record is damaged", ""]
-    need(done.stdout.decode().splitlines()[:4] == want, f"damage gives {done.stdout!r}")
+            "5  session 0: safe point  -> refused 4, the control record is damaged",
+            "6  session 0: allocate 0 links, 0 words into register 0  -> refused 16, no birth number left",
+            "7  session 0: allocate 0 links, 0 words into register 0  -> refused 17, more than the session's share", ""]
+    need(done.stdout.decode().splitlines()[:len(want)] == want, f"damage gives {done.stdout!r}")
 
 
 def notes(folder):

@@ -2,8 +2,8 @@
 """Every call of the store, the stretch and its companion too, on any control record and any memory: the probe program writes, word for
 word, what documents 01 and 02 give, by the store in Python. Directed cases (edges of every range, every way to meet damage, both halves,
 both copies; every reference stored over every other, and all that shades or marks; right and wrong replicas wherever a reference is
-followed; the session scan over any registers; birth numbers asked for, given and used up) and random ones, damaged stores and scans.
-Mistakes built into the store in Python are seen.
+followed; the session scan over any registers; birth numbers asked for, given and used up; shares filled and passed, charges kept and
+cleared) and random ones, damaged stores and scans. Mistakes built into the store in Python are seen.
 
     python3 tests/test_probe.py write    writes crates/probe/stdin and stdout anew, both from documents 01 and 02 alone
 """
@@ -19,12 +19,15 @@ import births
 import chance
 import damage
 import directory_cases
+import directory_shares
 import probe
 import replicas
 import scanning
+import shares
+import stretches
 from model import ATTACH, DETACH, SAFE, ALLOCATE, LOAD, STORE, READ, WRITE, MOVE, CLEAR, SAME, GET, PUT, STEP
 from sapphire import BIRTH, COMPANION, STRETCH
-from slips import DAMAGE_SLIPS, MARKING_SLIPS, NUMBER_SLIPS, PLACE_IN_HALF, PLACES, SCAN_SLIPS, STRICT_SLIPS, WEAK_SLIPS
+from slips import DAMAGE_SLIPS, MARKING_SLIPS, NUMBER_SLIPS, PLACE_IN_HALF, PLACES, SCAN_SLIPS, SHARE_SLIPS, STRICT_SLIPS, WEAK_SLIPS
 
 CRATE = os.path.join(os.path.dirname(os.path.abspath(__file__)), "..", "crates", "probe")
 RANDOM, RANDOM_SCANS = 60000, 10000
@@ -39,7 +42,7 @@ REFUSALS = {probe.MAKE: {1, 2, 3}, ATTACH: {4, 5, 7}, DETACH: SESSION, SAFE: SES
 
 def files():
     """What crates/probe/stdin and stdout must hold."""
-    cases = [case for _, case in [*damage.few_stretches(), *births.few(), *directory_cases.few()]]
+    cases = [case for _, case in [*stretches.few(), *births.few(), *directory_cases.few(), *shares.few(), *directory_shares.few()]]
     return b"".join(cases), b"".join(probe.expected(case) for case in cases)
 
 
@@ -50,7 +53,7 @@ def held(name):
 
 def compare(cases):
     """Runs the program on the cases; its whole output must be what documents 01 and 02 give. How often each kind had each number, and
-    how often each trait of birth numbers came."""
+    how often each trait of birth numbers and of shares came."""
     seen, traits = {}, Counter()
     for case, want in probe.answered(cases):
         kind, number = probe.CALL.unpack_from(case)[0], probe.ANSWER.unpack_from(want)[0]
@@ -58,6 +61,7 @@ def compare(cases):
             number, = probe.ANSWER.unpack_from(probe.expected(COMPANION.to_bytes(4, "big") + case[4:]))[:1]
         seen[kind, number] = seen.get((kind, number), 0) + 1
         traits.update(births.traits(case, want))
+        traits.update(shares.traits(case, want))
     return seen, traits
 
 
@@ -88,6 +92,19 @@ def check_numbers(kind, traits, least):
         sys.exit(f"test_probe: the {kind} cases do not show enough of birth numbers: {traits}")
 
 
+def check_shares(kind, traits, least):
+    """That 17 comes at every level, where there is no room or no number too, and where the sum is past the highest word; that a share is
+    filled at every level, records of two copies are charged once, and charges cleared; at least so often."""
+    def times(wanted):
+        return sum(traits[trait] for trait in shares.TRAITS if trait == wanted or trait[0] == wanted)
+    print(f"test_probe: the {kind} cases have 17 {times(shares.OVER)} times, {times(shares.OVER_FIRST)} without room or number, "
+          f"{times(shares.PAST_ALL)} past the highest word; shares filled {times(shares.FILLED)} times, {times(shares.ONCE)} records of "
+          f"two copies charged once, charges cleared {times(shares.CLEARED)} times, {times(shares.ABSENT_CLEARED)} of absent sessions; of "
+          f"each and level at least {min(traits[trait] for trait in shares.TRAITS)}")
+    if any(traits[trait] < least for trait in shares.TRAITS):
+        sys.exit(f"test_probe: the {kind} cases do not show enough of shares: {[(trait, traits[trait]) for trait in shares.TRAITS]}")
+
+
 def check_scans(kind, cases):
     """Runs the program on cases of the session scan. And the model: it refuses none but with 12, and then changes nothing."""
     names, seen = {case: name for name, case in cases}, Counter()
@@ -108,7 +125,7 @@ def check_scans(kind, cases):
 
 def check_bad_cases():
     """A case that is cut short, or lends more than the program has, is not answered, and ends the program; an unknown kind is 15."""
-    _, case = next(damage.few_stretches())
+    _, case = next(stretches.few())
     want = probe.expected(case)
     memory = probe.CALL.size + probe.RECORD.size  # where the lent words begin
     for n in (0, 1, probe.CALL.size - 1, probe.CALL.size, memory - 1, memory, len(case) - 1):
@@ -146,9 +163,10 @@ def main():
     if (held("stdin"), held("stdout")) != files():
         sys.exit("test_probe: crates/probe/stdin and stdout are not those that this test writes")
     check_bad_cases()
-    directed, marking, by_chance = list(damage.directed()), list(barriers.directed()), list(chance.random_cases(RANDOM))
-    paired, numbered = list(replicas.directed()), list(births.directed())
-    for name, cases, least in [("directed", directed + marking + paired + numbered, 20), ("random", by_chance, 10)]:
+    directed, marking = [*stretches.directed(), *damage.directed()], list(barriers.directed())
+    by_chance = list(chance.random_cases(RANDOM))
+    paired, numbered, charged = list(replicas.directed()), list(births.directed()), list(shares.directed())
+    for name, cases, least in [("directed", directed + marking + paired + numbered + charged, 20), ("random", by_chance, 10)]:
         seen, traits = compare(cases)
         numbers = {}
         for (_, number), count in seen.items():
@@ -158,6 +176,7 @@ def main():
         if lacking:
             sys.exit(f"test_probe: the {name} cases of the kinds {lacking} do not have just the refusals of document 01's table")
         check_numbers(name, traits, least)
+        check_shares(name, traits, least)
     check_replicas("directed", paired, 10)
     check_replicas("random", by_chance, 1)
     scans = scanning.directed()
@@ -168,6 +187,7 @@ def main():
     check_slips([*WEAK_SLIPS, *PLACES.values(), *STRICT_SLIPS], random.Random(1).sample(paired, len(paired)))
     check_slips(SCAN_SLIPS, scans)
     check_slips(NUMBER_SLIPS, numbered)
+    check_slips(SHARE_SLIPS, charged)
     print(f"test_probe: {time.time() - began:.0f} s")
 
 

@@ -10,9 +10,9 @@ BAD_SCRIPT = 15
 REASONS = {
     4: "the control record is damaged", 5: "no such session", 6: "the session is not attached", 7: "the session is attached already",
     8: "no such register", 9: "no such global", 10: "too many fields", 11: "the register is null", 12: "damaged memory",
-    13: "no such field", 14: "no room", BAD_SCRIPT: "bad script", 16: "no birth number left", 23: "no such person or group",
-    24: "there already", 25: "not a member", 26: "a damaged chain without end"}
-DIRECTORY_REASONS = REASONS | {6: "the directory is not open", 7: "the directory is open already"}
+    13: "no such field", 14: "no room", BAD_SCRIPT: "bad script", 16: "no birth number left", 17: "more than the session's share",
+    23: "no such person or group", 24: "there already", 25: "not a member", 26: "a damaged chain without end"}
+DIRECTORY_REASONS = REASONS | {6: "the directory is not open", 7: "the directory is open already", 17: "more than the directory's share"}
 
 SCRIPT, DIRECTORY = 1, 2  # version bytes
 BYTE, WORD = 1, 4  # bytes of an argument
@@ -25,7 +25,7 @@ def counted(number, thing):
 
 
 SESSION = {4, 5, 6}  # what every call of a session but attach may be refused with
-ALLOCATION = {14, 16}  # what only an allocation may be refused with
+ALLOCATION = {14, 16, 17}  # what only an allocation may be refused with
 RECORD = SESSION | {8, 11, 12, 13}  # and one on the record in a register
 CHAINS = {4, 6, 12, 13, 23, 26}  # what every call of the directory but open may be refused with
 

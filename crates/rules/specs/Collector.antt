@@ -7,7 +7,7 @@ use lib.ListN.{getD, set, length}
 use Rattle.rules.specs.Refusals.{Tested, passed, check, _>>=_, _>>_, Outcome, answered}
 use Rattle.rules.specs.Memory.{Memory, half, frontier, withFrontier, null, reference, white, black, shapeAt, colourAt, replicaAt, newRecord, word, put, colour, replica, birthNumber, refs, plains, size, refField, plainField, append, nextReference, followed, forward}
 use Rattle.rules.specs.Control.{Store, withMemory, withWalk, withList, withGlobals, withCurrent, inRange, globalCount}
-use Rattle.rules.specs.Phases.{levelOf, otherHalf, tospace, sessionAt, withSession, withRegisters, withMark, uncharged, allAt, lowestUnmarked, moveOn}
+use Rattle.rules.specs.Phases.{levelOf, otherHalf, tospace, sessionAt, withSession, withRegisters, withMark, withoutCharges, allAt, lowestUnmarked, moveOn}
 use Rattle.rules.specs.Barriers.{heapOf, shading, shade, shadingAll, shadeAll}
 use Rattle.rules.specs.declared.Answer.the-variants.{Phase}
 
@@ -164,7 +164,7 @@ reclaim s =
     cond (not (haveLevel s)) (passed s)
     (cond (below s)
     (do followed M v; passed (pastRecord s (put M v replicaAt null)))
-    (passed (uncharged (moveOn (withMemory s (withFrontier M (otherHalf (s .current)) 0))))))
+    (passed (withoutCharges (moveOn (withMemory s (withFrontier M (otherHalf (s .current)) 0))))))
 
 -- the rule of each phase
 abbrev pub units : List (Store → Tested Store)

@@ -73,9 +73,12 @@ detached x = withLevel (cleared x false) 0
 unfoldable pub unmarked : List Session → List Session
 unmarked = map (λ x. withMark x false)
 
--- request [7]: nothing is charged to a session, of all sixteen
-unfoldable pub uncharged : Store → Store
-uncharged s = withSessions s (map (λ x. withCharge x 0) (s .sessions))
+-- request [7]: to no session anything is charged
+unfoldable pub uncharged : List Session → List Session
+uncharged = map (λ x. withCharge x 0)
+
+unfoldable pub withoutCharges : Store → Store
+withoutCharges s = withSessions s (uncharged (s .sessions))
 
 -- "every attached session has the level"
 abbrev pub allAt : ℕ → List Session → Bool

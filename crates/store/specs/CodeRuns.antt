@@ -46,9 +46,9 @@ pub data CodeMade : Lent → Type 0 where
 -- `&` stay. The stretch and its companion hand no control record back, so the next call gets the same one. That the contract of
 -- each method, as the checker has it, gives its case is shown in `proofs/runs/Contracts.antt`.
 pub data Called (self : Control) (h0 h1 list : List ℕ) : Call → Reply → Lent → Type 0 where
-  by-attach : (s : ℕ) (r : code.Reply)
-      → outcome r h0 h1 list ≡ apply (view self h0 h1 list) (Attach s)
-      → Called self h0 h1 list (Attach s) (answer (r .answer)) (lent (r .control) h0 h1 list)
+  by-attach : (s share : ℕ) (r : code.Reply)
+      → outcome r h0 h1 list ≡ apply (view self h0 h1 list) (Attach s share)
+      → Called self h0 h1 list (Attach s share) (answer (r .answer)) (lent (r .control) h0 h1 list)
   by-detach : (s : ℕ) (r : code.Reply)
       → outcome r h0 h1 list ≡ apply (view self h0 h1 list) (Detach s)
       → Called self h0 h1 list (Detach s) (answer (r .answer)) (lent (r .control) h0 h1 list)

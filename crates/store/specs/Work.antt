@@ -5,7 +5,7 @@ use mathlib.Core.List.{List, [], _∷_}
 use lib.ListN.{set}
 use Rattle.rules.specs.Refusals.{Outcome, answer}
 use Rattle.rules.specs.Control.{Store, withGlobals, withSessions}
-use Rattle.rules.specs.Phases.{sessionAt, withSession, withRegisters, withMark, unmarked}
+use Rattle.rules.specs.Phases.{sessionAt, withSession, withRegisters, withMark, unmarked, uncharged}
 use Rattle.rules.specs.declared.Answer.the-variants as answers
 use Rattle.rules.specs.declared.Session as rules
 use Rattle.store.specs.Steps.{went}
@@ -14,7 +14,7 @@ use Rattle.store.specs.declared.work.Stack.{Stack}
 use Rattle.store.specs.declared.work.Forwarded.{Forwarded}
 use Rattle.store.specs.declared.work.Forwarded.the-variants as forward
 use Rattle.store.specs.declared.work.Touch.{Touch}
-use Rattle.store.specs.declared.work.Touch.the-variants.{Nothing, Marks, Global, Session}
+use Rattle.store.specs.declared.work.Touch.the-variants.{Nothing, Marks, Charges, Global, Session}
 use Rattle.store.specs.declared.work.Work.{Work}
 use Rattle.store.specs.declared.work.Work.the-variants.{Refused, Next}
 
@@ -31,6 +31,7 @@ withForwarded x (forward.Registers stack) = withRegisters x (registers stack)
 abbrev pub touched : Store → Touch → Store
 touched s Nothing = s
 touched s Marks = withSessions s (unmarked (s .sessions))
+touched s Charges = withSessions s (uncharged (unmarked (s .sessions)))
 touched s (Global k word) = withGlobals s (set (s .globals) k word)
 touched s (Session n f) = withSession s n (withMark (withForwarded (sessionAt s n) f) true)
 

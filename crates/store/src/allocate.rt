@@ -1,15 +1,17 @@
 // Allocation: the tests, then a new record in one half or in both.
 ghost use mathlib.Core.Path.{_≡_};
-ghost use Prim.Native.Nat.{ℕ, _≤_};
+ghost use Prim.Native.Nat.{ℕ, _+_, _≤_};
 ghost use mathlib.Core.List.{List};
+ghost use lib.ListN.{getD};
 ghost use Rattle.rules.specs.Refusals.{refusalOf};
-ghost use Rattle.rules.specs.Memory.{nextReference};
-ghost use Rattle.rules.specs.Control.{withMemory, mostLength};
+ghost use Rattle.rules.specs.Memory.{mostCount, nextReference};
+ghost use Rattle.rules.specs.Control.{withMemory, mostLength, lastSession, lastRegister};
+ghost use Rattle.rules.specs.Phases.{absent, withCharge};
 ghost use Rattle.rules.specs.Barriers.{allocationRoom, placed, allocated, allocatedReference};
-ghost use Rattle.rules.specs.Calls.{allocate};
+ghost use Rattle.rules.specs.Calls.{withinShare, withRegister, charged, allocate};
 ghost use Rattle.rules.specs.Runs.{apply, Allocate};
 ghost use Rattle.store.specs.View.{view, outcome};
-ghost use Rattle.store.specs.Allocation.{Small, Fits, Room, Allocatable};
+ghost use Rattle.store.specs.Allocation.{Small, Fits, lastTests, Room, Allocatable};
 use crate::Control;
 use crate::Reply;
 use crate::walking::frontier;
@@ -35,7 +37,36 @@ impl Control {
         if self.cursor.current == 0 { low } else { high }
     }
 
-    // The tests 4, 5, 6, 8, 10, 14 and 16: the number of the first that fails, or 0.
+    // Whether a record of r and p fields may be charged to a session.
+    fn within_share(session: rules::Session, r: u32, p: u32) -> bool
+        requires { ⌜ (r ≤ mostCount) × (p ≤ mostCount) ⌝ }
+        ensures { λ b. ⌜ b ≡ withinShare session r p ⌝ }
+    {
+        let n = HEADER + (r as usize) + (p as usize);
+        (session.charge as usize) + n <= (session.share as usize)
+    }
+
+    // The tests 17, 14 and 16 of an allocation by a session: the number of the first that fails, or 0.
+    fn last_tests(self, session: rules::Session, r: u32, p: u32) -> u32
+        requires { ⌜ Small self r p ⌝ }
+        ensures { λ n. ⌜ ((h0 h1 l : List ℕ) → Fits self h0 h1 → n ≡ refusalOf (lastTests (view self h0 h1 l) session r p)) ⌝ }
+    {
+        let within = Control::within_share(session, r, p);
+        if !within {
+            return 17;
+        }
+        let room = self.allocation_room(session.level, r, p);
+        if !room {
+            return 14;
+        }
+        if self.births < Control::MOST_BIRTHS {
+            0
+        } else {
+            16
+        }
+    }
+
+    // The tests 4, 5, 6, 8, 10, 17, 14 and 16: the number of the first that fails, or 0.
     fn allocation_tests(
         self,
         h0: &[u32],
@@ -61,15 +92,7 @@ impl Control {
         }
         let i = s as usize;
         let session = self.sessions[i];
-        let room = self.allocation_room(session.level, r, p);
-        if !room {
-            return 14;
-        }
-        if self.births < Control::MOST_BIRTHS {
-            0
-        } else {
-            16
-        }
+        self.last_tests(session, r, p)
     }
 
     // A record of zero fields with a birth number at the frontier of half h.
@@ -148,7 +171,33 @@ impl Control {
         reference(h, frontier(self.cursor.frontier0, self.cursor.frontier1, h))
     }
 
-    // Allocate: the register gets a record of r null references and p zeros, and its birth number is used.
+    // A session with n more words charged to it, within its share.
+    fn charged(session: rules::Session, n: u32) -> rules::Session
+        requires { ⌜ session .charge + n ≤ session .share ⌝ }
+        ensures { λ r. ⌜ r ≡ withCharge session (session .charge + n) ⌝ }
+    {
+        let mut next = session;
+        next.charge = session.charge + n;
+        next
+    }
+
+    // The control record with register k of session s set to v, and a record of n words, within its share, charged to the
+    // session.
+    fn given(mut self, s: u32, k: u32, v: u32, n: u32) -> Self
+        requires { ⌜ (s ≤ lastSession) × (k ≤ lastRegister) × (getD (self .sessions) s absent .charge + n ≤ getD (self .sessions) s absent .share) ⌝ }
+        ensures { λ r. ⌜ ((h0 h1 l : List ℕ) → view r h0 h1 l ≡ charged (withRegister (view self h0 h1 l) s k v) s n) ⌝ }
+    {
+        let i = s as usize;
+        let j = k as usize;
+        let mut session = self.sessions[i];
+        session.registers[j] = v;
+        let paid = Control::charged(session, n);
+        self.sessions[i] = paid;
+        self
+    }
+
+    // Allocate: the register gets a record of r null references and p zeros, its birth number is used, and its words are
+    // charged to the session.
     pub fn allocate(
         self,
         h0: &mut [u32],
@@ -174,7 +223,7 @@ impl Control {
         let v = self.allocated_reference(session.level);
         let mut written = self.allocated(h0, h1, session.level, r, p);
         written.births = self.births + 1;
-        let next = written.with_register(s, register, v);
+        let next = written.given(s, register, v, (HEADER as u32) + r + p);
         Reply {
             control: next,
             answer: rules::Answer::Done,

@@ -147,6 +147,8 @@ impl Control {
         rules::Session {
             registers: [0; Control::REGISTERS],
             level: 0,
+            share: 0,
+            charge: 0,
             attached: false,
             scanned: false,
         }

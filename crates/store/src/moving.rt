@@ -4,12 +4,12 @@ ghost use Prim.Native.Nat.{ℕ, _≤_};
 ghost use mathlib.Core.List.{List};
 ghost use Rattle.rules.specs.Control.{Store};
 ghost use Rattle.rules.specs.Cycle.{lastPhase, nextPhase};
-ghost use Rattle.rules.specs.Phases.{unmarked};
+ghost use Rattle.rules.specs.Phases.{unmarked, uncharged};
 ghost use Rattle.rules.specs.Collector.{haveLevel, rest, handshake};
 ghost use Rattle.store.specs.View.{view};
 ghost use Rattle.store.specs.Steps.{stepped};
 ghost use Rattle.store.specs.declared.work.Work.the-variants.{Next};
-ghost use Rattle.store.specs.declared.work.Touch.the-variants.{Marks};
+ghost use Rattle.store.specs.declared.work.Touch.the-variants.{Marks, Charges};
 ghost use Rattle.store.specs.Cursors.{having, movedOn};
 ghost use Rattle.store.specs.Work.{worked};
 use crate::Control;
@@ -54,19 +54,52 @@ impl Control {
         }
         next
     }
+
+    // The sessions with no scanned mark and nothing charged to them, as the end of Reclaim leaves them.
+    pub(crate) fn uncharged(
+        sessions: [rules::Session; Control::SESSIONS],
+    ) -> [rules::Session; Control::SESSIONS]
+        ensures { λ r. ⌜ r ≡ uncharged (unmarked sessions) ⌝ }
+    {
+        let mut next = Control::unmarked(sessions);
+        let mut i: usize = 0;
+        while i < Control::SESSIONS {
+            let mut session = next[i];
+            session.charge = 0;
+            next[i] = session;
+            i += 1;
+        }
+        next
+    }
 }
 
 impl Cursor {
-    // The next phase: walk place and field 0, no scanned mark.
-    pub(crate) fn move_on(mut self) -> Work
+    // The next phase: walk place and field 0.
+    fn moved_on(mut self) -> Self
         requires { ⌜ self .phase ≤ lastPhase ⌝ }
-        ensures { λ r. ⌜ r ≡ Next (movedOn self) Marks ⌝ }
+        ensures { λ r. ⌜ r ≡ movedOn self ⌝ }
     {
         let phase = self.phase;
         self.phase = Control::next_phase(phase);
         self.place = 0;
         self.field = 0;
-        Work::Next(self, Touch::Marks)
+        self
+    }
+
+    // On to the next phase, with no scanned mark.
+    pub(crate) fn move_on(self) -> Work
+        requires { ⌜ self .phase ≤ lastPhase ⌝ }
+        ensures { λ r. ⌜ r ≡ Next (movedOn self) Marks ⌝ }
+    {
+        Work::Next(self.moved_on(), Touch::Marks)
+    }
+
+    // On to the next phase, with no scanned mark and nothing charged.
+    pub(crate) fn end(self) -> Work
+        requires { ⌜ self .phase ≤ lastPhase ⌝ }
+        ensures { λ r. ⌜ r ≡ Next (movedOn self) Charges ⌝ }
+    {
+        Work::Next(self.moved_on(), Touch::Charges)
     }
 
     // Phase 0: the list emptied, and on to the next phase.

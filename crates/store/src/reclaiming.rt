@@ -1,4 +1,4 @@
-// Phase 12, Reclaim: no replica words are left, and the other half becomes empty.
+// Phase 12, Reclaim: no replica words are left, the other half becomes empty, and nothing is charged any more.
 ghost use mathlib.Core.Path.{_≡_};
 ghost use Prim.Native.Nat.{ℕ};
 ghost use mathlib.Core.List.{List};
@@ -19,7 +19,7 @@ use rules::Followed;
 
 impl Cursor {
     // Phase 12: once every attached session is at level 0 (`ready`), the next record's replica word becomes 0; at the frontier
-    // the other half becomes empty and the step moves on.
+    // the other half becomes empty, all charges 0, and the step moves on.
     pub(crate) fn reclaim(self, ready: bool, h0: &mut [u32], h1: &mut [u32]) -> Work
         requires { ⌜ Ready self (now h0) (now h1) ⌝ }
         ensures { λ r. ⌜ ((s : Store) (l : List ℕ) → ready ≡ haveLevel (having s self (now (h0 .entry)) (now (h1 .entry)) l)
@@ -34,7 +34,7 @@ impl Cursor {
         if !below {
             let other = other_half(self.current);
             let emptied = self.with_frontier(other, 0);
-            return emptied.move_on();
+            return emptied.end();
         }
         let v = self.walked();
         let Followed::Sound(_, r, p) = follow(h0, h1, self.frontier0, self.frontier1, v) else {

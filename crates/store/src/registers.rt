@@ -1,30 +1,14 @@
 // The calls on registers that touch no record. Each makes all its tests first and sets its register in place: a function
 // that took the control record for it would have it copied.
 ghost use mathlib.Core.Path.{_≡_};
-ghost use Prim.Native.Nat.{ℕ, _≤_};
-ghost use mathlib.Core.List.{List};
 ghost use Rattle.rules.specs.Refusals.{refusalOf};
-ghost use Rattle.rules.specs.Control.{lastRegister, lastSession};
-ghost use Rattle.rules.specs.Calls.{withRegister, move, get};
+ghost use Rattle.rules.specs.Calls.{move, get};
 ghost use Rattle.rules.specs.Runs.{apply, Move, Clear, Get};
 ghost use Rattle.store.specs.View.{view, outcome};
 use crate::Control;
 use crate::Reply;
 
 impl Control {
-    // The control record with register k of session s set.
-    pub(crate) fn with_register(mut self, s: u32, k: u32, v: u32) -> Self
-        requires { ⌜ (s ≤ lastSession) × (k ≤ lastRegister) ⌝ }
-        ensures { λ r. ⌜ ((h0 h1 l : List ℕ) → view r h0 h1 l ≡ withRegister (view self h0 h1 l) s k v) ⌝ }
-    {
-        let i = s as usize;
-        let j = k as usize;
-        let mut session = self.sessions[i];
-        session.registers[j] = v;
-        self.sessions[i] = session;
-        self
-    }
-
     // The tests 4, 5, 6 and 8 (of both registers): the number of the first that fails, or 0. A call with one register
     // argument gives it twice.
     fn move_tests(self, h0: &[u32], h1: &[u32], list: &[u32], s: u32, to: u32, from: u32) -> u32

@@ -3,7 +3,7 @@ ghost use mathlib.Core.Path.{_≡_};
 ghost use mathlib.Core.List.{[], _∷_};
 ghost use lib.ListN.{getD};
 ghost use Rattle.rules.specs.Refusals.{refusalOf};
-ghost use Rattle.rules.specs.Phases.{absent};
+ghost use Rattle.rules.specs.Phases.{absent, cleared};
 ghost use Rattle.rules.specs.Calls.{sessionOf};
 ghost use Rattle.rules.specs.Runs.{apply, Attach, Detach, SafePoint};
 ghost use Rattle.store.specs.View.{view, outcome};
@@ -70,11 +70,21 @@ impl Control {
         if attached { 0 } else { 6 }
     }
 
+    // A session with its registers null, attached or not.
+    fn cleared(session: rules::Session, attached: bool) -> rules::Session
+        ensures { λ r. ⌜ r ≡ cleared session attached ⌝ }
+    {
+        let mut next = session;
+        next.registers = [0; Control::REGISTERS];
+        next.attached = attached;
+        next
+    }
+
     // Attach: level becomes the phase's level, registers null; in phase 4 the session counts as scanned, else it does
-    // not.
-    pub fn attach(mut self, h0: &[u32], h1: &[u32], list: &[u32], s: u32) -> Reply
+    // not. It gets its share, and what is charged to it stays.
+    pub fn attach(mut self, h0: &[u32], h1: &[u32], list: &[u32], s: u32, share: u32) -> Reply
         ensures { λ r. ⌜ outcome r (now (h0 .entry)) (now (h1 .entry)) (now (list .entry))
-            ≡ apply (view self (now (h0 .entry)) (now (h1 .entry)) (now (list .entry))) (Attach s) ⌝ }
+            ≡ apply (view self (now (h0 .entry)) (now (h1 .entry)) (now (list .entry))) (Attach s share) ⌝ }
     {
         // 6, not attached, is what attach asks for
         let refusal = self.session_tests(h0, h1, list, s);
@@ -93,9 +103,10 @@ impl Control {
         let i = s as usize;
         let phase = self.cursor.phase;
         let level = Control::level_of(phase);
-        let mut session = Control::nobody();
+        let before = self.sessions[i];
+        let mut session = Control::cleared(before, true);
         session.level = level;
-        session.attached = true;
+        session.share = share;
         session.scanned = phase == Control::HEAP_MARK;
         self.sessions[i] = session;
         Reply {
@@ -104,7 +115,7 @@ impl Control {
         }
     }
 
-    // Detach: registers null, level 0; the scanned mark stays.
+    // Detach: registers null, level 0; the scanned mark, the share and the charge stay.
     pub fn detach(mut self, h0: &[u32], h1: &[u32], list: &[u32], s: u32) -> Reply
         ensures { λ r. ⌜ outcome r (now (h0 .entry)) (now (h1 .entry)) (now (list .entry))
             ≡ apply (view self (now (h0 .entry)) (now (h1 .entry)) (now (list .entry))) (Detach s) ⌝ }
@@ -118,8 +129,8 @@ impl Control {
         }
         let i = s as usize;
         let session = self.sessions[i];
-        let mut left = Control::nobody();
-        left.scanned = session.scanned;
+        let mut left = Control::cleared(session, false);
+        left.level = 0;
         self.sessions[i] = left;
         Reply {
             control: self,

@@ -73,6 +73,11 @@ impl Control {
                         let unmarked = Control::unmarked(sessions);
                         self.sessions = unmarked;
                     }
+                    Touch::Charges => {
+                        let sessions = self.sessions;
+                        let uncharged = Control::uncharged(sessions);
+                        self.sessions = uncharged;
+                    }
                     Touch::Global(place, word) => {
                         // past the last global nothing
                         if place < Control::GLOBALS {

@@ -82,6 +82,8 @@ pub enum Touch {
     Nothing,
     // all scanned marks, cleared
     Marks,
+    // all scanned marks and all charges, cleared
+    Charges,
     // a global, and its word
     Global(usize, u32),
     // a session, marked as scanned, and what of it was forwarded

@@ -5,7 +5,7 @@ use mathlib.Core.Bool.{Bool}
 use mathlib.Core.List.{List, [], _∷_, map}
 use lib.ListN.{getD, set, length, length-set, length-map, List·getD-map}
 use Rattle.rules.specs.Control.{Store, withSessions}
-use Rattle.rules.specs.Phases.{absent, sessionAt, withSession, withShare, withCharge, uncharged}
+use Rattle.rules.specs.Phases.{absent, sessionAt, withSession, withShare, withCharge, uncharged, withoutCharges}
 use Rattle.rules.specs.Calls.{charged}
 use Rattle.rules.specs.Free.{Free}
 use Rattle.rules.specs.declared.Session.{Session}
@@ -100,8 +100,8 @@ module _ {K : ℕ → Type 0} {m : ℕ → ℕ} {s : Store} {f : Free} (h : Sim 
   unfolding charged withSession sessionAt
   charged-sim n w = accounts-sim h (record { count = length-set (s .sessions) n _; each = charge-set (s .sessions) n _ })
 
-  pub uncharged-sim : Sim K m (uncharged s) f
-  unfolding uncharged
+  pub uncharged-sim : Sim K m (withoutCharges s) f
+  unfolding withoutCharges uncharged
   uncharged-sim = accounts-sim h (record {
     count = length-map (s .sessions) (λ x. withCharge x 0);
     each = λ n. ap bare (List·getD-map (λ x. withCharge x 0) (s .sessions) n absent);

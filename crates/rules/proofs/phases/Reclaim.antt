@@ -7,7 +7,7 @@ use borrow.Author.Tests.{lt-ltb, le-ltb}
 use Rattle.rules.specs.Memory.{null, replicaAt, frontier}
 use Rattle.rules.specs.Control.{Store}
 use Rattle.rules.specs.Cycle.{stage}
-use Rattle.rules.specs.Phases.{moveOn, uncharged}
+use Rattle.rules.specs.Phases.{moveOn, withoutCharges}
 use Rattle.rules.specs.Collector.{walked, below, pastRecord, haveLevel, reclaim}
 use Rattle.rules.specs.Free.{Free}
 use Rattle.rules.proofs.memory.Cases.{lt-or, bool-or}
@@ -40,7 +40,7 @@ module _ {K : ℕ → Type 0} {m : ℕ → ℕ} {s : Store} {f : Free} (h : Sim 
 
   -- at the frontier
   ends : haveLevel s ≡ true → frontier (s .memory) (s .current) ≤ s .walk .place → Stepped K m s f (reclaim s)
-  unfolding reclaim below moveOn uncharged
+  unfolding reclaim below moveOn withoutCharges
   ends a d = stepped
       (rw (a, le-ltb (s .walk .place) (frontier (s .memory) (s .current)) d))
       (uncharged-sim (reclaim-moves h e d a)) (front-less-0 h e d) (front-less-1 h e d) (reclaim-spends h e d)

@@ -7,7 +7,7 @@ use native.Mathlib.Omega.{arith}
 use Rattle.rules.specs.Memory.{Memory, null, halfOf, withFrontier, colour, replica, birthNumber, refs, frontier, colourAt, replicaAt, birthAt}
 use Rattle.rules.specs.Control.{Store, withMemory}
 use Rattle.rules.specs.Cycle.{stage}
-use Rattle.rules.specs.Phases.{otherHalf, nextPhase, moveOn, uncharged}
+use Rattle.rules.specs.Phases.{otherHalf, nextPhase, moveOn, withoutCharges}
 use Rattle.rules.specs.Collector.{haveLevel}
 use Rattle.rules.specs.Free.{Free}
 use Rattle.rules.proofs.memory.Cases.{eq-or}
@@ -166,8 +166,8 @@ module _ {K : ℕ → Type 0} {m : ℕ → ℕ} {s : Store} {f : Free} (h : Sim 
   }
 
   -- the current half keeps its words
-  pub reclaim-spends : Spends s (uncharged (moveOn (withMemory s (withFrontier (s .memory) (otherHalf (s .current)) 0))))
-  unfolding moveOn uncharged
+  pub reclaim-spends : Spends s (withoutCharges (moveOn (withMemory s (withFrontier (s .memory) (otherHalf (s .current)) 0))))
+  unfolding moveOn withoutCharges
   reclaim-spends = spends-late (h .range) (omega arith) (λ n k. record {
     early = λ a b. absurd (omega (arith, next));
     marking = λ a. absurd (omega (arith, next));

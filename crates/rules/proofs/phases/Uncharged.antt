@@ -8,12 +8,12 @@ use Rattle.rules.specs.Refusals.{Tested, Outcome, settle}
 use Rattle.rules.specs.Memory.{followed}
 use Rattle.rules.specs.Control.{Store, inRange}
 use Rattle.rules.specs.Cycle.{atRest, atReclaim}
-use Rattle.rules.specs.Phases.{absent, sessionAt, withCharge, uncharged}
+use Rattle.rules.specs.Phases.{absent, sessionAt, withCharge, uncharged, withoutCharges}
 use Rattle.rules.specs.Collector.{below, pastRecord, haveLevel, handshake, reclaim, units, step}
 use Rattle.rules.proofs.relation.Rows.{Ends, refuses, passes, one-test, then-row, after-row, either-row}
 
-uncharged-none : (s : Store) (n : ℕ) → sessionAt (uncharged s) n .charge ≡ 0
-unfolding uncharged sessionAt
+uncharged-none : (s : Store) (n : ℕ) → sessionAt (withoutCharges s) n .charge ≡ 0
+unfolding withoutCharges uncharged sessionAt
 uncharged-none s n = ap (λ x. x .charge) (List·getD-map (λ x. withCharge x 0) (s .sessions) n absent)
 
 -- any number
@@ -29,7 +29,7 @@ module _ (s : Store) (n : ℕ) (e : s .phase ≡ atReclaim) where
   going-on : (t : Store) → t .phase ≡ s .phase → Cleared t
   going-on t d z = absurd (omega (arith, sym e ∙ sym d ∙ z))
 
-  cleared : (t : Store) → Cleared (uncharged t)
+  cleared : (t : Store) → Cleared (withoutCharges t)
   cleared t z = uncharged-none t n
 
   unit-cleared : Ends Refused Cleared (reclaim s)

@@ -10,7 +10,7 @@ use native.Mathlib.Omega.{arith}
 use lib.ListN.{getD, set, List·getD-map}
 use Rattle.rules.specs.Cycle.{atRest, atHeapMark, atAllocate, atReclaim, nextPhase}
 use Rattle.rules.specs.Control.{Store, Lengths}
-use Rattle.rules.specs.Phases.{absent, sessionAt, withSession, withCharge, unmarked, uncharged}
+use Rattle.rules.specs.Phases.{absent, sessionAt, withSession, withCharge, unmarked, uncharged, withoutCharges}
 use Rattle.rules.specs.Barriers.{shade, shadeAll, shadeBoth}
 use Rattle.rules.specs.Calls.{withRegister, charged}
 use Rattle.rules.specs.Runs.{Call, Attach, Allocate, Step}
@@ -142,8 +142,8 @@ charged-stays {n = n} {k} {r} {p} t w h =
     session-stays t n _ h (record { mark = λ a m. m; share = λ a. refl; charge = λ a. absurd (a k r p refl); rise = omega arith })
 
 -- the end of Reclaim takes all charges away
-pub uncharged-stays : {s : Store} (t : Store) → s .phase ≡ atReclaim → t .phase ≡ nextPhase (s .phase) → Stays Step s t → Stays Step s (uncharged t)
-unfolding uncharged sessionAt nextPhase
+pub uncharged-stays : {s : Store} (t : Store) → s .phase ≡ atReclaim → t .phase ≡ nextPhase (s .phase) → Stays Step s t → Stays Step s (withoutCharges t)
+unfolding withoutCharges uncharged sessionAt nextPhase
 uncharged-stays {s = s} t e n h = record {
   lengths = h .lengths;
   marks = λ a b. absurd (let z : atReclaim ≡ atHeapMark = sym e ∙ a in omega arith);

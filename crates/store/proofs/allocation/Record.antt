@@ -1,18 +1,20 @@
--- A new record at the frontier of one half, or of both: room for it, and what is written.
+-- A new record at the frontier of one half, or of both: room for it, and what is written; and its session.
 use Prim.Native.Nat.{ℕ, zero, suc, _+_, _*_, _≤_, _<_}
 use mathlib.Core.Path.{_≡_, _∙_, refl, ap}
 use mathlib.Core.Bool.{Bool, true, false, cond, _&&_}
 use mathlib.Core.List.{List, []}
 use native.Mathlib.Omega.{arith}
 use lib.Dec.{eqb}
-use lib.ListN.{length}
-use lib.Seq.{sets}
+use lib.ListN.{length, getD, set}
+use lib.Seq.{sets, getD-set-same, set-set}
 use borrow.Author.Tests.{le-leb, lt-leb, leb-true}
 use Rattle.rules.specs.Cycle.{atReclaim}
 use Rattle.rules.specs.Memory.{Memory, half, frontier, withHalf, withFrontier, reference, shapeWord, newRecord, append, nextReference, header}
-use Rattle.rules.specs.Control.{Store, withMemory, mostLength}
-use Rattle.rules.specs.Phases.{otherHalf, fromspace, tospace}
+use Rattle.rules.specs.Control.{Store, withMemory, withSessions, mostLength}
+use Rattle.rules.specs.Phases.{otherHalf, fromspace, tospace, absent, sessionAt, withSession, withRegisters, withCharge}
 use Rattle.rules.specs.Barriers.{roomIn, allocationRoom, nextBirth, placed, allocated, allocatedReference}
+use Rattle.rules.specs.Calls.{withRegister, charged}
+use Rattle.rules.specs.declared.Session.{Session}
 use Rattle.rules.proofs.Ranges.{both}
 use Rattle.heap.specs.View.{memory}
 use Rattle.heap.proofs.Written.{appended}
@@ -157,3 +159,14 @@ module _ (s : Store) (l : ℕ) where
   pub given : (h : ℕ) {f v : ℕ} → nextReference (s .memory) h ≡ allocatedReference s l → f ≡ frontier (s .memory) h → v ≡ reference h f → v ≡ allocatedReference s l
   unfolding nextReference
   given h e a b = b ∙ rw a e
+
+-- ---- the session
+
+-- a register set, and then words charged: the session is set once
+pub charged-once : {y : Session} (s : Store) (n k v w : ℕ) → n < length (s .sessions)
+    → (let x = withRegisters (getD (s .sessions) n absent) (set (getD (s .sessions) n absent .registers) k v) in y ≡ withCharge x (x .charge + w))
+    → withSessions s (set (s .sessions) n y) ≡ charged (withRegister s n k v) n w
+unfolding charged withRegister withSession sessionAt
+charged-once {y} s n k v w l e =
+    let x = withRegisters (getD (s .sessions) n absent) (set (getD (s .sessions) n absent .registers) k v) in
+    rw (getD-set-same (s .sessions) n x absent l, set-set (s .sessions) n x (withCharge x (x .charge + w)), e)

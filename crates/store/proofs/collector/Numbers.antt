@@ -7,7 +7,7 @@ use lib.ListN.{length, replicate, length-replicate}
 use Rattle.rules.specs.Refusals.{Tested, Outcome}
 use Rattle.rules.specs.Memory.{withFrontier, forward}
 use Rattle.rules.specs.Control.{Store, withMemory, withWalk, withCurrent, newStore}
-use Rattle.rules.specs.Phases.{fromspace, tospace, moveOn}
+use Rattle.rules.specs.Phases.{fromspace, tospace, moveOn, withoutCharges}
 use Rattle.rules.specs.Barriers.{Heap, heapOf, to}
 use Rattle.rules.specs.Collector.{forwardAll}
 use Rattle.rules.proofs.Ranges.{InRange, place-small, fronts}
@@ -20,7 +20,7 @@ use Rattle.store.specs.Work.{touched, worked}
 use Rattle.store.specs.declared.Cursor.{Cursor}
 use Rattle.store.specs.declared.Control.{Control}
 use Rattle.store.specs.declared.work.Touch.{Touch}
-use Rattle.store.specs.declared.work.Touch.the-variants.{Nothing, Marks}
+use Rattle.store.specs.declared.work.Touch.the-variants.{Nothing, Marks, Charges}
 use Rattle.store.specs.declared.work.Work.{Work}
 use Rattle.store.specs.declared.work.Work.the-variants.{Next}
 
@@ -57,10 +57,10 @@ unfolding moveOn
 moves s c h0 h1 l e f = rw e f
 
 pub empties : {o : Work} {x : Outcome Store} {d : Cursor} (s : Store) (c : Cursor) (h0 h1 l : List ℕ) (h : ℕ) → d ≡ atFrontier c h 0
-    → o ≡ Next (movedOn d) Marks
-    → went (moveOn (withMemory (having s c h0 h1 l) (withFrontier (memory h0 h1 (c .frontier0) (c .frontier1)) h 0))) ≡ x
+    → o ≡ Next (movedOn d) Charges
+    → went (withoutCharges (moveOn (withMemory (having s c h0 h1 l) (withFrontier (memory h0 h1 (c .frontier0) (c .frontier1)) h 0)))) ≡ x
     → worked (having s c h0 h1 l) o ≡ x
-unfolding moveOn withFrontier
+unfolding moveOn withoutCharges withFrontier
 empties s c h0 h1 l h e g f = rw (g, e) f
 
 pub flipped : {o : Work} {x : Outcome Store} (s : Store) (c : Cursor) (h0 h1 l : List ℕ) (h : ℕ) → o ≡ Next (movedOn (atHalf c h)) Marks

@@ -7,7 +7,7 @@ use native.Mathlib.Omega.{arith}
 use Rattle.rules.specs.Refusals.{refused, answer}
 use Rattle.rules.specs.Memory.{Memory, withFrontier, put, size, follow, followed, header, replicaAt}
 use Rattle.rules.specs.Control.{Store, withMemory, withWalk, mostFields, mostLength}
-use Rattle.rules.specs.Phases.{otherHalf, moveOn}
+use Rattle.rules.specs.Phases.{otherHalf, moveOn, withoutCharges}
 use Rattle.rules.specs.Collector.{walked, below, haveLevel, pastRecord, reclaim}
 use Rattle.rules.specs.declared.Answer.the-variants.{Refused}
 use Rattle.rules.specs.declared.Followed.{Followed}
@@ -63,7 +63,7 @@ module _ (s : Store) where
   reclaim-waits h = rw h
 
   pub reclaim-ends : {other : ℕ} → haveLevel s ≡ true → below s ≡ false → other ≡ otherHalf (s .current)
-      → went (moveOn (withMemory s (withFrontier (s .memory) other 0))) ≡ stepped s (reclaim s)
+      → went (withoutCharges (moveOn (withMemory s (withFrontier (s .memory) other 0)))) ≡ stepped s (reclaim s)
   unfolding reclaim
   reclaim-ends h b x = rw (h, b, ← x)
 

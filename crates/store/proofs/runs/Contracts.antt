@@ -69,11 +69,11 @@ pub make-made : (κs : Lfts 3) (h0 h1 list : Slice) (r : Reply) → r .answer �
     (CodeMade (lent (r .control) (now h0) (now h1) (now list)))
 make-made κs h0 h1 list r done = (tt, λ e. by-make (now h0) (now h1) (now list) r e done)
 
-pub attach-called : (κs : Lfts 3) (self : Control) (h0 h1 list : Slice) (s : ℕ) (r : Reply)
+pub attach-called : (κs : Lfts 3) (self : Control) (h0 h1 list : Slice) (s share : ℕ) (r : Reply)
     → Gives attach.ended attach-reads.Asked attach-reads.Learnt κs
-    (self, (h0, (h1, (list, (s, tt))))) r (tt, (tt, (tt, (tt, (tt, tt)))))
-    (Called self (now h0) (now h1) (now list) (Attach s) (answer (r .answer)) (lent (r .control) (now h0) (now h1) (now list)))
-attach-called κs self h0 h1 list s r = (tt, by-attach s r)
+    (self, (h0, (h1, (list, (s, (share, tt)))))) r (tt, (tt, (tt, (tt, (tt, (tt, tt))))))
+    (Called self (now h0) (now h1) (now list) (Attach s share) (answer (r .answer)) (lent (r .control) (now h0) (now h1) (now list)))
+attach-called κs self h0 h1 list s share r = (tt, by-attach s share r)
 
 pub detach-called : (κs : Lfts 3) (self : Control) (h0 h1 list : Slice) (s : ℕ) (r : Reply)
     → Gives detach.ended detach-reads.Asked detach-reads.Learnt κs

@@ -7,6 +7,7 @@ use Rattle.rules.specs.Refusals.{Outcome, answer, words, wordsOr}
 use Rattle.rules.specs.Control.{Store, make}
 use Rattle.rules.specs.Calls as calls
 use Rattle.rules.specs.Runs.{Attach, Allocate, Stretch, apply}
+use Rattle.rules.specs.Script.{scriptShare}
 use Rattle.rules.specs.declared.Answer.the-variants.{Done}
 use Rattle.rules.proofs.Examples.{rules}
 use Rattle.store.specs.View.{outcome}
@@ -39,7 +40,7 @@ abbrev first : Lent
 first = lent (controlOf (made .store)) half half list
 
 abbrev attached : Outcome Store
-attached = apply (viewed first) (Attach 0)
+attached = apply (viewed first) (Attach 0 scriptShare)
 
 abbrev second : Lent
 second = lent (controlOf (attached .store)) half half list
@@ -67,10 +68,10 @@ pub example-made : CodeMade first
 unfolding rules make
 example-made = by-make half half list (handed made) refl refl
 
-pub example-run : CodeRun first (Attach 0 ∷ Allocate 0 0 1 1 ∷ Stretch 0 0 ∷ [])
+pub example-run : CodeRun first (Attach 0 scriptShare ∷ Allocate 0 0 1 1 ∷ Stretch 0 0 ∷ [])
     (answer (handed attached .answer) ∷ answer (handed allocated .answer) ∷ words (0 ∷ []) ∷ []) third
 example-run =
-    next (by-attach 0 (handed attached) attaches)
+    next (by-attach 0 scriptShare (handed attached) attaches)
     (next (by-allocate 0 0 1 1 (handed allocated) (half0 allocated) (half1 allocated) allocates)
     (next (by-stretch 0 0 (0 ∷ []) stretches) ended))
 

@@ -12,7 +12,7 @@ use Rattle.store.specs.declared.Control.{Control}
 -- a call leaves what the rules give: the store that the next call gets, and the reply
 pub called-applies : {self : Control} {h0 h1 list : List ℕ} {c : Call} {r : Reply} {b : Lent}
     → Called self h0 h1 list c r b → record { store = viewed b; reply = r } ≡ apply (view self h0 h1 list) c
-called-applies (by-attach s r e) = e
+called-applies (by-attach s share r e) = e
 called-applies (by-detach s r e) = e
 called-applies (by-safe-point s r e) = e
 called-applies (by-allocate s register r p a h0′ h1′ e) = e

@@ -1,8 +1,8 @@
--- The sessions looked at one after another: for the lowest that is looked for, and for marks to clear.
+-- The sessions looked at one after another: for the lowest that is looked for, for marks to clear, and for charges.
 use Prim.Native.Nat.{ℕ, zero, suc, _+_, _≤_, _<_}
 use mathlib.Core.Path.{_≡_, _∙_, refl, sym, ap}
 use mathlib.Core.Bool.{Bool, true, false, cond, not, _&&_, _||_, false≢true}
-use mathlib.Core.List.{List, [], _∷_}
+use mathlib.Core.List.{List, [], _∷_, map}
 use native.Mathlib.Omega.{arith}
 use native.Mathlib.Nat.{le-of-suc-le-suc}
 use lib.Dec.{leb, ltb, eqb, eqb·suc-suc, eqb·zero-suc}
@@ -10,7 +10,7 @@ use lib.ListN.{length, length-map, length-set, set, getD, List·getD-map}
 use lib.Seq.{getD-set-same, getD-set-other, map-set-same, ext-getD}
 use borrow.Author.Tests.{ltb-true, ltb-false, lt-leb, le-leb, eqb-true, eqb-false}
 use Rattle.rules.specs.Control.{levelsInRange, sessionCount, lastLevel}
-use Rattle.rules.specs.Phases.{absent, withMark, unmarked, allAt, lowestUnmarked}
+use Rattle.rules.specs.Phases.{absent, withMark, withCharge, unmarked, uncharged, allAt, lowestUnmarked}
 use Rattle.rules.specs.declared.Session.{Session}
 use Rattle.store.specs.Searching.{isWanted}
 use Rattle.store.specs.declared.searching.Wanted.the-variants.{Unscanned, NotAt, Above}
@@ -139,8 +139,36 @@ module _ (l : List Session) (i r : ℕ) where
 bare : (x : Session) → x .scanned ≡ false → withMark x false ≡ x
 bare x e = ap (λ (b : Bool). withMark x b) (sym e)
 
+-- sessions that a change leaves, one by one
+all-left : (g : Session → Session) → g absent ≡ absent → (l : List Session) → ((j : ℕ) → j < length l → g (getD l j absent) ≡ getD l j absent) → map g l ≡ l
+all-left g a l f =
+    let n : length (map g l) ≡ length l = length-map l g in
+    ext-getD absent (map g l) l n (λ i h. ap (λ (x : Session). getD (map g l) i x) (sym a) ∙ List·getD-map g l i absent ∙ f i (rw n at h))
+
 pub none-marked : (l : List Session) → ((j : ℕ) → j < length l → getD l j absent .scanned ≡ false) → unmarked l ≡ l
 unfolding unmarked
-none-marked l f =
-    let n : length (unmarked l) ≡ length l = length-map l (λ (x : Session). withMark x false) in
-    ext-getD absent (unmarked l) l n (λ i h. List·getD-map (λ (x : Session). withMark x false) l i absent ∙ bare (getD l i absent) (f i (rw n at h)))
+none-marked l f = all-left (λ (x : Session). withMark x false) refl l (λ j h. bare (getD l j absent) (f j h))
+
+-- ---- charges
+
+-- session j has nothing charged to it
+abbrev Uncharged : List Session → ℕ → Type 0
+Uncharged l j = withCharge (getD l j absent) 0 ≡ getD l j absent
+
+pub uncharged-same : (l : List Session) (i : ℕ) → uncharged (set l i (withCharge (getD l i absent) 0)) ≡ uncharged l
+unfolding uncharged
+uncharged-same l i = map-set-same (λ (x : Session). withCharge x 0) l i (withCharge (getD l i absent) 0) absent refl
+
+-- one session more
+pub uncharged-more : (l : List Session) (i : ℕ) → i < length l → ((j : ℕ) → j < i → Uncharged l j)
+    → (j : ℕ) → j < i + 1 → Uncharged (set l i (withCharge (getD l i absent) 0)) j
+uncharged-more l i h f j k = pick (eqb j i) refl
+  where
+    pick : (b : Bool) → eqb j i ≡ b → Uncharged (set l i (withCharge (getD l i absent) 0)) j
+    pick true d = rw (eqb-true j i d, getD-set-same l i (withCharge (getD l i absent) 0) absent h)
+    pick false d =
+        rw (getD-set-other l i j (withCharge (getD l i absent) 0) absent (λ z. omega (arith, eqb-false j i d))) (f j (omega (arith, eqb-false j i d)))
+
+pub none-charged : (l : List Session) → ((j : ℕ) → j < length l → Uncharged l j) → uncharged l ≡ l
+unfolding uncharged
+none-charged l f = all-left (λ (x : Session). withCharge x 0) refl l f

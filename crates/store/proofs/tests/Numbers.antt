@@ -144,16 +144,15 @@ module _ {A B : Type 0} (x : A) (r : Tested B) where
   row-6 false b c e = absurd (omega arith)
 
 -- the store with session n newly attached
-abbrev attached : Store → ℕ → Store
-attached s n =
-    withSession s n (attachedAt (levelOf (s .phase)) (eqb (s .phase) atHeapMark))
+abbrev attached : Store → ℕ → ℕ → Store
+attached s n share = withSession s n (attachedAt (sessionAt s n) share (levelOf (s .phase)) (eqb (s .phase) atHeapMark))
 
-module _ {g : ℕ} (s : Store) (n : ℕ) (e : g ≡ refusalOf (sessionOf s n)) where
-  pub attached-already : g ≡ 0 → attach s n ≡ refused 7
+module _ {g : ℕ} (s : Store) (n share : ℕ) (e : g ≡ refusalOf (sessionOf s n)) where
+  pub attached-already : g ≡ 0 → attach s n share ≡ refused 7
   unfolding sessionOf attach row attach-row
   attached-already z = row-0 (sessionAt s n) _ (inRange s) (leb n lastSession) (sessionAt s n .attached) (sym e ∙ z)
 
-  pub not-attachable : (g ≡ 0 → ⊥) → (g ≡ 6 → ⊥) → attach s n ≡ refused g
+  pub not-attachable : (g ≡ 0 → ⊥) → (g ≡ 6 → ⊥) → attach s n share ≡ refused g
   unfolding sessionOf attach row attach-row
   not-attachable = row-other (sessionAt s n) _ (inRange s) (leb n lastSession) (sessionAt s n .attached) e
 
@@ -161,10 +160,11 @@ module _ {g : ℕ} (s : Store) (n : ℕ) (e : g ≡ refusalOf (sessionOf s n)) w
 pub record Attachable (s : Store) (n : ℕ) : Type 0 where
   pub ranges : InRange s
   pub number : n ≤ lastSession
-  pub outcome : attach s n ≡ done (attached s n)
+  pub outcome : (share : ℕ) → attach s n share ≡ done (attached s n share)
 
 pub attachable : {g : ℕ} (s : Store) (n : ℕ) → g ≡ refusalOf (sessionOf s n) → g ≡ 6 → Attachable s n
 unfolding sessionOf attach row attach-row
 attachable s n e z =
-    let k = row-6 (sessionAt s n) (done (attached s n)) (inRange s) (leb n lastSession) (sessionAt s n .attached) (sym e ∙ z) in
-    record { ranges = in-range s (k .0); number = leb-true _ _ (k .1); outcome = k .2 }
+    let k : (share : ℕ) → (inRange s ≡ true) × (leb n lastSession ≡ true) × (attach s n share ≡ done (attached s n share)) =
+    λ share. row-6 (sessionAt s n) (done (attached s n share)) (inRange s) (leb n lastSession) (sessionAt s n .attached) (sym e ∙ z) in
+    record { ranges = in-range s (k 0 .0); number = leb-true _ _ (k 0 .1); outcome = λ share. k share .2 }

@@ -1,7 +1,11 @@
 -- The tests' refusal, or the record written and the register set.
 use native.Mathlib.Omega.{arith}
+use mathlib.Core.Path.{ap}
+use mathlib.Core.List.{[]}
+use borrow.Author.Tests.{leb-true}
+use Rattle.rules.specs.Control.{Store}
 use Rattle.rules.specs.Phases.{sessionAt}
-use Rattle.rules.specs.Calls.{allocate}
+use Rattle.rules.specs.Calls.{withinShare, allocate}
 use Rattle.store.proofs.tests.Numbers.{refused-by}
 use Rattle.store.proofs.allocation.Tests.{Allocating, allocating, allocate-done}
 use borrow.Author.Needs.{needs}
@@ -43,10 +47,21 @@ allocated-requires c κs = known (c .before .before .before .before) .ready
 add-written : tie.Need-add-written
 add-written c = omega (arith, known (c .before .before .before .before .before .before .before .before .before) .ready .left)
 
-with-register-requires : tie.Need-with-register-requires
-with-register-requires c κs =
+cast-given : tie.Need-cast-given
+cast-given c = search needs
+
+add-given : tie.Need-add-given
+add-given c = omega (arith, known (c .before .before .before .before .before .before .before .before .before) .ready .small)
+
+add-given-2 : tie.Need-add-given-2
+add-given-2 c = omega (arith, known (c .before .before .before .before .before .before .before .before .before) .ready .small)
+
+given-requires : tie.Need-given-requires
+unfolding withinShare sessionAt
+given-requires c κs =
     let k = known (c .before .before .before .before .before .before .before .before .before) in
-    (k .number, k .register)
+    let e = ap (λ (t : Store). t .sessions) (c .before .before .before .before .allocated .ensures []) in
+    (k .number, k .register, rw e (leb-true _ _ (k .share)))
 
 same-length-3 : tie.Need-same-length-3
 same-length-3 c = search needs
@@ -59,7 +74,7 @@ unfolding sessionAt
 returns-2 c =
     rw
     (allocate-done _ _ _ _ _ _ _ _ (known (c .before .before .before .before .before .before .before .before .before .before)) (c .before .before .before .before .before .before .before .before .allocated-reference .ensures _ _ _)
-    (c .before .before .before .before .before .allocated .ensures _) (c .with-register .ensures _ _ _))
+    (c .before .before .before .before .before .allocated .ensures _) (c .given .ensures _ _ _))
 
 pub allocate-spec : {M : Type 1} → statement M
 allocate-spec =
@@ -74,7 +89,10 @@ allocate-spec =
     allocated-reference-requires
     allocated-requires
     add-written
-    with-register-requires
+    cast-given
+    add-given
+    add-given-2
+    given-requires
     same-length-3
     same-length-4
     returns-2)

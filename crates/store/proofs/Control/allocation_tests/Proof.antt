@@ -1,5 +1,5 @@
 -- The tests in order: each path answers the number of the first that fails.
-use mathlib.Core.Path.{_≡_, _∙_, sym}
+use mathlib.Core.Path.{_≡_}
 use mathlib.Core.Bool.{_&&_, true}
 use native.Mathlib.Omega.{arith}
 use lib.Dec.{leb}
@@ -7,12 +7,11 @@ use borrow.Author.Tests.{le-leb, lt-leb, not-true, not-false}
 use Rattle.rules.specs.Refusals.{passed}
 use Rattle.rules.specs.Control.{Store}
 use Rattle.rules.specs.Phases.{sessionAt}
-use Rattle.rules.specs.Barriers.{allocationRoom}
 use Rattle.rules.specs.Calls.{sessionOf, allocate}
 use Rattle.rules.proofs.Ranges.{in-session}
 use Rattle.store.specs.View.{view}
 use Rattle.store.proofs.tests.Numbers.{turned-away, let-in}
-use Rattle.store.proofs.allocation.Tests.{fits, small, tests-passed, tests-no-room, tests-no-number}
+use Rattle.store.proofs.allocation.Tests.{fits, small, last-decide}
 use borrow.Author.Needs.{needs}
 use Rattle.store.proofs.Control.allocation_tests.Statement.{statement}
 use Rattle.store.proofs.Control.allocation_tests.Tie as tie
@@ -57,32 +56,15 @@ element-copy-out-session c =
     let k = in-session _ _ (admitted (c .before .before)) in
     omega arith
 
-allocation-room-requires : tie.Need-allocation-room-requires
-allocation-room-requires c κs = small _ _ _ _ (in-session _ _ (admitted (c .before .before .before)) .known) _ _ (counts (c .before))
-
--- what the test of room says
-roomy : (c : tie.After-allocation-room) → let e = c .before .before .before .before in
-    c .allocation-room .result ≡ allocationRoom (entered e) (sessionAt (entered e) (entry e .args .s) .level) (entry e .args .r) (entry e .args .p)
-unfolding sessionAt
-roomy c = c .allocation-room .ensures _ _ _ (fits _ _ _ _ (in-session _ _ (admitted (c .before .before .before .before)) .known))
+last-tests-requires : tie.Need-last-tests-requires
+last-tests-requires c κs = small _ _ _ _ (in-session _ _ (admitted (c .before .before .before)) .known) _ _ (counts (c .before))
 
 returns-4 : tie.Need-returns-4
+unfolding sessionAt
 returns-4 c =
-    let e = c .before .before .before .before .before in
-    tests-no-room _ _ _ _ _ (admitted e) (c .before .before .before .before .if2 .left) (counts (c .before .before .before))
-    (sym (roomy (c .before)) ∙ not-true _ (c .if4 .taken))
-
-returns-5 : tie.Need-returns-5
-returns-5 c =
-    let e = c .before .before .before .before .before .before in
-    tests-passed _ _ _ _ _ (admitted e) (c .before .before .before .before .before .if2 .left) (counts (c .before .before .before .before))
-    (sym (roomy (c .before .before)) ∙ not-false _ (c .before .if4 .left)) (c .if5 .taken)
-
-returns-6 : tie.Need-returns-6
-returns-6 c =
-    let e = c .before .before .before .before .before .before in
-    tests-no-number _ _ _ _ _ (admitted e) (c .before .before .before .before .before .if2 .left) (counts (c .before .before .before .before))
-    (sym (roomy (c .before .before)) ∙ not-false _ (c .before .if4 .left)) (c .if5 .left)
+    let e = c .before .before .before .before in
+    last-decide _ _ _ _ _ (admitted e) (c .before .before .before .if2 .left) (counts (c .before .before))
+    (c .last-tests .ensures _ _ _ (fits _ _ _ _ (in-session _ _ (admitted e) .known)))
 
 pub allocation-tests-spec : {M : Type 1} → statement M
 allocation-tests-spec =
@@ -94,7 +76,5 @@ allocation-tests-spec =
     returns-3
     mul-session
     element-copy-out-session
-    allocation-room-requires
-    returns-4
-    returns-5
-    returns-6)
+    last-tests-requires
+    returns-4)

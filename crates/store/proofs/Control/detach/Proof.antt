@@ -22,8 +22,8 @@ element-copy-out-session c =
     let k = known _ _ (c .before .session-tests .ensures) (c .if1 .left) in
     omega arith
 
-nobody-requires : tie.Need-nobody-requires
-nobody-requires c κs = search needs
+cleared-requires : tie.Need-cleared-requires
+cleared-requires c κs = search needs
 
 mul-left : tie.Need-mul-left
 mul-left c = search needs
@@ -35,7 +35,7 @@ element-set-from-left c =
 
 returns-2 : tie.Need-returns-2
 unfolding detach withSession sessionAt
-returns-2 c = rw (let-in _ _ (c .before .before .before .session-tests .ensures) (c .before .before .if1 .left), c .nobody .ensures)
+returns-2 c = rw (let-in _ _ (c .before .before .before .session-tests .ensures) (c .before .before .if1 .left), c .cleared .ensures)
 
 pub detach-spec : {M : Type 1} → statement M
 detach-spec =
@@ -45,7 +45,7 @@ detach-spec =
     returns
     mul-session
     element-copy-out-session
-    nobody-requires
+    cleared-requires
     mul-left
     element-set-from-left
     returns-2)

@@ -1,4 +1,4 @@
--- Refused, or the collector's next numbers and what the work touches: nothing, the marks, a global, or a session.
+-- Refused, or the collector's next numbers and what the work touches: nothing, the marks, the charges too, a global, or a session.
 use mathlib.Core.Path.{_≡_}
 use native.Mathlib.Omega.{arith}
 use lib.ListN.{length}
@@ -38,6 +38,12 @@ enum-told-2 c = search needs
 
 unmarked-requires : tie.Need-unmarked-requires
 unmarked-requires c κs = search needs
+
+enum-told-3 : tie.Need-enum-told-3
+enum-told-3 c = search needs
+
+uncharged-requires : tie.Need-uncharged-requires
+uncharged-requires c κs = search needs
 
 enum-known-touch : tie.Need-enum-known-touch
 enum-known-touch c = search needs
@@ -118,7 +124,7 @@ same-length-12 c = search needs
 returns-4 : tie.Need-returns-4
 returns-4 c =
     let w = c .before .before .before .before .before in
-    rw (w .work3 .given .1, c .before .before .touch .given .1) at (w .before .before .before .before .before .before .before .before .work .ensures)
+    rw (c .uncharged .ensures) (rw (w .work3 .given .1, c .before .before .enum-told3 .given .1) at (w .before .before .before .before .before .before .before .before .work .ensures))
 
 same-length-13 : tie.Need-same-length-13
 same-length-13 c = search needs
@@ -132,9 +138,7 @@ same-length-15 c = search needs
 returns-5 : tie.Need-returns-5
 returns-5 c =
     let w = c .before .before .before .before .before in
-    let t = c .before .before .touch .given in
-    let start = entry w in
-    rw (w .work3 .given .1, t .1, set-out (start .args .t1 .globals) (t .0 .0) (t .0 .1 .0) (omega (arith, globals start))) at (w .before .before .before .before .before .before .before .before .work .ensures)
+    rw (w .work3 .given .1, c .before .before .touch .given .1) at (w .before .before .before .before .before .before .before .before .work .ensures)
 
 same-length-16 : tie.Need-same-length-16
 same-length-16 c = search needs
@@ -146,10 +150,11 @@ same-length-18 : tie.Need-same-length-18
 same-length-18 c = search needs
 
 returns-6 : tie.Need-returns-6
-unfolding sessionAt withSession
 returns-6 c =
-    let w = c .before .before .before .before .before .before .before in
-    rw (c .marked .ensures) (rw (w .work3 .given .1, c .before .before .before .before .touch2 .given .1) at (w .before .before .before .before .before .before .before .before .work .ensures))
+    let w = c .before .before .before .before .before in
+    let t = c .before .before .touch .given in
+    let start = entry w in
+    rw (w .work3 .given .1, t .1, set-out (start .args .t1 .globals) (t .0 .0) (t .0 .1 .0) (omega (arith, globals start))) at (w .before .before .before .before .before .before .before .before .work .ensures)
 
 same-length-19 : tie.Need-same-length-19
 same-length-19 c = search needs
@@ -163,6 +168,21 @@ same-length-21 c = search needs
 returns-7 : tie.Need-returns-7
 unfolding sessionAt withSession
 returns-7 c =
+    let w = c .before .before .before .before .before .before .before in
+    rw (c .marked .ensures) (rw (w .work3 .given .1, c .before .before .before .before .touch2 .given .1) at (w .before .before .before .before .before .before .before .before .work .ensures))
+
+same-length-22 : tie.Need-same-length-22
+same-length-22 c = search needs
+
+same-length-23 : tie.Need-same-length-23
+same-length-23 c = search needs
+
+same-length-24 : tie.Need-same-length-24
+same-length-24 c = search needs
+
+returns-8 : tie.Need-returns-8
+unfolding sessionAt withSession
+returns-8 c =
     let w = c .before .before .before .before .before in
     let t = c .before .before .touch2 .given in
     let start = entry w in
@@ -178,6 +198,8 @@ step-spec =
     enum-told
     enum-told-2
     unmarked-requires
+    enum-told-3
+    uncharged-requires
     enum-known-touch
     mul-self
     element-write-self
@@ -214,4 +236,8 @@ step-spec =
     same-length-19
     same-length-20
     same-length-21
-    returns-7)
+    returns-7
+    same-length-22
+    same-length-23
+    same-length-24
+    returns-8)

@@ -36,13 +36,13 @@ other-half-requires c κs = search needs
 with-frontier-requires : tie.Need-with-frontier-requires
 with-frontier-requires c κs = search needs
 
-move-on-requires : tie.Need-move-on-requires
-move-on-requires c κs = rw (c .with-frontier .ensures) (c .before .before .before .before .before .before .before .pre .phases)
+end-requires : tie.Need-end-requires
+end-requires c κs = rw (c .with-frontier .ensures) (c .before .before .before .before .before .before .before .pre .phases)
 
 returns-2 : tie.Need-returns-2
 returns-2 c =
     let b = c .before .before .before .before in
-    λ s l e. empties s _ _ _ l _ (c .before .with-frontier .ensures) (c .move-on .ensures)
+    λ s l e. empties s _ _ _ l _ (c .before .with-frontier .ensures) (c .end .ensures)
     (reclaim-ends _ (yes e (b .before .if1 .left)) (no (b .below .ensures s _ _ l) (c .before .before .before .if2 .taken)) (c .before .before .other-half .ensures))
 
 walked-requires : tie.Need-walked-requires
@@ -110,7 +110,7 @@ reclaim-spec =
     below-requires
     other-half-requires
     with-frontier-requires
-    move-on-requires
+    end-requires
     returns-2
     walked-requires
     follow-requires
