@@ -8,3 +8,5 @@ pub mod Claims
 pub mod Contracts
 -- a run that the checker computes
 pub mod Example
+-- claim 10
+pub mod Shares

@@ -1,5 +1,5 @@
--- The claims 2 to 4, two of 7, one of 8 and one of 9 of the rules (`Claims.antt` there), said of the code: of the replies of its calls, and of the control records
--- and words that they leave.
+-- The claims 2 to 4, two of 7 and one each of 8, 9 and 10 of the rules (`Claims.antt` there), said of the code: of the replies of its calls, and
+-- of the control records and words that they leave.
 use Prim.Native.Nat.{ℕ, _+_, _≤_, _<_}
 use mathlib.Core.Path.{_≡_}
 use mathlib.Core.Logic.{_≢_, _⊎_}
@@ -9,10 +9,11 @@ use lib.ListN.{length, take, drop}
 use Rattle.rules.specs.Refusals.{passed, Reply, answer}
 use Rattle.rules.specs.Memory.{frontier, birthNumber, followed}
 use Rattle.rules.specs.Cycle.{atRest, atHeapMark, atReclaim}
-use Rattle.rules.specs.Runs.{Call, Step, isSession, isAllocation, sessionCalls, Fed, fedBy, steps, spentBy}
+use Rattle.rules.specs.Phases.{sessionAt}
+use Rattle.rules.specs.Runs.{Call, Allocate, Step, isSession, isAllocation, sessionCalls, Fed, fedBy, steps, spentBy}
 use Rattle.rules.specs.Free.{newFree, freeRun}
 use Rattle.rules.specs.Tracking.{Beside, newBeside, beside, recordsOf}
-use Rattle.rules.specs.Claims.{FilledFrom, Living, placesIn, FreedBetween, leftIn, scansAndMove}
+use Rattle.rules.specs.Claims.{FilledFrom, Living, placesIn, FreedBetween, leftIn, scansAndMove, usedWords, allShares}
 use Rattle.rules.specs.declared.Answer.the-variants.{Refused}
 use Rattle.store.specs.CodeRuns.{Lent, viewed, CodeMade, Called, CodeRun, ended, next}
 
@@ -117,3 +118,20 @@ unfoldable pub CodeBirthNumbers : Type 0
 CodeBirthNumbers =
     (a e : Lent) (cs : List Call) (rs : List Reply) → CodeMade a → CodeRun a cs rs e
     → (h : ℕ) → h < 2 → (v : ℕ) → List·Memᴰ v (recordsOf (viewed e .memory) h) → birthNumber (viewed e .memory) v ≡ besideCode a cs e .place v
+
+-- ---- 10. Shares
+-- after each call of a run every share is what it is in x, and the phase isn't 12
+abbrev pub SharesKeptIn : {a e : Lent} {cs : List Call} {rs : List Reply} → Lent → CodeRun a cs rs e → Type 0
+SharesKeptIn x ended = Unit {0}
+SharesKeptIn x (next {b = b} called rest) =
+    ((n : ℕ) → sessionAt (viewed b) n .share ≡ sessionAt (viewed x) n .share) × (b .control .cursor .phase ≢ atReclaim) × SharesKeptIn x rest
+
+-- b is what the code holds before a step that ends Reclaim, t after it, and e after the calls ds: no allocation then answers 14
+unfoldable pub CodeShareAfterReclaim : Type 0
+CodeShareAfterReclaim =
+    (a b t e f : Lent) (cs ds : List Call) (rs qs : List Reply) (x y : Reply) (n k r p : ℕ)
+    → CodeMade a → CodeRun a cs rs b → Called (b .control) (b .half0) (b .half1) (b .list) Step x t
+    → b .control .cursor .phase ≡ atReclaim → t .control .cursor .phase ≡ atRest
+    → usedWords (viewed t) + allShares (t .control .sessions) ≤ t .control .length0
+    → (calls : CodeRun t ds qs e) → SharesKeptIn t calls
+    → Called (e .control) (e .half0) (e .half1) (e .list) (Allocate n k r p) y f → y ≢ answer (Refused 14)
