@@ -23,9 +23,9 @@ given r ws = record { number = r .number; count = r .count; words = ws }
 -- call gets. Each case is one function, with its contract as its `ensures` has it. That the contract of each function, as the
 -- checker has it, gives its case is shown in `proofs/runs/Contracts.antt`.
 pub data Answered (control : Control) (h0 h1 list : List ℕ) : Request → Given → Lent → Type 0 where
-  by-open : (r : Reply)
-      → left r h0 h1 list [] ≡ directoryCall (view control h0 h1 list) Open
-      → Answered control h0 h1 list Open (given r []) (lent (r .control) h0 h1 list)
+  by-open : (share : ℕ) (r : Reply)
+      → left r h0 h1 list [] ≡ directoryCall (view control h0 h1 list) (Open share)
+      → Answered control h0 h1 list (Open share) (given r []) (lent (r .control) h0 h1 list)
   by-add : (person : ℕ) (r : Reply) (h0′ h1′ list′ : List ℕ)
       → left r h0′ h1′ list′ [] ≡ directoryCall (view control h0 h1 list) (Add person)
       → Answered control h0 h1 list (Add person) (given r []) (lent (r .control) h0′ h1′ list′)

@@ -70,12 +70,12 @@ fn finish(done: store::Reply, h0: &[u32], h1: &[u32], list: &[u32], registers: u
     }
 }
 
-// Open: attach of the directory's session.
-pub fn open(control: store::Control, h0: &[u32], h1: &[u32], list: &[u32]) -> Reply
+// Open: attach of the directory's session, with its share.
+pub fn open(control: store::Control, h0: &[u32], h1: &[u32], list: &[u32], share: u32) -> Reply
     ensures { λ r. ⌜ left r (now (h0 .entry)) (now (h1 .entry)) (now (list .entry)) []
-        ≡ directoryCall (view control (now (h0 .entry)) (now (h1 .entry)) (now (list .entry))) Open ⌝ }
+        ≡ directoryCall (view control (now (h0 .entry)) (now (h1 .entry)) (now (list .entry))) (Open share) ⌝ }
 {
-    let reply = control.attach(h0, h1, list, OWN_SESSION);
+    let reply = control.attach(h0, h1, list, OWN_SESSION, share);
     let next = reply.control;
     let answer = reply.answer;
     let number = number_of(answer);

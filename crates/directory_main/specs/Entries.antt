@@ -4,7 +4,7 @@ use mathlib.Core.Bool.{Bool, cond, _&&_}
 use mathlib.Core.List.{List, [], _∷_}
 use lib.Dec.{leb, eqb}
 use lib.ListN.{length, getD}
-use Rattle.rules.specs.Script.{numberAt}
+use Rattle.rules.specs.Script.{numberAt, scriptShare}
 use Rattle.directory_rules.specs.Table as table
 use Rattle.directory_main.specs.declared.entries.Request.{Request}
 use Rattle.directory_main.specs.declared.entries.Request.the-variants.{Open, Add, Remove, Make, Join, Leave, List as Members}
@@ -15,7 +15,7 @@ use Rattle.directory_main.specs.declared.entries.Entry.the-variants.{Own
 
 -- with the words that it is lent, which only a list is
 abbrev pub asked : Request → List ℕ → table.Request
-asked Open ws = table.Open
+asked Open ws = table.Open scriptShare
 asked (Add n) ws = table.Add n
 asked (Remove n) ws = table.Remove n
 asked (Make g) ws = table.Make g

@@ -34,7 +34,7 @@ fn make_request(
         ≡ directoryCall (view control (now (h0 .entry)) (now (h1 .entry)) (now (list .entry))) (asked request (now (lent .entry))) ⌝ }
 {
     match request {
-        Request::Open => directory::open(control, h0, h1, list),
+        Request::Open => directory::open(control, h0, h1, list, script::SCRIPT_SHARE),
         Request::Add(n) => directory::add(control, h0, h1, list, n),
         Request::Remove(n) => directory::remove(control, h0, h1, list, n),
         Request::Make(g) => directory::make_group(control, h0, h1, list, g),

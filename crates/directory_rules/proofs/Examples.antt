@@ -8,6 +8,7 @@ use Rattle.rules.specs.Control.{Store, newStore, withBirths}
 use Rattle.rules.specs.Barriers.{putWrites}
 use Rattle.rules.specs.Calls as calls
 use Rattle.rules.specs.Runs.{Step}
+use Rattle.rules.specs.Script.{scriptShare}
 use Rattle.rules.proofs.Examples.{rules}
 use Rattle.directory_rules.specs.Table.{Request, Open, Add, Remove, Make, Join, Leave, Members, Given, newTable, tableNext, known}
 use Rattle.directory_rules.specs.Directory.{directoryCall, fedNumber, program, append, adding, making, grouping, pairing, joining, leaving, removing, listing, entries, members}
@@ -19,7 +20,7 @@ box = newStore (record { half0 = 76; half1 = 76; list = 19 }) (replicate 76 0) (
 
 requests : List Request
 requests =
-    Add 7 ∷ Open ∷ Open ∷ Add 7 ∷ Add 3 ∷ Add 100000000 ∷ Add 3 ∷ Make 7 ∷ Make 2 ∷ Make 7 ∷ Join 3 7 ∷ Join 7 7 ∷ Join 7 2 ∷ Join 5 7
+    Add 7 ∷ Open scriptShare ∷ Open scriptShare ∷ Add 7 ∷ Add 3 ∷ Add 100000000 ∷ Add 3 ∷ Make 7 ∷ Make 2 ∷ Make 7 ∷ Join 3 7 ∷ Join 7 7 ∷ Join 7 2 ∷ Join 5 7
     ∷ Leave 3 2 ∷ Leave 3 7 ∷ Join 3 7 ∷ Members 7 (1 ∷ 1 ∷ 1 ∷ []) ∷ Members 7 (1 ∷ []) ∷ Remove 7 ∷ Members 7 (1 ∷ []) ∷ Remove 7
     ∷ Add 8 ∷ Add 9 ∷ Add 10 ∷ Add 11 ∷ Add 12 ∷ []
 
@@ -60,7 +61,7 @@ lastOf : Store
 lastOf = withBirths box 4294967294
 
 fewer : List Request
-fewer = Open ∷ Add 7 ∷ Add 3 ∷ Make 2 ∷ Add 7 ∷ Remove 3 ∷ Remove 7 ∷ Add 7 ∷ []
+fewer = Open scriptShare ∷ Add 7 ∷ Add 3 ∷ Make 2 ∷ Add 7 ∷ Remove 3 ∷ Remove 7 ∷ Add 7 ∷ []
 
 refusals : List Given
 refusals = map only (0 ∷ 0 ∷ 16 ∷ 16 ∷ 24 ∷ 23 ∷ 0 ∷ 16 ∷ [])

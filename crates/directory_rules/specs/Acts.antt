@@ -19,7 +19,7 @@ ownGlobal = 31
 
 -- a store call of that session; get and put are of that global
 pub data Ask : Type 0 where
-  attach : Ask
+  attach : ℕ → Ask
   safePoint : Ask
   allocate : ℕ → ℕ → ℕ → Ask
   load : ℕ → ℕ → ℕ → Ask
@@ -32,7 +32,7 @@ pub data Ask : Type 0 where
   put : ℕ → Ask
 
 abbrev pub callOf : Ask → Call
-callOf attach = Attach ownSession
+callOf (attach share) = Attach ownSession share
 callOf safePoint = SafePoint ownSession
 callOf (allocate k r p) = Allocate ownSession k r p
 callOf (load to k i) = Load ownSession to k i
@@ -126,7 +126,7 @@ callsMade s (ask c f) = callOf c ∷ callsMade (apply s (callOf c) .store) (f (a
 
 -- ---- refused allocations
 
--- the number by which an allocation was refused as only an allocation is (no room, no birth number left), or 0
+-- the number by which an allocation was refused as only an allocation is (no room, no birth number left, past the share), or 0
 abbrev pub refusedBy : Reply → ℕ
 refusedBy (answer (Refused n)) = cond (among n allocationNumbers) n 0
 refusedBy (answer Done) = 0

@@ -54,7 +54,7 @@ LentKept =
 
 -- the first store call of a directory call
 abbrev pub firstCall : Request → Call
-firstCall Open = Attach ownSession
+firstCall (Open share) = Attach ownSession share
 firstCall (Add n) = SafePoint ownSession
 firstCall (Remove n) = SafePoint ownSession
 firstCall (Make g) = SafePoint ownSession
@@ -79,6 +79,8 @@ pub record Beyond (s t : Store) : Type 0 where
   pub births : s .births ≡ t .births
   pub globals : s .globals ≡ t .globals
   pub others : (n : ℕ) → n ≢ ownSession → sessionAt s n ≡ sessionAt t n
+  pub share : sessionAt s ownSession .share ≡ sessionAt t ownSession .share
+  pub charge : sessionAt s ownSession .charge ≡ sessionAt t ownSession .charge
   pub attached : sessionAt s ownSession .attached ≡ sessionAt t ownSession .attached
   pub scanned : sessionAt s ownSession .scanned ≡ sessionAt t ownSession .scanned
 
@@ -90,7 +92,7 @@ TestsKeep = (s : Store) (q : Request) → byTests (directoryCall s q .given .num
 
 -- the field counts of the allocations among some calls
 abbrev pub sized : Call → List ℕ → List ℕ
-sized (Attach n) xs = xs
+sized (Attach n share) xs = xs
 sized (Detach n) xs = xs
 sized (SafePoint n) xs = xs
 sized (Allocate n k r p) xs = (r + p) ∷ xs
@@ -114,7 +116,7 @@ allocations (c ∷ cs) = sized c (allocations cs)
 
 -- how many allocations a call makes at most
 abbrev pub allocating : Request → ℕ
-allocating Open = 0
+allocating (Open share) = 0
 allocating (Add n) = 1
 allocating (Remove n) = 0
 allocating (Make g) = 1

@@ -278,7 +278,7 @@ plainly a = a >> give nothing
 
 -- "All calls but open start with a safe point"
 abbrev pub firstAsk : Request → Ask
-firstAsk Open = attach
+firstAsk (Open share) = attach share
 firstAsk (Add n) = safePoint
 firstAsk (Remove n) = safePoint
 firstAsk (Make g) = safePoint
@@ -288,7 +288,7 @@ firstAsk (Members g out) = safePoint
 
 -- what follows; half is the half's length, which bounds every walk
 abbrev pub inner : ℕ → Request → Act Given
-inner half Open = give nothing
+inner half (Open share) = give nothing
 inner half (Add n) = ending walkRegisters (plainly (adding half n))
 inner half (Remove n) = ending removeRegisters (plainly (removing half n))
 inner half (Make g) = ending groupRegisters (plainly (making half g))
@@ -317,6 +317,6 @@ directoryCall s q =
     let p = perform s (programOn s q) in
     record { store = p .store; given = givenOf q (p .result) }
 
--- the number by which the store refused the call's allocation for want of room, or 0
+-- the number by which the store refused the call's allocation, or 0
 unfoldable pub fedNumber : Store → Request → ℕ
 fedNumber s q = allocationNumber s (programOn s q)

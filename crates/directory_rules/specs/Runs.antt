@@ -17,7 +17,7 @@ pub data Item : Type 0 where
 
 -- "Session 15 and global 31 are the directory's alone": other calls name neither
 abbrev pub others : Call → Bool
-others (Attach n) = not (eqb n ownSession)
+others (Attach n share) = not (eqb n ownSession)
 others (Detach n) = not (eqb n ownSession)
 others (SafePoint n) = not (eqb n ownSession)
 others (Allocate n k r p) = not (eqb n ownSession)

@@ -6,9 +6,10 @@ use lib.Dec.{leb, eqb}
 use lib.ListN.{length, take, drop}
 use Rattle.rules.specs.Refusals.{Tested, refused, passed, check, _>>=_, _>>_}
 
--- what is asked of the directory: numbers of people and groups; of a list also the words lent for its members
+-- what is asked of the directory: numbers of people and groups; of a list also the words lent for its members; of open, by request [7], "a share in
+-- words"
 pub data Request : Type 0 where
-  Open : Request
+  Open : ℕ → Request
   Add : ℕ → Request
   Remove : ℕ → Request
   Make : ℕ → Request
@@ -122,7 +123,7 @@ known t n g = do
 -- the table after a call that isn't refused. It is fed the number by which the store refused the call's allocation, 0 where
 -- it refused none: "one refused its allocation leaves the table as before it"
 unfoldable pub tableNext : Table → Request → ℕ → Tested Table
-tableNext t Open fed = do
+tableNext t (Open share) fed = do
   check (not (t .opened)) openAlready
   passed (openedTable t)
 tableNext t (Add n) fed = do
@@ -161,7 +162,7 @@ tableNext t (Members g out) fed = do
 
 -- the words that a call is lent
 abbrev pub lentBy : Request → List ℕ
-lentBy Open = []
+lentBy (Open share) = []
 lentBy (Add n) = []
 lentBy (Remove n) = []
 lentBy (Make g) = []
@@ -185,7 +186,7 @@ abbrev pub listed : List ℕ → List ℕ → Given
 listed ms out = record { number = 0; count = length ms; words = over ms out }
 
 abbrev pub givenBy : Request → Table → Given
-givenBy Open t = nothing
+givenBy (Open share) t = nothing
 givenBy (Add n) t = nothing
 givenBy (Remove n) t = nothing
 givenBy (Make g) t = nothing

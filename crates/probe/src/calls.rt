@@ -18,7 +18,7 @@ fn call_session(
     let b = case[3];
     match case[0] {
         0 => Control::make(h0, h1, list),
-        1 => control.attach(h0, h1, list, s),
+        1 => control.attach(h0, h1, list, s, a),
         2 => control.detach(h0, h1, list, s),
         3 => control.safe_point(h0, h1, list, s),
         9 => control.move_register(h0, h1, list, s, a, b),

@@ -10,9 +10,9 @@ mod calls; // calls.rt: the call of a case, of the store
 mod requests; // requests.rt: the call of a case, of the directory
 
 // The words of a case before those that it lends, and the words of a reply before those.
-pub(crate) const CASE: usize = 238;
+pub(crate) const CASE: usize = 270;
 
-pub(crate) const REPLY: usize = 233;
+pub(crate) const REPLY: usize = 265;
 
 // The kind of a stretch, which no script has.
 pub(crate) const STRETCH: u32 = 15;

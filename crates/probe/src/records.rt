@@ -1,5 +1,5 @@
 // The control record out of the words of a case, and into those of a reply. Both have the current half in one word, ten
-// numbers in two words each, the globals, 11 words for each session, and how many birth numbers are used.
+// numbers in two words each, the globals, 13 words for each session, and how many birth numbers are used.
 ghost use Prim.Native.Nat.{_+_, _≤_, _<_};
 use crate::CASE;
 use crate::REPLY;
@@ -49,7 +49,7 @@ fn globals_of(case: &[u32; CASE]) -> [u32; 32] {
 
 // The session whose words begin at a place.
 fn session_at(case: &[u32; CASE], at: usize) -> Session
-    requires { ⌜ at + 11 ≤ 238 ⌝ }
+    requires { ⌜ at + 13 ≤ 270 ⌝ }
 {
     let registers = [
         case[at],
@@ -64,8 +64,10 @@ fn session_at(case: &[u32; CASE], at: usize) -> Session
     Session {
         registers,
         level: case[at + 8],
-        attached: case[at + 9] != 0,
-        scanned: case[at + 10] != 0,
+        share: case[at + 9],
+        charge: case[at + 10],
+        attached: case[at + 11] != 0,
+        scanned: case[at + 12] != 0,
     }
 }
 
@@ -74,13 +76,15 @@ fn sessions_of(case: &[u32; CASE]) -> [Session; 16] {
     let nobody = Session {
         registers: [0; 8],
         level: 0,
+        share: 0,
+        charge: 0,
         attached: false,
         scanned: false,
     };
     let mut sessions = [nobody; 16];
     let mut i: usize = 0;
     while i < 16 {
-        let session = session_at(case, 61 + 11 * i);
+        let session = session_at(case, 61 + 13 * i);
         sessions[i] = session;
         i += 1;
     }
@@ -97,7 +101,7 @@ pub(crate) fn control_of(case: &[u32; CASE]) -> Control {
         length1: number(case, 1),
         capacity: number(case, 2),
         cursor,
-        births: case[237],
+        births: case[269],
         globals,
         sessions,
     }
@@ -170,7 +174,7 @@ fn put_globals(out: &mut [u32; REPLY], globals: [u32; 32]) {
 
 // One session into the words of a reply, from a place on.
 fn put_session(out: &mut [u32; REPLY], at: usize, session: Session)
-    requires { ⌜ at + 11 ≤ 233 ⌝ }
+    requires { ⌜ at + 13 ≤ 265 ⌝ }
 {
     let registers = session.registers;
     let mut i: usize = 0;
@@ -179,8 +183,10 @@ fn put_session(out: &mut [u32; REPLY], at: usize, session: Session)
         i += 1;
     }
     out[at + 8] = session.level;
-    out[at + 9] = session.attached as u32;
-    out[at + 10] = session.scanned as u32;
+    out[at + 9] = session.share;
+    out[at + 10] = session.charge;
+    out[at + 11] = session.attached as u32;
+    out[at + 12] = session.scanned as u32;
 }
 
 // The sixteen sessions into the words of a reply.
@@ -188,7 +194,7 @@ fn put_sessions(out: &mut [u32; REPLY], sessions: [Session; 16]) {
     let mut i: usize = 0;
     while i < 16 {
         let session = sessions[i];
-        put_session(out, 56 + 11 * i, session);
+        put_session(out, 56 + 13 * i, session);
         i += 1;
     }
 }
@@ -204,5 +210,5 @@ pub(crate) fn put_control(out: &mut [u32; REPLY], control: Control) {
     put_cursor(out, cursor);
     put_globals(out, globals);
     put_sessions(out, sessions);
-    out[232] = control.births;
+    out[264] = control.births;
 }

@@ -1,6 +1,6 @@
 // The directory's call of a case: its kind is 100 and the kind that a directory script has for it, its arguments are those
-// of the script, 32 bits each. A list's second argument is how many words it is lent; they are 1000, 1001 and so on
-// before the call, and come at the end of the reply as the call left them.
+// of the script, 32 bits each, and of open its share. A list's second argument is how many words it is lent; they are 1000,
+// 1001 and so on before the call, and come at the end of the reply as the call left them.
 use crate::CASE;
 use crate::REPLY;
 use crate::records;
@@ -33,7 +33,7 @@ fn call_reading<'a>(
 ) -> Reply {
     match case[0] {
         LIST => directory::list_members(control, h0, h1, list, case[1], lent),
-        _ => directory::open(control, h0, h1, list),
+        _ => directory::open(control, h0, h1, list, case[1]),
     }
 }
 

@@ -13,7 +13,7 @@ use Rattle.script.specs.declared.entries.Parsed.the-variants as parsed
 
 -- the call that a command stands for: of those that touch no record, and of all
 abbrev pub sessionCalling : SessionCall → rules.Call
-sessionCalling (Attach s) = rules.Attach s
+sessionCalling (Attach s) = rules.Attach s script.scriptShare
 sessionCalling (Detach s) = rules.Detach s
 sessionCalling (SafePoint s) = rules.SafePoint s
 sessionCalling (Move s to from) = rules.Move s to from

@@ -5,6 +5,7 @@ mod lines; // lines.rt: the text of a line
 mod turns; // turns.rt: the entries one after another, their calls and their lines
 mod window; // window.rt: which bytes of the input buffer hold entries that are still to be done
 
+pub use calls::SCRIPT_SHARE;
 pub use entries::Command;
 pub use entries::Decoded;
 pub use entries::Parsed;

@@ -7,7 +7,7 @@ use lib.Dec.{leb, eqb}
 use lib.Bits.{bitXor}
 use lib.ListN.{getD, length}
 use Rattle.rules.specs.Runs.{Call, Attach, Detach, SafePoint, Allocate, Load, StoreRef, Read, Write, Move, Clear, SameAs, Get, Put, Step}
-use Rattle.rules.specs.Script.{numberAt}
+use Rattle.rules.specs.Script.{numberAt, scriptShare}
 use Rattle.workload.specs.declared.entries.Class.{Class}
 use Rattle.workload.specs.declared.entries.Class.the-variants.{Session, Register, Global, Small, Value}
 
@@ -77,7 +77,7 @@ kindCount = 14
 
 unfoldable pub forms : List Form
 forms =
-    record { classes = Session ∷ []; call = λ a. Attach (getD a 0 0) }
+    record { classes = Session ∷ []; call = λ a. Attach (getD a 0 0) scriptShare }
     ∷ record { classes = Session ∷ []; call = λ a. Detach (getD a 0 0) }
     ∷ record { classes = Session ∷ []; call = λ a. SafePoint (getD a 0 0) }
     ∷ record {

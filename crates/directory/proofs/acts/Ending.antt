@@ -101,9 +101,9 @@ finished s a n t m e f =
     let cleared : t ≡ perform (leftBy [] (perform s x) .store) (clearingFirst n) .store = e ∙ ap (λ (q : Left). perform (q .store) (clearingFirst n) .store) (sym p) in
     ap (λ (g : Given). record { store = t; given = g }) given ∙ left-ends [] n s x t cleared
 
-pub opened : (s : Store) (r : Reply) (h0 h1 l : List ℕ) (m : ℕ) → outcome r h0 h1 l ≡ apply s (callOf attach) → m ≡ numberOf (r .answer)
-    → record { store = view (r .control) h0 h1 l; given = record { number = m; count = 0; words = [] } } ≡ leftBy [] (perform s (plainly (must attach)))
-opened s r h0 h1 l m e f =
+pub opened : (s : Store) (share : ℕ) (r : Reply) (h0 h1 l : List ℕ) (m : ℕ) → outcome r h0 h1 l ≡ apply s (callOf (attach share)) → m ≡ numberOf (r .answer)
+    → record { store = view (r .control) h0 h1 l; given = record { number = m; count = 0; words = [] } } ≡ leftBy [] (perform s (plainly (must (attach share))))
+opened s share r h0 h1 l m e f =
     rw f (sym (plain-left (view (r .control) h0 h1 l) (r .answer)))
     ∙ ap (λ (o : Outcome Store). leftBy [] (perform (o .store) (plainly (orStop (o .reply))))) e
 

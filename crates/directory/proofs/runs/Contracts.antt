@@ -25,11 +25,11 @@ use Rattle.directory.proofs.calls.leave.Reads as leave-reads
 use Rattle.directory.proofs.calls.list_members as list-members
 use Rattle.directory.proofs.calls.list_members.Reads as list-members-reads
 
-pub open-answered : (κs : Lfts 3) (control : Control) (h0 h1 list : Slice) (r : Reply)
+pub open-answered : (κs : Lfts 3) (control : Control) (h0 h1 list : Slice) (share : ℕ) (r : Reply)
     → Gives opens.ended open-reads.Asked open-reads.Learnt κs
-    (control, (h0, (h1, (list, tt)))) r (tt, (tt, (tt, (tt, tt))))
-    (Answered control (now h0) (now h1) (now list) Open (given r []) (lent (r .control) (now h0) (now h1) (now list)))
-open-answered κs control h0 h1 list r = (tt, by-open r)
+    (control, (h0, (h1, (list, (share, tt))))) r (tt, (tt, (tt, (tt, (tt, tt)))))
+    (Answered control (now h0) (now h1) (now list) (Open share) (given r []) (lent (r .control) (now h0) (now h1) (now list)))
+open-answered κs control h0 h1 list share r = (tt, by-open share r)
 
 pub add-answered : (κs : Lfts 3) (control : Control) (h0 h1 list : Slice) (person : ℕ) (r : Reply) (h0′ h1′ list′ : List ℕ)
     → Gives add.ended add-reads.Asked add-reads.Learnt κs

@@ -17,7 +17,7 @@ use Rattle.directory.specs.CodeRuns.{Answered, by-open, by-add, by-remov
 -- a directory call leaves what the rules give
 pub answered-leaves : {control : Control} {h0 h1 list : List ℕ} {q : Request} {g : Given} {b : Lent}
     → Answered control h0 h1 list q g b → record { store = viewed b; given = g } ≡ directoryCall (view control h0 h1 list) q
-answered-leaves (by-open r e) = e
+answered-leaves (by-open share r e) = e
 answered-leaves (by-add person r h0′ h1′ list′ e) = e
 answered-leaves (by-remove person r h0′ h1′ list′ e) = e
 answered-leaves (by-make-group group r h0′ h1′ list′ e) = e

@@ -14,7 +14,7 @@ use Rattle.directory_rules.proofs.acts.First.{first-call}
 use Rattle.directory_rules.proofs.acts.Few.{Few, few-stop, few-give, few-ask, few-make, few-program}
 
 sized-none : (c : Ask) (xs : List ℕ) → isAllocation (callOf c) ≡ false → sized (callOf c) xs ≡ xs
-sized-none attach xs e = refl
+sized-none (attach share) xs e = refl
 sized-none safePoint xs e = refl
 sized-none (allocate k r p) xs e = cc
 sized-none (load to k i) xs e = refl

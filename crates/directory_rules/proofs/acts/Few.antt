@@ -49,7 +49,7 @@ careful-few (late a) s = steady-few a s
 -- ---- a call
 
 first-none : (q : Request) → isAllocation (callOf (firstAsk q)) ≡ false
-first-none Open = refl
+first-none (Open share) = refl
 first-none (Add n) = refl
 first-none (Remove n) = refl
 first-none (Make g) = refl

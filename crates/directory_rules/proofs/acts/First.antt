@@ -13,7 +13,7 @@ use Rattle.directory_rules.specs.Directory.{firstAsk, inner, program, di
 use Rattle.directory_rules.specs.Claims.{firstCall, FirstKeeps}
 
 pub first-call : (q : Request) → callOf (firstAsk q) ≡ firstCall q
-first-call Open = refl
+first-call (Open share) = refl
 first-call (Add n) = refl
 first-call (Remove n) = refl
 first-call (Make g) = refl

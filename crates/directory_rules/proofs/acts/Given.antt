@@ -88,7 +88,7 @@ gives-plain : (q : Request) → lentBy q ≡ [] → (a : Act (Unit {0})) → Giv
 gives-plain q e a = any-then a _ (λ u. gives nothing (record { number = refl; past = rw e; long = rw e }))
 
 pub gives-inner : (half : ℕ) (q : Request) → Gives (Fine q) (inner half q)
-gives-inner half Open = gives nothing (record { number = refl; past = refl; long = refl })
+gives-inner half (Open share) = gives nothing (record { number = refl; past = refl; long = refl })
 gives-inner half (Add n) = gives-ending _ (gives-plain (Add n) refl (adding half n))
 gives-inner half (Remove n) = gives-ending _ (gives-plain (Remove n) refl (removing half n))
 gives-inner half (Make g) = gives-ending _ (gives-plain (Make g) refl (making half g))

@@ -20,7 +20,7 @@ after-safe-point : (s : Store) (half : ℕ) (q : Request) → Keeps Beyond s (pe
 after-safe-point s half q e = beyond-then (safe-point-beyond s) (careful-keeps (careful-inner half q) (apply s (SafePoint ownSession) .store) e .beyond)
 
 rest-keeps : (s : Store) (half : ℕ) (q : Request) → Keeps Beyond s (perform (apply s (callOf (firstAsk q)) .store) (inner half q))
-rest-keeps s half Open = λ e. absurd (false≢true e)
+rest-keeps s half (Open share) = λ e. absurd (false≢true e)
 rest-keeps s half (Add n) = after-safe-point s half (Add n)
 rest-keeps s half (Remove n) = after-safe-point s half (Remove n)
 rest-keeps s half (Make g) = after-safe-point s half (Make g)

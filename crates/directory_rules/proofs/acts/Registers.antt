@@ -32,6 +32,8 @@ beyond-then h k = record {
   births = h .births ∙ k .births;
   globals = h .globals ∙ k .globals;
   others = λ n d. h .others n d ∙ k .others n d;
+  share = h .share ∙ k .share;
+  charge = h .charge ∙ k .charge;
   attached = h .attached ∙ k .attached;
   scanned = h .scanned ∙ k .scanned;
 }
@@ -41,10 +43,10 @@ own-same : {B : Type 0} (f : Session → B) (s : Store) (x : Session) → f (ses
 unfolding withSession sessionAt
 own-same f s x e = set-holds (λ z. f (getD (s .sessions) ownSession absent) ≡ f z) (s .sessions) ownSession x absent ownSession e refl
 
-pub beyond-session : (s : Store) (x : Session) → sessionAt s ownSession .attached ≡ x .attached → sessionAt s ownSession .scanned ≡ x .scanned
-    → Beyond s (withSession s ownSession x)
+pub beyond-session : (s : Store) (x : Session) → sessionAt s ownSession .share ≡ x .share → sessionAt s ownSession .charge ≡ x .charge
+    → sessionAt s ownSession .attached ≡ x .attached → sessionAt s ownSession .scanned ≡ x .scanned → Beyond s (withSession s ownSession x)
 unfolding withSession sessionAt
-beyond-session s x a b = record {
+beyond-session s x c d a b = record {
   lengths = refl;
   memory = refl;
   current = refl;
@@ -53,7 +55,9 @@ beyond-session s x a b = record {
   list = refl;
   births = refl;
   globals = refl;
-  others = λ n d. sym (getD-set-other (s .sessions) ownSession n x absent d);
+  others = λ n e. sym (getD-set-other (s .sessions) ownSession n x absent e);
+  share = own-same (λ z. z .share) s x c;
+  charge = own-same (λ z. z .charge) s x d;
   attached = own-same (λ z. z .attached) s x a;
   scanned = own-same (λ z. z .scanned) s x b;
 }
@@ -87,14 +91,15 @@ only-set s k v =
     let x = sessionAt s ownSession in
     let y = withRegisters x (set (x .registers) k v) in
     record {
-      beyond = beyond-session s y refl refl;
+      beyond = beyond-session s y refl refl refl refl;
       sessions = set-sessions s y;
       level = own-same (λ z. z .level) s y refl;
       registers = own-same (λ z. length (z .registers)) s y (sym (length-set (x .registers) k v));
     }
 
-session-same : (x y : Session) → x .registers ≡ y .registers → x .level ≡ y .level → x .attached ≡ y .attached → x .scanned ≡ y .scanned → x ≡ y
-session-same x y a b c d = λ i. record { registers = a i; level = b i; attached = c i; scanned = d i }
+session-same : (x y : Session) → x .registers ≡ y .registers → x .level ≡ y .level → x .share ≡ y .share → x .charge ≡ y .charge
+    → x .attached ≡ y .attached → x .scanned ≡ y .scanned → x ≡ y
+session-same x y a b e f c d = λ i. record { registers = a i; level = b i; share = e i; charge = f i; attached = c i; scanned = d i }
 
 store-same : (s t : Store) → Beyond s t → s .sessions ≡ t .sessions → s ≡ t
 store-same s t h e = λ i.
@@ -114,7 +119,7 @@ store-same s t h e = λ i.
 pub only-all : (s t : Store) → OnlyRegisters s t → sessionAt s ownSession .registers ≡ sessionAt t ownSession .registers → s ≡ t
 unfolding sessionAt
 only-all s t h e = store-same s t (h .beyond) (ext-getD absent (s .sessions) (t .sessions) (h .sessions) (λ i l. eq-or i ownSession
-    (λ z. rw z (session-same (getD (s .sessions) ownSession absent) (getD (t .sessions) ownSession absent) e (h .level) (h .beyond .attached) (h .beyond .scanned)))
+    (λ z. rw z (session-same (getD (s .sessions) ownSession absent) (getD (t .sessions) ownSession absent) e (h .level) (h .beyond .share) (h .beyond .charge) (h .beyond .attached) (h .beyond .scanned)))
     (λ d. h .beyond .others i d)))
 
 -- ---- the calls
@@ -144,7 +149,7 @@ module _ (s : Store) where
 
 -- what an act may call: while nothing is written, what writes no more than a register; later, all but an allocation
 abbrev pub may : Bool → Ask → Bool
-may late attach = late
+may late (attach share) = late
 may late safePoint = late
 may late (allocate k r p) = false
 may late (load to k i) = true
@@ -157,7 +162,7 @@ may late (get to) = true
 may late (put from) = late
 
 pub early-only : (s : Store) (c : Ask) → may false c ≡ true → OnlyRegisters s (apply s (callOf c) .store)
-early-only s attach e = absurd (false≢true e)
+early-only s (attach share) e = absurd (false≢true e)
 early-only s safePoint e = absurd (false≢true e)
 early-only s (allocate k r p) e = absurd (false≢true e)
 early-only s (load to k i) e = settled s (load-only s to k i) (only-same s)
@@ -170,7 +175,7 @@ early-only s (get to) e = settled s (get-only s to ownGlobal) (only-same s)
 early-only s (put from) e = absurd (false≢true e)
 
 pub no-allocation : (late : Bool) (c : Ask) → may late c ≡ true → isAllocation (callOf c) ≡ false
-no-allocation late attach e = refl
+no-allocation late (attach share) e = refl
 no-allocation late safePoint e = refl
 no-allocation late (allocate k r p) e = sym e
 no-allocation late (load to k i) e = refl

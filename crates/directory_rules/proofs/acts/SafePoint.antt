@@ -25,7 +25,7 @@ safe-point-ends : (s : Store) → Ends (Beyond s) (calls.safePoint s ownSession)
 unfolding calls.safePoint calls.sessionOf
 safe-point-ends s =
     session-ends (inRange s) (leb ownSession lastSession) (sessionAt s ownSession .attached) (sessionAt s ownSession)
-    (λ x. done (withSession s ownSession (withLevel x (levelOf (s .phase))))) (ends _ (beyond-session s (withLevel (sessionAt s ownSession) (levelOf (s .phase))) refl refl))
+    (λ x. done (withSession s ownSession (withLevel x (levelOf (s .phase))))) (ends _ (beyond-session s (withLevel (sessionAt s ownSession) (levelOf (s .phase))) refl refl refl refl))
 
 pub safe-point-beyond : (s : Store) → Beyond s (apply s (SafePoint ownSession) .store)
 safe-point-beyond s = settled {P = Beyond s} s (safe-point-ends s) (beyond-same s)

@@ -152,7 +152,7 @@ unfolding listing
 careful-listing half g out = search (steady-careful, late, steady, steady-grouping, steady-counting, steady-taking-first) depth 12
 
 pub careful-inner : (half : ℕ) (q : Request) → Careful (allocating q) (inner half q)
-careful-inner half Open = search (late, gives)
+careful-inner half (Open share) = search (late, gives)
 careful-inner half (Add n) = search (careful-ending, careful-late, gives, careful-adding)
 careful-inner half (Remove n) = search (careful-ending, careful-late, gives, careful-removing)
 careful-inner half (Make g) = search (careful-ending, careful-late, gives, careful-making)

@@ -63,25 +63,25 @@ module _ {f : Free} {y : Layout} {t : Table} (r : Represents f y t) where
     cleared = λ k. ap (λ (x : FreeSession). getD (x .registers) k null) own-session ∙ zeros registerCount k;
   }
 
-module _ (fed : ℕ) (f : Free) where
-  attach-again : freeSession f ownSession .attached ≡ true → freeAsk fed f attach ≡ record { store = f; reply = answer (Refused openAlready) }
+module _ (fed : ℕ) (f : Free) (share : ℕ) where
+  attach-again : freeSession f ownSession .attached ≡ true → freeAsk fed f (attach share) ≡ record { store = f; reply = answer (Refused openAlready) }
   unfolding freeAttach
   attach-again e = rw e
 
-  attach-first : freeSession f ownSession .attached ≡ false → freeAsk fed f attach ≡ record { store = attached f; reply = answer Done }
+  attach-first : freeSession f ownSession .attached ≡ false → freeAsk fed f (attach share) ≡ record { store = attached f; reply = answer Done }
   unfolding freeAttach
   attach-first e = rw e
 
   open-kept : {y : Layout} {t : Table} → Represents f y t
-      → Kept Open t (check (not (t .opened)) openAlready >>> passed (openedTable t)) (freePerform fed f (must attach >> give nothing))
+      → Kept (Open share) t (check (not (t .opened)) openAlready >>> passed (openedTable t)) (freePerform fed f (must (attach share) >> give nothing))
   open-kept {y} {t} r = go (t .opened) refl
     where
-      go : (b : Bool) → t .opened ≡ b → Kept Open t (check (not b) openAlready >>> passed (openedTable t)) (freePerform fed f (must attach >> give nothing))
-      go true e = rw (must-refused fed f attach (λ u. give nothing) (attach-again (r .opened ∙ e)))
+      go : (b : Bool) → t .opened ≡ b → Kept (Open share) t (check (not b) openAlready >>> passed (openedTable t)) (freePerform fed f (must (attach share) >> give nothing))
+      go true e = rw (must-refused fed f (attach share) (λ u. give nothing) (attach-again (r .opened ∙ e)))
           (record { given = refl; layout = y; represents = r })
-      go false e = rw (must-done fed f attach (λ u. give nothing) (attach-first (r .opened ∙ e)))
+      go false e = rw (must-done fed f (attach share) (λ u. give nothing) (attach-first (r .opened ∙ e)))
           (record { given = refl; layout = y; represents = opened-represents r })
 
-pub opening-kept : (half fed : ℕ) {f : Free} {y : Layout} {t : Table} → Represents f y t → RequestKept half fed f t Open
+pub opening-kept : (half fed share : ℕ) {f : Free} {y : Layout} {t : Table} → Represents f y t → RequestKept half fed f t (Open share)
 unfolding program tableNext
-opening-kept half fed {f} r = open-kept fed f r
+opening-kept half fed share {f} r = open-kept fed f share r

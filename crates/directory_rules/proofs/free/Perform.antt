@@ -23,7 +23,7 @@ unfed f c =
     cond (isSession (callOf c)) (freeApply f (callOf c) fitted) (record { store = f; reply = answer (doneOr (freeSessionOf f ownSession)) })
 
 abbrev pub freeAsk : ℕ → Free → Ask → Outcome Free
-freeAsk fed f attach = unfed f attach
+freeAsk fed f (attach share) = unfed f (attach share)
 freeAsk fed f safePoint = unfed f safePoint
 freeAsk fed f (allocate k r p) = settle f (allocateFed f k r p fed)
 freeAsk fed f (load to k i) = unfed f (load to k i)

@@ -9,7 +9,7 @@ use Rattle.rules.specs.Control.{Store}
 use Rattle.rules.specs.Refusals.{Tested, refused, passed, check, _>>=_, _>>_, Outcome, Reply, answer, settle, done, doneOr}
 use Rattle.rules.specs.Calls.{isRegister, isShape, numberLeft}
 use Rattle.rules.specs.Runs.{Call, SafePoint, apply, after, isSession, isAllocation, Fed, fitted, fedBy}
-use Rattle.rules.specs.Free.{Free, newFree, freeApply, freeSessionOf, fedRoom, freeAllocate}
+use Rattle.rules.specs.Free.{Free, newFree, freeApply, freeSessionOf, fedShare, fedRoom, freeAllocate}
 use Rattle.rules.specs.Tracking.{Beside, newBeside, besideCall, beside}
 use Rattle.rules.specs.Claims.{Made, freeAfter, NextAnswer, SafePointAnswer}
 use Rattle.rules.proofs.relation.Kinds.{Kind, allocation, unfed, silent, kind}
@@ -76,11 +76,12 @@ by-kind f c fed (unfed a b any) session other = any f _ _
 by-kind f c fed (silent a b) session other = absurd (true≢false (sym session ∙ a))
 
 -- an allocation that answers r is the same where it is fed the number that r gives
-last-tests : (f g : Free) (a b : Bool) (r : Reply) → r ≡ settle f (check a 14 >> (check b 16 >> done g)) .reply
-    → settle f (check a 14 >> (check b 16 >> done g)) ≡ settle f (check (eqb (refusedBy r) 0) (refusedBy r) >> done g)
-last-tests f g true true r e = rw e
-last-tests f g true false r e = rw e
-last-tests f g false b r e = rw e
+last-tests : (f g : Free) (a b c : Bool) (r : Reply) → r ≡ settle f (check a 17 >> (check b 14 >> (check c 16 >> done g))) .reply
+    → settle f (check a 17 >> (check b 14 >> (check c 16 >> done g))) ≡ settle f (check (eqb (refusedBy r) 0) (refusedBy r) >> done g)
+last-tests f g true true true r e = rw e
+last-tests f g true true false r e = rw e
+last-tests f g true false c r e = rw e
+last-tests f g false b c r e = rw e
 
 -- tests before them are the same on both sides
 same-after : {A : Type 0} (f : Free) (x : Reply) (t : Tested A) (u v : A → Tested (Outcome Free))
@@ -92,7 +93,7 @@ fed-same : (f : Free) (k r p : ℕ) (x : Reply) → x ≡ freeApply f (callOf (a
     → freeApply f (callOf (allocate k r p)) (fedBy x) ≡ freeAsk (refusedBy x) f (allocate k r p)
 unfolding freeAllocate allocateFed
 fed-same f k r p x = same-after f x (freeSessionOf f ownSession) _ _ (λ y. same-after f x (check (isRegister k) 8) _ _
-    (λ u. same-after f x (check (isShape r p) 10) _ _ (λ w. last-tests f _ (fedRoom (fedBy x)) (numberLeft (length (f .records))) x)))
+    (λ u. same-after f x (check (isShape r p) 10) _ _ (λ w. last-tests f _ (fedShare (fedBy x)) (fedRoom (fedBy x)) (numberLeft (length (f .records))) x)))
 
 module _ {s t : Store} {f : Free} (here : Here s t f) (made : Made s) (fed : ℕ) where
   -- by what is asked there and what that does to the collector-free store
@@ -106,7 +107,7 @@ module _ {s t : Store} {f : Free} (here : Here s t f) (made : Made s) (fed : ℕ
   unfed-asked c session other e = asked-by c session (by-kind f c _ (kind (callOf c)) session other ∙ e)
 
   pub asked-both : (c : Ask) → FedRight fed t c → AskedBoth s t f fed c
-  asked-both attach right = unfed-asked attach refl refl refl
+  asked-both (attach share) right = unfed-asked (attach share) refl refl refl
   asked-both safePoint right = record { reply = safe-point-reply here made; here = here-call here (SafePoint ownSession) }
   asked-both (allocate k r p) right = asked-by (allocate k r p) refl (rw (right refl) (fed-same f k r p _ (session-reply here made (callOf (allocate k r p)) refl)))
   asked-both (load to k i) right = unfed-asked (load to k i) refl refl refl

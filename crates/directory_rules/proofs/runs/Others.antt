@@ -11,7 +11,7 @@ use Rattle.rules.specs.Control.{lastSession, registerCount}
 use Rattle.rules.specs.Refusals.{Tested, passed, check, _>>=_, _>>_, Outcome}
 use Rattle.rules.specs.Calls.{isRegister, isGlobal, isShape, numberLeft}
 use Rattle.rules.specs.Runs.{Call, Attach, Detach, SafePoint, Allocate, Load, StoreRef, Read, Write, Move, Clear, SameAs, Get, Put, Stretch, Companion, Birth, Step, isSession, Fed}
-use Rattle.rules.specs.Free.{Free, FreeSession, recordAt, freeSession, freeRegister, freeNobody, fedRoom, freeSessionOf, freeRecordIn, freeAttach, freeDetach, freeAllocate, freeLoad, freeStore, freeRead, freeBirth, freeWrite, freeMove, freeClear, freeSame, freeGet, freePut, freeApply}
+use Rattle.rules.specs.Free.{Free, FreeSession, recordAt, freeSession, freeRegister, freeNobody, fedShare, fedRoom, freeSessionOf, freeRecordIn, freeAttach, freeDetach, freeAllocate, freeLoad, freeStore, freeRead, freeBirth, freeWrite, freeMove, freeClear, freeSame, freeGet, freePut, freeApply}
 use Rattle.rules.proofs.Ranges.{both}
 use Rattle.rules.proofs.memory.Lists.{all-same}
 use Rattle.directory_rules.specs.Table.{Table}
@@ -79,8 +79,8 @@ module _ {lab : ℕ → ℕ} {f : Free} (own : Owned f lab) (apart : Apart f lab
     unfolding freeAllocate
     allocate-aside k r p fed =
         let g = aside-grown apart own r p in
-        row-session f n _ (row-check (isRegister k) 8 (row-check (isShape r p) 10 (row-check (fedRoom fed) 14
-        (row-check (numberLeft (length (f .records))) 16 (ends _ (aside-then g (aside-register (g .apart) n k _ other (new-foreign own _))))))))
+        row-session f n _ (row-check (isRegister k) 8 (row-check (isShape r p) 10 (row-check (fedShare fed) 17 (row-check (fedRoom fed) 14
+        (row-check (numberLeft (length (f .records))) 16 (ends _ (aside-then g (aside-register (g .apart) n k _ other (new-foreign own _)))))))))
 
     load-aside : (to k i : ℕ) → Ends P (freeLoad f n to k i)
     unfolding freeLoad
@@ -128,7 +128,7 @@ module _ {lab : ℕ → ℕ} {f : Free} (own : Owned f lab) (apart : Apart f lab
 
   -- every call that names neither the directory's session nor its global
   others-aside : (c : Call) (fed : Fed) → others c ≡ true → P (cond (isSession c) (freeApply f c fed .store) f)
-  others-aside (Attach n) fed e = settled f (attach-aside n (is-other n ownSession e)) (aside-none apart)
+  others-aside (Attach n share) fed e = settled f (attach-aside n (is-other n ownSession e)) (aside-none apart)
   others-aside (Detach n) fed e = settled f (detach-aside n (is-other n ownSession e)) (aside-none apart)
   others-aside (SafePoint n) fed e = aside-none apart
   others-aside (Allocate n k r p) fed e = settled f (allocate-aside n (is-other n ownSession e) k r p fed) (aside-none apart)

@@ -49,7 +49,7 @@ state-call {t = t} a c e = record {
 }
 
 one-at-most : (q : Request) → allocating q ≤ 1
-one-at-most Open = omega arith
+one-at-most (Open share) = omega arith
 one-at-most (Add n) = omega arith
 one-at-most (Remove n) = omega arith
 one-at-most (Make g) = omega arith

@@ -76,14 +76,14 @@ module _ {s t : Store} {u : Table} (made : Made s) (a : State s t u) where
         (λ e. absurd (true≢false (sym tests ∙ rw (first-keeps t q notOpen (rw c e) .1))))
 
   -- opening is refused by none of these numbers
-  not-opening : (n : ℕ) (b : Bool) → u .opened ≡ b → byTests (tableGiven Open (tableNext u Open n) .number) ≡ false
+  not-opening : (share n : ℕ) (b : Bool) → u .opened ≡ b → byTests (tableGiven (Open share) (tableNext u (Open share) n) .number) ≡ false
   unfolding tableNext
-  not-opening n true e = rw e
-  not-opening n false e = rw e
+  not-opening share n true e = rw e
+  not-opening share n false e = rw e
 
   request-only : (q : Request) → byTests (directoryCall t q .given .number) ≡ true → directoryCall t q .store ≡ apply t (SafePoint ownSession) .store
-  request-only Open tests =
-      let e : byTests (directoryCall t Open .given .number) ≡ false = rw (state-request made a Open .given) (not-opening (fedNumber t Open) (u .opened) refl) in
+  request-only (Open share) tests =
+      let e : byTests (directoryCall t (Open share) .given .number) ≡ false = rw (state-request made a (Open share) .given) (not-opening share (fedNumber t (Open share)) (u .opened) refl) in
       absurd (true≢false (sym tests ∙ e))
   request-only (Add n) tests = safe-point-first (Add n) refl refl tests
   request-only (Remove n) tests = safe-point-first (Remove n) refl refl tests

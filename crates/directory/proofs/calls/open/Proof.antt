@@ -14,7 +14,7 @@ number-of-requires c κs = tt
 
 returns : tie.Need-returns
 unfolding program
-returns c = opened _ _ _ _ _ _ (c .before .before .attach .ensures) (c .number-of .ensures) ∙ sym (directory-call _ Open)
+returns c = opened _ _ _ _ _ _ _ (c .before .before .attach .ensures) (c .number-of .ensures) ∙ sym (directory-call _ (Open _))
 
 pub open-spec : {M : Type 1} → statement M
 open-spec = tie.close (tie.spec attach-requires number-of-requires returns)

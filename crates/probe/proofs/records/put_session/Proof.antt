@@ -46,9 +46,6 @@ mul-out-3 c = search needs
 element-write-out-2 : tie.Need-element-write-out-2 Inv-loop μ-loop
 element-write-out-2 c = search needs
 
-cast-out : tie.Need-cast-out Inv-loop μ-loop
-cast-out c = search needs
-
 add-out-3 : tie.Need-add-out-3 Inv-loop μ-loop
 add-out-3 c = search needs
 
@@ -58,9 +55,6 @@ mul-out-4 c = search needs
 element-write-out-3 : tie.Need-element-write-out-3 Inv-loop μ-loop
 element-write-out-3 c = search needs
 
-cast-out-2 : tie.Need-cast-out-2 Inv-loop μ-loop
-cast-out-2 c = search needs
-
 add-out-4 : tie.Need-add-out-4 Inv-loop μ-loop
 add-out-4 c = search needs
 
@@ -69,6 +63,30 @@ mul-out-5 c = search needs
 
 element-write-out-4 : tie.Need-element-write-out-4 Inv-loop μ-loop
 element-write-out-4 c = search needs
+
+cast-out : tie.Need-cast-out Inv-loop μ-loop
+cast-out c = search needs
+
+add-out-5 : tie.Need-add-out-5 Inv-loop μ-loop
+add-out-5 c = search needs
+
+mul-out-6 : tie.Need-mul-out-6 Inv-loop μ-loop
+mul-out-6 c = search needs
+
+element-write-out-5 : tie.Need-element-write-out-5 Inv-loop μ-loop
+element-write-out-5 c = search needs
+
+cast-out-2 : tie.Need-cast-out-2 Inv-loop μ-loop
+cast-out-2 c = search needs
+
+add-out-6 : tie.Need-add-out-6 Inv-loop μ-loop
+add-out-6 c = search needs
+
+mul-out-7 : tie.Need-mul-out-7 Inv-loop μ-loop
+mul-out-7 c = search needs
+
+element-write-out-6 : tie.Need-element-write-out-6 Inv-loop μ-loop
+element-write-out-6 c = search needs
 
 returns : tie.Need-returns Inv-loop μ-loop
 returns c = search needs
@@ -91,12 +109,18 @@ put-session-spec =
     add-out-2
     mul-out-3
     element-write-out-2
-    cast-out
     add-out-3
     mul-out-4
     element-write-out-3
-    cast-out-2
     add-out-4
     mul-out-5
     element-write-out-4
+    cast-out
+    add-out-5
+    mul-out-6
+    element-write-out-5
+    cast-out-2
+    add-out-6
+    mul-out-7
+    element-write-out-6
     returns)
