@@ -7,6 +7,7 @@ const LEVELS: [u32; 13] = [0, 1, 2, 2, 2, 3, 4, 4, 5, 6, 6, 6, 0];
 const HEADER: usize = 4;
 const BIRTH_AT: usize = 3;
 const MOST_BIRTHS: u32 = 4_294_967_295;
+const SCRIPT_SHARE: u32 = 4_294_967_295;
 const WHITE: u32 = 0;
 const GREY: u32 = 1;
 const BLACK: u32 = 2;
@@ -17,6 +18,8 @@ pub type Tested<T> = Result<T, u32>;
 struct Session {
     registers: [u32; 8],
     level: u32,
+    share: u32,
+    charge: u32,
     attached: bool,
     scanned: bool,
 }
@@ -210,13 +213,19 @@ impl Store {
                 self.in_range()?;
                 test(a[0] <= 15, 5)?;
                 test(!self.sessions[a[0] as usize].attached, 7)?;
-                self.sessions[a[0] as usize] =
-                    Session { registers: [0; 8], level: LEVELS[self.phase], attached: true, scanned: self.phase == 4 };
+                let s = a[0] as usize;
+                self.sessions[s] = Session {
+                    registers: [0; 8],
+                    level: LEVELS[self.phase],
+                    share: SCRIPT_SHARE,
+                    attached: true,
+                    scanned: self.phase == 4,
+                    ..self.sessions[s]
+                };
             }
             2 => {
                 let s = self.session(a[0])?;
-                let scanned = self.sessions[s].scanned;
-                self.sessions[s] = Session { scanned, ..Session::default() };
+                self.sessions[s] = Session { registers: [0; 8], level: 0, attached: false, ..self.sessions[s] };
             }
             3 => {
                 let s = self.session(a[0])?;
@@ -286,10 +295,13 @@ impl Store {
         test(a[1] <= 7, 8)?;
         test(a[2] <= 255 && a[3] <= 255, 10)?;
         let (level, size) = (self.sessions[s].level, HEADER + (a[2] + a[3]) as usize);
+        let charge = self.sessions[s].charge as usize + size;
+        test(charge <= self.sessions[s].share as usize, 17)?;
         let room = |h: usize| self.frontier[h] + size <= self.half[h].len();
         test(if level <= 2 { room(self.current) } else { room(0) && room(1) }, 14)?;
         test(self.births < MOST_BIRTHS, 16)?;
         self.births += 1;
+        self.sessions[s].charge = charge as u32;
         let shape = 256 * a[2] + a[3];
         let refs = [self.next_reference(0), self.next_reference(1)];
         let from = self.from();
@@ -472,6 +484,7 @@ impl Store {
             12 => {
                 self.frontier[1 - self.current] = 0;
                 self.move_on();
+                self.sessions.iter_mut().for_each(|s| s.charge = 0);
             }
             3 | 7 | 10 => self.move_on(),
             _ => self.handshake(),
