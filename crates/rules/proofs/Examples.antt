@@ -1,25 +1,25 @@
 -- The starred examples, and runs computed by the checker: the script example of document 01, a whole collection, a record allocated
--- during one, the last birth number, and two runs in which marking takes as long as it can.
+-- during one, the last birth number, shares and charges, and two runs in which marking takes as long as it can.
 use Prim.Native.Nat.{ℕ, zero, suc, _+_}
 use mathlib.Core.Path.{_≡_, refl}
 use mathlib.Core.List.{List, [], _∷_, _++_, map}
-use lib.ListN.{replicate, drop}
+use lib.ListN.{replicate, take, drop}
 use Rattle.rules.specs.Refusals.{Reply}
 use Rattle.rules.specs.Memory.{half, frontier, withHalf, withFrontier, reference, halfOf, wordOf, inHalf, shapeWord, refsOf, plainsOf, newRecord, word, put, colour, replica, birthNumber, refs, plains, size, append, nextReference, sound, pointsBack, followable, followed, copyOf, otherCopy, forward}
 use Rattle.rules.specs.Control.{sessionCount, globalCount, halfAllowed, listAllowed, lengthsAllowed, sameLengths, walkLimit, inRange, making, withBirths, Store}
 use Rattle.rules.specs.Cycle.{atRest, atAllocate, atReclaim}
-use Rattle.rules.specs.Phases.{levelOf, nextPhase, otherHalf, fromspace, tospace, sessionAt, withSession, register, unmarked, uncharged, withoutCharges, moveOn}
+use Rattle.rules.specs.Phases.{levelOf, nextPhase, otherHalf, fromspace, tospace, sessionAt, withSession, register, withCharge, unmarked, uncharged, withoutCharges, moveOn}
 use Rattle.rules.specs.Barriers.{toShade, listRoom, shading, shade, listing, shadingAll, shadesAt, shadesOldAt, copiesAt, barrierShades, shadeBoth, replicaFor, ownWord, replicaWord, storeWrites, putBoth, sameAt, roomIn, allocationRoom, placed, allocated, allocatedReference}
 use Rattle.rules.specs.Calls as calls
 use Rattle.rules.specs.Collector as collector
-use Rattle.rules.specs.Runs.{Call, Attach, SafePoint, Allocate, Load, StoreRef, Read, Write, Clear, Birth, Step, run, after, spent}
+use Rattle.rules.specs.Runs.{Call, Attach, Detach, SafePoint, Allocate, Load, StoreRef, Read, Write, Clear, Birth, Step, run, after, spent}
 use Rattle.rules.specs.Script.{scriptShare}
 use Rattle.rules.specs.Examples.{makingOf, small, replyNumber, replyValue, numbers, values, starred}
 use Rattle.rules.specs.Claims.{Starred}
 
 -- opens every definition that a closed run computes with
 unfoldable pub rules : Unit {0}
-unfolding small numbers values halfAllowed listAllowed lengthsAllowed sameLengths walkLimit inRange half frontier withHalf withFrontier reference halfOf wordOf inHalf shapeWord refsOf plainsOf newRecord word put colour replica birthNumber refs plains size append nextReference sound pointsBack followable followed copyOf otherCopy forward levelOf nextPhase otherHalf fromspace tospace sessionAt withSession register unmarked withoutCharges uncharged moveOn toShade listRoom shading shade listing shadingAll shadesAt shadesOldAt copiesAt barrierShades shadeBoth replicaFor ownWord replicaWord storeWrites putBoth roomIn allocationRoom placed allocated allocatedReference calls.sessionOf calls.operandsOf calls.recordOf calls.withRegister calls.attach calls.safePoint calls.withinShare calls.numberLeft calls.charged calls.allocate calls.loadPlan calls.load calls.storePlan calls.storeCommit calls.store calls.read calls.birth calls.writePlan calls.writeCommit calls.write calls.clear collector.walked collector.below collector.pastRecord collector.haveLevel collector.rest collector.handshake collector.rootMark collector.scanRecord collector.scanSession collector.heapMark collector.needsShell collector.shellOf collector.withShell collector.allocateShells collector.copyRef collector.copyPlain collector.copyField collector.copy collector.rootFlip collector.stackFlip collector.reclaim collector.step calls.same making makingOf sameAt
+unfolding small numbers values halfAllowed listAllowed lengthsAllowed sameLengths walkLimit inRange half frontier withHalf withFrontier reference halfOf wordOf inHalf shapeWord refsOf plainsOf newRecord word put colour replica birthNumber refs plains size append nextReference sound pointsBack followable followed copyOf otherCopy forward levelOf nextPhase otherHalf fromspace tospace sessionAt withSession register unmarked withoutCharges uncharged moveOn toShade listRoom shading shade listing shadingAll shadesAt shadesOldAt copiesAt barrierShades shadeBoth replicaFor ownWord replicaWord storeWrites putBoth roomIn allocationRoom placed allocated allocatedReference calls.sessionOf calls.operandsOf calls.recordOf calls.withRegister calls.attach calls.detach calls.safePoint calls.withinShare calls.numberLeft calls.charged calls.allocate calls.loadPlan calls.load calls.storePlan calls.storeCommit calls.store calls.read calls.birth calls.writePlan calls.writeCommit calls.write calls.clear collector.walked collector.below collector.pastRecord collector.haveLevel collector.rest collector.handshake collector.rootMark collector.scanRecord collector.scanSession collector.heapMark collector.needsShell collector.shellOf collector.withShell collector.allocateShells collector.copyRef collector.copyPlain collector.copyField collector.copy collector.rootFlip collector.stackFlip collector.reclaim collector.step calls.same making makingOf sameAt
 rules = tt
 
 pub starred-hold : Starred
@@ -103,6 +103,47 @@ last-number = refl
 no-number : map replyNumber spentNumbers ≡ 0 ∷ 0 ∷ 0 ∷ 16 ∷ 14 ∷ []
 unfolding rules spentNumbers
 no-number = refl
+
+-- ---- shares and charges of sessions 0 and 1
+charges : Store → List ℕ
+charges s = map (λ x. x .charge) (take 2 (s .sessions))
+
+-- a share of 8: two records of 4 words fit, a third doesn't, nor after detach and attach. A share of 0: none fits, and one that finds no
+-- room is refused for its share first, one of 256 fields for its shape
+shared : List Call
+shared =
+    Attach 0 8 ∷ Allocate 0 0 0 0 ∷ Allocate 0 1 0 0 ∷ Allocate 0 2 0 0 ∷ Detach 0 ∷ Attach 0 8 ∷ Allocate 0 0 0 0
+    ∷ Attach 1 0 ∷ Allocate 1 0 0 0 ∷ Allocate 1 0 255 0 ∷ Allocate 1 0 256 0 ∷ []
+
+past-share : numbers shared ≡ 0 ∷ 0 ∷ 0 ∷ 17 ∷ 0 ∷ 0 ∷ 17 ∷ 0 ∷ 17 ∷ 17 ∷ 10 ∷ []
+unfolding rules shared
+past-share = refl
+
+still-charged : charges (after small shared) ≡ 8 ∷ 0 ∷ []
+unfolding rules shared charges
+still-charged = refl
+
+-- the whole collection above: charged for 6, 5 and 5 words up to its last step, and for nothing after it
+charged-all : charges (after small (before ++ steps 92)) ≡ 16 ∷ 0 ∷ []
+unfolding rules before steps charges
+charged-all = refl
+
+charged-none : charges (after small (before ++ steps 93)) ≡ 0 ∷ 0 ∷ []
+unfolding rules before steps charges
+charged-none = refl
+
+-- a record written to both halves is charged once
+charged-once : charges (after small (Attach 0 scriptShare ∷ steps 38 ++ (SafePoint 0 ∷ Allocate 0 0 0 1 ∷ []))) ≡ 5 ∷ 0 ∷ []
+unfolding rules steps charges
+charged-once = refl
+
+-- a charge of 2³² - 6 is kept by attach; six words more would pass every share, five come up to the greatest
+nearly : Store
+nearly = withSession small 0 (withCharge (sessionAt small 0) 4294967290)
+
+no-wrap : map replyNumber (run nearly (Attach 0 4294967295 ∷ Allocate 0 0 1 1 ∷ Allocate 0 0 1 0 ∷ Allocate 0 0 0 0 ∷ [])) ≡ 0 ∷ 17 ∷ 0 ∷ 17 ∷ []
+unfolding rules nearly
+no-wrap = refl
 
 -- ---- the bound on marking: 17 are a scan of each of sixteen sessions and the step that moves on
 
