@@ -1,5 +1,5 @@
 -- A run of every directory call, collector steps between them, computed by the checker: what the calls answer, and that the table
--- answers the same; and one in which the birth numbers run out.
+-- answers the same; one in which the birth numbers run out, and one with a small share.
 use Prim.Native.Nat.{ℕ}
 use mathlib.Core.Path.{_≡_, refl}
 use mathlib.Core.List.{List, [], _∷_, _++_, map}
@@ -73,3 +73,19 @@ directory-numbers = refl
 table-numbers : tableRun newTable (feedsOf lastOf (items fewer)) ≡ refusals
 unfolding directory lastOf fewer refusals
 table-numbers = refl
+
+-- ---- a share of 19 words, three records: the store's 17 passes through, and the table is as before
+
+narrow : List Request
+narrow = Open 19 ∷ Open scriptShare ∷ Add 7 ∷ Make 2 ∷ Join 7 2 ∷ Add 3 ∷ Make 5 ∷ Join 7 2 ∷ Leave 7 2 ∷ Join 7 2 ∷ Add 7 ∷ []
+
+narrowed : List Given
+narrowed = map only (0 ∷ 7 ∷ 0 ∷ 0 ∷ 0 ∷ 17 ∷ 17 ∷ 24 ∷ 0 ∷ 17 ∷ 24 ∷ [])
+
+directory-shares : directoryRun box (items narrow) ≡ narrowed
+unfolding directory narrow narrowed
+directory-shares = refl
+
+table-shares : tableRun newTable (feedsOf box (items narrow)) ≡ narrowed
+unfolding directory narrow narrowed
+table-shares = refl

@@ -38,7 +38,7 @@ isGlobal g = leb g lastGlobal
 abbrev pub isShape : ℕ → ℕ → Bool
 isShape r p = leb r mostCount && leb p mostCount
 
--- 17: "refuses an allocation that would pass the share"; no bound on what is compared
+-- 17: "refuses an allocation that would pass the share", by what is charged to its session; numbers are compared, no sum is cut to 32 bits
 unfoldable pub withinShare : Session → ℕ → ℕ → Bool
 withinShare x r p = leb (x .charge + sizeOf r p) (x .share)
 
@@ -66,9 +66,9 @@ recordOf s n k o = do
 unfoldable pub withRegister : Store → ℕ → ℕ → ℕ → Store
 withRegister s n k v = withSession s n (withRegisters (sessionAt s n) (set (sessionAt s n .registers) k v))
 
--- request [7]: the store with n more words charged to session number m
+-- request [7]: the store with w more words charged to session number n
 unfoldable pub charged : Store → ℕ → ℕ → Store
-charged s m n = withSession s m (withCharge (sessionAt s m) (sessionAt s m .charge + n))
+charged s n w = withSession s n (withCharge (sessionAt s n) (sessionAt s n .charge + w))
 
 -- ---- the calls
 

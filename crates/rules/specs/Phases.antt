@@ -73,7 +73,7 @@ detached x = withLevel (cleared x false) 0
 unfoldable pub unmarked : List Session → List Session
 unmarked = map (λ x. withMark x false)
 
--- request [7]: to no session anything is charged
+-- request [7]: nothing is charged to any session; and the store so
 unfoldable pub uncharged : List Session → List Session
 uncharged = map (λ x. withCharge x 0)
 

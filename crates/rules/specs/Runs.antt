@@ -11,7 +11,8 @@ use Rattle.rules.specs.Calls as calls
 use Rattle.rules.specs.Collector as collector
 use Rattle.rules.specs.declared.Answer.the-variants.{Refused, Done, Word, Same, Phase}
 
--- the calls, with their arguments in the script's order; the stretch, its companion and the birth number are in no script
+-- the calls, with their arguments in the script's order; the stretch, its companion and the birth number are in no script, and an attach's share
+-- is the same in all of them (`scriptShare`)
 pub data Call : Type 0 where
   Attach : ℕ → ℕ → Call
   Detach : ℕ → Call

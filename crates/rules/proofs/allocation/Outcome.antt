@@ -1,6 +1,6 @@
 -- How an allocation ends, by its tests: refused with a number other than 14, or with 14 where it is within its share, or with its words
 -- charged.
-use Prim.Native.Nat.{ℕ, _+_, _≤_, _<_}
+use Prim.Native.Nat.{ℕ, _+_, _≤_}
 use mathlib.Core.Path.{_≡_, refl, sym, ap, _∙_}
 use mathlib.Core.Logic.{_≢_}
 use mathlib.Core.Bool.{Bool, true, false, true≢false}

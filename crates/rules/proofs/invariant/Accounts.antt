@@ -1,8 +1,7 @@
 -- Shares and charges: no group of the invariant reads them, so it holds of sessions that differ in nothing else.
-use Prim.Native.Nat.{ℕ, zero, suc, _+_}
+use Prim.Native.Nat.{ℕ, zero, suc}
 use mathlib.Core.Path.{_≡_, refl, ap, _∙_}
-use mathlib.Core.Bool.{Bool}
-use mathlib.Core.List.{List, [], _∷_, map}
+use mathlib.Core.List.{List, [], _∷_}
 use lib.ListN.{getD, set, length, length-set, length-map, List·getD-map}
 use Rattle.rules.specs.Control.{Store, withSessions}
 use Rattle.rules.specs.Phases.{absent, sessionAt, withSession, withShare, withCharge, uncharged, withoutCharges}

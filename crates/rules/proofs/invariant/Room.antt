@@ -1,10 +1,9 @@
 -- Room for what the shares leave: both halves have it above their frontiers. A group beside the invariant, kept by every call that changes no
 -- share and doesn't end Reclaim: an allocation takes from its share what the frontiers move by, and a shell goes to the half with more room.
 use Prim.Native.Nat.{ℕ, zero, suc, _+_, _-_, _≤_, _<_, zero-le}
-use mathlib.Core.Path.{_≡_, refl, sym, ap, _∙_}
-use mathlib.Core.Logic.{_≢_}
+use mathlib.Core.Path.{_≡_, ap}
 use mathlib.Core.List.{List, [], _∷_}
-use native.Mathlib.Nat.{le-refl, not-suc-le-zero}
+use native.Mathlib.Nat.{not-suc-le-zero}
 use native.Mathlib.Omega.{arith}
 use lib.ListN.{getD, set, length}
 use Rattle.rules.specs.Memory.{frontier}

@@ -1,7 +1,6 @@
 -- The step that ends Reclaim, on any store: nothing is charged to a session after it.
 use Prim.Native.Nat.{ℕ}
 use mathlib.Core.Path.{_≡_, refl, sym, ap, _∙_}
-use mathlib.Core.Bool.{not}
 use native.Mathlib.Omega.{arith}
 use lib.ListN.{getD, List·getD-map}
 use Rattle.rules.specs.Refusals.{Tested, Outcome, settle}
@@ -9,7 +8,7 @@ use Rattle.rules.specs.Memory.{followed}
 use Rattle.rules.specs.Control.{Store, inRange}
 use Rattle.rules.specs.Cycle.{atRest, atReclaim}
 use Rattle.rules.specs.Phases.{absent, sessionAt, withCharge, uncharged, withoutCharges}
-use Rattle.rules.specs.Collector.{below, pastRecord, haveLevel, handshake, reclaim, units, step}
+use Rattle.rules.specs.Collector.{pastRecord, handshake, reclaim, units, step}
 use Rattle.rules.proofs.relation.Rows.{Ends, refuses, passes, one-test, then-row, after-row, either-row}
 
 uncharged-none : (s : Store) (n : ℕ) → sessionAt (withoutCharges s) n .charge ≡ 0

@@ -2,8 +2,7 @@
 -- stay, but for the share of an attach and the charge of an allocation, and an answer that is no refusal.
 use Prim.Native.Nat.{ℕ}
 use mathlib.Core.Path.{_≡_, refl}
-use mathlib.Core.Logic.{_≢_}
-use mathlib.Core.Bool.{Bool, true, false, not}
+use mathlib.Core.Bool.{false, not}
 use lib.Dec.{leb}
 use lib.ListN.{getD}
 use native.Mathlib.Nat.{le-refl}

@@ -1,17 +1,12 @@
 -- Of claim 7: in HeapMark a scanned mark stays, and a newly attached session has one.
 use mathlib.Core.Path.{_≡_, ap, _∙_}
-use mathlib.Core.Bool.{true}
 use lib.ListN.{length}
 use borrow.Author.Tests.{eq-eqb}
-use Rattle.rules.specs.Refusals.{answer, settle}
 use Rattle.rules.specs.Cycle.{atHeapMark}
 use Rattle.rules.specs.Control.{sessionCount}
-use Rattle.rules.specs.Phases.{sessionAt}
-use Rattle.rules.specs.Calls.{attach}
 use Rattle.rules.specs.Runs.{after}
 use Rattle.rules.specs.Tracking.{newBeside}
 use Rattle.rules.specs.Claims.{MarksStay, AttachedScanned}
-use Rattle.rules.specs.declared.Answer.the-variants.{Done}
 use Rattle.rules.proofs.relation.Rules.{call-stays}
 use Rattle.rules.proofs.sessions.Given.{attached-session}
 use Rattle.rules.proofs.runs.Runs.{beside-store}

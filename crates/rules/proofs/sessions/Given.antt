@@ -1,14 +1,13 @@
 -- What an attach and an allocation that aren't refused leave of their session.
-use Prim.Native.Nat.{ℕ, _+_, _≤_, _<_}
-use mathlib.Core.Path.{_≡_, refl, sym, ap, _∙_}
+use Prim.Native.Nat.{ℕ, _≤_}
+use mathlib.Core.Path.{_≡_, refl, sym}
 use mathlib.Core.Bool.{Bool, true, false, not}
 use native.Mathlib.Omega.{arith}
 use lib.Dec.{leb, eqb}
-use lib.ListN.{length, length-set}
+use lib.ListN.{length}
 use lib.Seq.{getD-set-same}
 use borrow.Author.Tests.{leb-true}
-use Rattle.rules.specs.Refusals.{Tested, refused, passed, check, _>>_, answer, Outcome, settle, done}
-use Rattle.rules.specs.Memory.{sizeOf}
+use Rattle.rules.specs.Refusals.{check, _>>_, answer, settle, done}
 use Rattle.rules.specs.Cycle.{atHeapMark}
 use Rattle.rules.specs.Control.{Store, inRange, sessionCount, lastSession}
 use Rattle.rules.specs.Phases.{absent, levelOf, sessionAt, withSession, attachedAt}

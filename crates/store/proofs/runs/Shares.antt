@@ -2,12 +2,12 @@
 use Prim.Native.Nat.{ℕ, zero, suc, _+_, _≤_}
 use mathlib.Core.Path.{_≡_, refl, sym, ap, subst, _∙_}
 use mathlib.Core.Logic.{_≢_}
-use mathlib.Core.List.{List, [], _∷_}
+use mathlib.Core.List.{List}
 use native.Mathlib.Omega.{arith}
 use lib.ListN.{take}
 use Rattle.rules.specs.Refusals.{Reply, answer}
 use Rattle.rules.specs.Control.{Store}
-use Rattle.rules.specs.Cycle.{atRest, atReclaim}
+use Rattle.rules.specs.Cycle.{atReclaim}
 use Rattle.rules.specs.Phases.{sessionAt}
 use Rattle.rules.specs.Runs.{Call, Allocate, Step, apply, after}
 use Rattle.rules.specs.Claims.{EndsReclaim, usedWords, allShares, SharesKept, ShareAfterReclaim}
