@@ -1,6 +1,6 @@
 -- Shares and charges: no group of the invariant reads them, so it holds of sessions that differ in nothing else.
 use Prim.Native.Nat.{ℕ, zero, suc}
-use mathlib.Core.Path.{_≡_, refl, ap, _∙_}
+use mathlib.Core.Path.{_≡_, refl, ap}
 use mathlib.Core.List.{List, [], _∷_}
 use lib.ListN.{getD, set, length, length-set, length-map, List·getD-map}
 use Rattle.rules.specs.Control.{Store, withSessions}
@@ -9,6 +9,7 @@ use Rattle.rules.specs.Calls.{charged}
 use Rattle.rules.specs.Free.{Free}
 use Rattle.rules.specs.declared.Session.{Session}
 use Rattle.rules.proofs.invariant.Words.{reg}
+use Rattle.rules.proofs.invariant.Unmarked.{roots-sessions}
 use Rattle.rules.proofs.invariant.Range.{range-sessions}
 use Rattle.rules.proofs.invariant.Sim.{Sim}
 
@@ -45,20 +46,7 @@ module _ {K : ℕ → Type 0} {m : ℕ → ℕ} {s : Store} {f : Free} (h : Sim 
     births = h .births;
     identity = h .identity;
     values = h .values;
-    roots = let r = h .roots in record {
-      sessions = e .count ∙ r .sessions;
-      free-sessions = r .free-sessions;
-      registers = λ n l. rw (registers n) (r .registers n l);
-      free-registers = r .free-registers;
-      globals = r .globals;
-      free-globals = r .free-globals;
-      attached = λ n. rw (attached n) (r .attached n);
-      idle = λ n k a. rw (register n k) (r .idle n k (rw (attached n) at a));
-      reg-ok = λ n k. rw (register n k) (r .reg-ok n k);
-      reg-is = λ n k. rw (register n k) (r .reg-is n k);
-      global-ok = r .global-ok;
-      global-is = r .global-is;
-    };
+    roots = roots-sessions (e .count) registers attached (h .roots);
     levels = record { allowed = λ n a. rw (level n) (h .levels .allowed n (rw (attached n) at a)) };
     root-halves = let r = h .root-halves in record {
       regs = λ a n k. rw (register n k) (r .regs a n k);

@@ -47,19 +47,25 @@ unmarked-reg xs n k = rw (unmarked-registers xs n)
 
 -- ---- the group on roots
 
-pub roots-unmarked : {M : Memory} {m : ℕ → ℕ} {xs : List Session} {ys : List FreeSession} {gs fgs : List ℕ}
-    → Roots M m xs ys gs fgs → Roots M m (unmarked xs) ys gs fgs
-roots-unmarked {M} {m} {xs} r = record {
-  sessions = unmarked-length xs ∙ r .sessions;
+-- it reads of sessions how many there are, their registers and whether they are attached
+pub roots-sessions : {M : Memory} {m : ℕ → ℕ} {xs xs′ : List Session} {ys : List FreeSession} {gs fgs : List ℕ} → length xs′ ≡ length xs
+    → ((n : ℕ) → getD xs′ n absent .registers ≡ getD xs n absent .registers) → ((n : ℕ) → getD xs′ n absent .attached ≡ getD xs n absent .attached)
+    → Roots M m xs ys gs fgs → Roots M m xs′ ys gs fgs
+roots-sessions count registers attached r = record {
+  sessions = count ∙ r .sessions;
   free-sessions = r .free-sessions;
-  registers = λ n l. rw (unmarked-registers xs n) (r .registers n l);
+  registers = λ n l. rw (registers n) (r .registers n l);
   free-registers = r .free-registers;
   globals = r .globals;
   free-globals = r .free-globals;
-  attached = λ n. rw (unmarked-attached xs n) (r .attached n);
-  idle = λ n k a. rw (unmarked-reg xs n k) (r .idle n k (rw (unmarked-attached xs n) at a));
-  reg-ok = λ n k. rw (unmarked-reg xs n k) (r .reg-ok n k);
-  reg-is = λ n k. rw (unmarked-reg xs n k) (r .reg-is n k);
+  attached = λ n. rw (attached n) (r .attached n);
+  idle = λ n k a. rw (registers n) (r .idle n k (rw (attached n) at a));
+  reg-ok = λ n k. rw (registers n) (r .reg-ok n k);
+  reg-is = λ n k. rw (registers n) (r .reg-is n k);
   global-ok = r .global-ok;
   global-is = r .global-is;
 }
+
+pub roots-unmarked : {M : Memory} {m : ℕ → ℕ} {xs : List Session} {ys : List FreeSession} {gs fgs : List ℕ}
+    → Roots M m xs ys gs fgs → Roots M m (unmarked xs) ys gs fgs
+roots-unmarked {xs = xs} r = roots-sessions (unmarked-length xs) (unmarked-registers xs) (unmarked-attached xs) r
