@@ -1,7 +1,7 @@
 #!/usr/bin/env python3
 """The programs in a small stack, which no proof bounds. With 96 KB of it the script program writes, byte for byte, what documents 01
 and 02 give for long random scripts with every kind of call and for one that fills the store and collects it while it is full; with
-112 KB the directory program writes what the directory in Python gives, and with 32 KB the load program writes the longest loads. With
+120 KB the directory program writes what the directory in Python gives, and with 32 KB the load program writes the longest loads. With
 no more stack than their arrays take they must fail, which shows that the limit is kept."""
 import sys
 
@@ -13,7 +13,7 @@ from model import ALLOCATE, ATTACH, CLEAR, GET, PUT, STORE
 from scripts import ARGUMENTS, encode, finish, kept, long_scripts, look
 from test_bad_scripts import expected
 
-STACK, DIRECTORY_STACK, LOAD_STACK = 96 * 1024, 112 * 1024, 32 * 1024
+STACK, DIRECTORY_STACK, LOAD_STACK = 96 * 1024, 120 * 1024, 32 * 1024
 HALVES = 2 * 4096 * 4
 BUFFERS = 2 * 4096  # of the load program: its own, and that of the kit's call which reads or writes
 RECORDS = 4096 // size(2, 1)  # of `kept`, which a half has room for
