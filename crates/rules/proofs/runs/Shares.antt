@@ -61,7 +61,7 @@ charges-end s n e = reclaim-uncharges s n (e .0) (e .1)
 
 -- ---- room along a list of calls
 
--- it isn't the step that ends Reclaim
+-- the call c of s isn't the step that ends Reclaim
 abbrev GoesOn : Store → Call → Type 0
 GoesOn s c = s .phase ≡ atReclaim → apply s c .store .phase ≢ atRest
 
@@ -109,7 +109,7 @@ module _ {K : ℕ → Type 0} (b : Beside) (h : Holds K b) (room : Roomy (b .sto
 
 -- ---- the claims about room
 
--- not to be in Reclaim
+-- outside Reclaim, by the stage
 outside : {K : ℕ → Type 0} (b : Beside) → Holds K b → b .store .phase ≢ atReclaim → stage (b .store .phase) ≤ stStackFlip
 outside b h d =
     let e : stage (b .store .phase) ≢ stReclaim = λ e. d (phase-is atReclaim (h .range .phases) (omega arith) e) in

@@ -1,4 +1,4 @@
--- What an attach and an allocation that aren't refused leave of their session.
+-- What an attach that isn't refused leaves of its session.
 use Prim.Native.Nat.{ℕ, _≤_}
 use mathlib.Core.Path.{_≡_, refl, sym}
 use mathlib.Core.Bool.{Bool, true, false, not}
