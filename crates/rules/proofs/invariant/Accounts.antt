@@ -1,13 +1,14 @@
 -- Shares and charges: no group of the invariant reads them, so it holds of sessions that differ in nothing else.
-use Prim.Native.Nat.{ℕ, zero, suc}
+use Prim.Native.Nat.{ℕ}
 use mathlib.Core.Path.{_≡_, refl, ap}
-use mathlib.Core.List.{List, [], _∷_}
-use lib.ListN.{getD, set, length, length-set, length-map, List·getD-map}
+use mathlib.Core.List.{List}
+use lib.ListN.{getD, length, length-set, length-map, List·getD-map}
 use Rattle.rules.specs.Control.{Store, withSessions}
 use Rattle.rules.specs.Phases.{absent, sessionAt, withSession, withShare, withCharge, uncharged, withoutCharges}
 use Rattle.rules.specs.Calls.{charged}
 use Rattle.rules.specs.Free.{Free}
 use Rattle.rules.specs.declared.Session.{Session}
+use Rattle.rules.proofs.memory.Lists.{set-kept}
 use Rattle.rules.proofs.invariant.Words.{reg}
 use Rattle.rules.proofs.invariant.Unmarked.{roots-sessions}
 use Rattle.rules.proofs.invariant.Range.{range-sessions}
@@ -75,17 +76,10 @@ module _ {K : ℕ → Type 0} {m : ℕ → ℕ} {s : Store} {f : Free} (h : Sim 
 
 -- ---- one charge, and all of them
 
-charge-set : (xs : List Session) (n c : ℕ) → (j : ℕ) → bare (getD (set xs n (withCharge (getD xs n absent) c)) j absent) ≡ bare (getD xs j absent)
-charge-set [] n c j = refl
-charge-set (x ∷ xs) zero c zero = refl
-charge-set (x ∷ xs) zero c (suc j) = refl
-charge-set (x ∷ xs) (suc n) c zero = refl
-charge-set (x ∷ xs) (suc n) c (suc j) = charge-set xs n c j
-
 module _ {K : ℕ → Type 0} {m : ℕ → ℕ} {s : Store} {f : Free} (h : Sim K m s f) where
   pub charged-sim : (n w : ℕ) → Sim K m (charged s n w) f
   unfolding charged withSession sessionAt
-  charged-sim n w = accounts-sim h (record { count = length-set (s .sessions) n _; each = charge-set (s .sessions) n _ })
+  charged-sim n w = accounts-sim h (record { count = length-set (s .sessions) n _; each = set-kept absent (λ j x y. bare y ≡ bare x) (λ j x. refl) (s .sessions) n _ refl })
 
   pub uncharged-sim : Sim K m (withoutCharges s) f
   unfolding withoutCharges uncharged

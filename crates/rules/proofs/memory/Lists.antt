@@ -1,7 +1,7 @@
 -- Lists of one value over and over, and lists with one element set.
 use Prim.Native.Nat.{ℕ, zero, suc, _<_}
 use mathlib.Core.Path.{_≡_, refl}
-use mathlib.Core.List.{List}
+use mathlib.Core.List.{List, [], _∷_}
 use lib.ListN.{getD, set, length, replicate}
 use lib.Seq.{getD-set-same, getD-set-other}
 use Rattle.rules.proofs.memory.Cases.{eq-or}
@@ -21,3 +21,12 @@ module _ {A B : Type 0} (xs : List A) (ys : List B) (n : ℕ) (lx : n < length x
   set-each P p old j = eq-or j n
       (λ e. rw (e, getD-set-same xs n x dx lx, getD-set-same ys n y dy ly) p)
       (λ d. rw (getD-set-other xs n j x dx d, getD-set-other ys n j y dy d) (old j))
+
+-- what relates an element and itself, and the old element at n and the one that is set there, relates old and new elements at every place
+pub set-kept : {A : Type 0} (d : A) (R : ℕ → A → A → Type 0) → ((j : ℕ) (x : A) → R j x x) → (xs : List A) (n : ℕ) (y : A)
+    → R n (getD xs n d) y → (j : ℕ) → R j (getD xs j d) (getD (set xs n y) j d)
+set-kept d R r [] n y h j = r j d
+set-kept d R r (x ∷ xs) zero y h zero = h
+set-kept d R r (x ∷ xs) zero y h (suc j) = r (suc j) (getD xs j d)
+set-kept d R r (x ∷ xs) (suc n) y h zero = r zero x
+set-kept d R r (x ∷ xs) (suc n) y h (suc j) = set-kept d (λ i. R (suc i)) (λ i. r (suc i)) xs n y h j

@@ -1,13 +1,13 @@
 -- What stays over every call: the lengths in the control record, which are those at making; while HeapMark lasts, each scanned mark; each
 -- session's share, but for attach; and its charge, which an allocation adds to, but for the step that ends Reclaim.
-use Prim.Native.Nat.{ℕ, zero, suc, _≤_}
+use Prim.Native.Nat.{ℕ, _≤_}
 use mathlib.Core.Path.{_≡_, refl, sym, ap, _∙_}
 use mathlib.Core.Logic.{_≢_}
 use mathlib.Core.Bool.{Bool, true, false, cond}
 use mathlib.Core.List.{List, [], _∷_}
 use native.Mathlib.Nat.{le-refl, le-trans}
 use native.Mathlib.Omega.{arith}
-use lib.ListN.{getD, set, List·getD-map}
+use lib.ListN.{List·getD-map}
 use Rattle.rules.specs.Cycle.{atRest, atHeapMark, atAllocate, atReclaim, nextPhase}
 use Rattle.rules.specs.Control.{Store, Lengths}
 use Rattle.rules.specs.Phases.{absent, sessionAt, withSession, withCharge, unmarked, uncharged, withoutCharges}
@@ -17,6 +17,7 @@ use Rattle.rules.specs.Runs.{Call, Attach, Allocate, Step}
 use Rattle.rules.specs.declared.Session.{Session}
 use Rattle.rules.specs.declared.Writes.{Writes}
 use Rattle.rules.proofs.Shaded.{shade-either}
+use Rattle.rules.proofs.memory.Lists.{set-kept}
 use Rattle.rules.proofs.invariant.Unmarked.{unmarked-share, unmarked-charge}
 
 -- the call c is no attach of session number n, and no allocation of it
@@ -68,15 +69,6 @@ account-kept x y a b c = record { mark = a; share = λ z. b; charge = λ z. c; r
 kept-same : {Marking P Q : Type 0} (x : Session) → Kept Marking P Q x x
 kept-same x = account-kept x x (λ a m. m) refl refl
 
--- what a session and itself are related by, and the one that is set, all are
-set-kept : (R : ℕ → Session → Session → Type 0) → ((j : ℕ) (x : Session) → R j x x) → (xs : List Session) (n : ℕ) (y : Session)
-    → R n (getD xs n absent) y → (j : ℕ) → R j (getD xs j absent) (getD (set xs n y) j absent)
-set-kept R r [] n y h j = r j absent
-set-kept R r (x ∷ xs) zero y h zero = h
-set-kept R r (x ∷ xs) zero y h (suc j) = r (suc j) (getD xs j absent)
-set-kept R r (x ∷ xs) (suc n) y h zero = r zero x
-set-kept R r (x ∷ xs) (suc n) y h (suc j) = set-kept (λ i. R (suc i)) (λ i. r (suc i)) xs n y h j
-
 module _ {c : Call} {s : Store} where
   -- ---- nothing of it is written
 
@@ -106,7 +98,7 @@ module _ {c : Call} {s : Store} where
       → Stays c s (withSession t n x)
   unfolding sessionAt withSession
   session-stays t n x h k =
-      let each = set-kept (λ j. Kept (s .phase ≡ atHeapMark) (NoAttach c j) (NoAllocation c j)) (λ j y. kept-same y) (t .sessions) n x k in
+      let each = set-kept absent (λ j. Kept (s .phase ≡ atHeapMark) (NoAttach c j) (NoAllocation c j)) (λ j y. kept-same y) (t .sessions) n x k in
       record {
         lengths = h .lengths;
         marks = λ a b j m. each j .mark a (h .marks a b j m);
