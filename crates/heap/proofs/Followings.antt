@@ -2,12 +2,10 @@
 use Prim.Native.Nat.{ℕ, _+_, _≤_, _<_}
 use mathlib.Core.Path.{_≡_, _∙_, sym}
 use mathlib.Core.Bool.{Bool, true, false, _&&_, _||_, and-true, and-false}
-use mathlib.Core.List.{List}
 use native.Mathlib.Omega.{arith}
 use lib.Dec.{leb, ltb, eqb}
-use lib.ListN.{getD}
 use borrow.Author.Tests.{ltb-true, ltb-false, eqb-false, eq-eqb, ne-eqb, le-leb, lt-leb}
-use Rattle.rules.specs.Memory.{Memory, half, frontier, halfOf, wordOf, header, mostShape, black, shapeAt, colourAt, replicaAt, word, colour, replica, refs, plains, size, sound, pointsBack, followable, follow}
+use Rattle.rules.specs.Memory.{Memory, frontier, halfOf, wordOf, header, mostShape, black, shapeAt, colourAt, replicaAt, word, colour, replica, refs, plains, size, sound, pointsBack, followable, follow}
 use Rattle.rules.specs.declared.Followed.{Followed}
 use Rattle.rules.specs.declared.Followed.the-variants.{Sound, Damage}
 use Rattle.rules.proofs.memory.Cases.{bool-or, eq-or, or-second, neither}
@@ -70,7 +68,7 @@ module _ (M : Memory) (w v : ℕ) where
   unfolding pointsBack
   back-other d = rw (ne-eqb (word M w shapeAt) (word M v shapeAt) d, and-false)
 
-  module _ (s : sound M v ≡ true) {n at f : ℕ} {W : List ℕ} (z : n ≡ size M v) (a : at ≡ wordOf w) (h : W ≡ half M (halfOf w)) (e : f ≡ frontier M (halfOf w)) where
+  module _ (s : sound M v ≡ true) {n at f : ℕ} (z : n ≡ size M v) (a : at ≡ wordOf w) (e : f ≡ frontier M (halfOf w)) where
     -- a record with the word 0 of v is as long
     as-long : word M w shapeAt ≡ word M v shapeAt → wordOf w + size M w ≡ at + n
     unfolding size refs plains
@@ -102,7 +100,7 @@ module _ (M : Memory) (w v : ℕ) where
           (λ q. rw (eq-eqb (word M w shapeAt) (word M v shapeAt) q) (same-tests q))
           (λ n. rw (ne-eqb (word M w shapeAt) (word M v shapeAt) n) (back-other n))
 
-      pub back-tested : {x : ℕ} → x ≡ word M v shapeAt
-          → (eqb (getD W (at + shapeAt) 0) x && leb (getD W (at + colourAt) 0) black && eqb (getD W (at + replicaAt) 0) v) ≡ pointsBack M w v
-      unfolding word colour replica
-      back-tested k = rw (h, a, k) words-tested
+      pub back-tested : {x y t u : ℕ} → x ≡ word M v shapeAt → y ≡ word M w shapeAt → t ≡ word M w colourAt → u ≡ word M w replicaAt
+          → (eqb y x && leb t black && eqb u v) ≡ pointsBack M w v
+      unfolding colour replica
+      back-tested x y t u = rw (x, y, t, u) words-tested

@@ -5,10 +5,10 @@ use mathlib.Core.Bool.{Bool, true, false, cond, _&&_, and-false}
 use mathlib.Core.List.{List}
 use native.Mathlib.Omega.{arith}
 use lib.Dec.{leb}
-use lib.ListN.{length, getD}
+use lib.ListN.{length}
 use borrow.Author.Tests.{le-leb, lt-leb, leb-true}
 use Rattle.rules.specs.Refusals.{refused, passed}
-use Rattle.rules.specs.Memory.{Memory, half, frontier, halfOf, wordOf, header, shapeAt, colourAt, black, refsOf, plainsOf, word, colour, refs, plains, size, sound, followable, follow, followed, mostCount, mostShape}
+use Rattle.rules.specs.Memory.{Memory, half, frontier, halfOf, wordOf, header, shapeAt, black, refsOf, plainsOf, word, colour, refs, plains, size, sound, followable, follow, followed, mostCount, mostShape}
 use Rattle.rules.specs.declared.Followed.{Followed}
 use Rattle.rules.specs.declared.Followed.the-variants.{Sound, Damage}
 use Rattle.rules.proofs.Ranges.{both}
@@ -22,37 +22,29 @@ pub sound-none : (M : Memory) (v : ℕ) → v < 2 → Damage ≡ soundAt M v
 unfolding sound
 sound-none M v l = rw (lt-leb 2 v l)
 
-module _ (M : Memory) (v at f : ℕ) (W : List ℕ) (a : at ≡ wordOf v) (w : W ≡ half M (halfOf v)) (e : f ≡ frontier M (halfOf v)) where
-  shape-word : word M v shapeAt ≡ getD W (at + shapeAt) 0
-  unfolding word
-  shape-word = rw (w, a)
-
-  colour-word : colour M v ≡ getD W (at + colourAt) 0
-  unfolding colour word
-  colour-word = rw (w, a)
-
-  end-word : wordOf v + size M v ≡ at + header + getD W (at + shapeAt) 0 / 256 + getD W (at + shapeAt) 0 % 256
-  unfolding size refs plains refsOf plainsOf
-  end-word = rw (shape-word, a) (omega arith)
-
+module _ (M : Memory) (v at f : ℕ) (a : at ≡ wordOf v) (e : f ≡ frontier M (halfOf v)) where
   pub sound-short : f < at + header → Damage ≡ soundAt M v
-  unfolding sound
+  unfolding sound size
   sound-short l =
-      let s : frontier M (halfOf v) < wordOf v + size M v = omega (arith, end-word) in
+      let s : frontier M (halfOf v) < wordOf v + size M v = omega arith in
       rw (lt-leb (wordOf v + size M v) (frontier M (halfOf v)) s, and-false)
 
-  sound-tests : 2 ≤ v → sound M v ≡ (leb (getD W (at + shapeAt) 0) 65535 && leb (getD W (at + colourAt) 0) black && leb (at + header + getD W (at + shapeAt) 0 / 256 + getD W (at + shapeAt) 0 % 256) f)
-  unfolding sound
-  sound-tests n = rw (le-leb 2 v n, shape-word, colour-word, end-word, e)
+  -- x is its shape word, y its colour
+  module _ {x y : ℕ} (shape : x ≡ word M v shapeAt) (tint : y ≡ colour M v) where
+    end-word : wordOf v + size M v ≡ at + header + x / 256 + x % 256
+    unfolding size refs plains refsOf plainsOf
+    end-word = rw (shape, a) (omega arith)
 
-  pub sound-passes : 2 ≤ v → (leb (getD W (at + shapeAt) 0) 65535 && leb (getD W (at + colourAt) 0) black && leb (at + header + getD W (at + shapeAt) 0 / 256 + getD W (at + shapeAt) 0 % 256) f) ≡ true
-      → Sound at (getD W (at + shapeAt) 0 / 256) (getD W (at + shapeAt) 0 % 256) ≡ soundAt M v
-  unfolding refs plains refsOf plainsOf
-  sound-passes n b = rw (sound-tests n ∙ b, shape-word, a)
+    sound-tests : 2 ≤ v → sound M v ≡ (leb x 65535 && leb y black && leb (at + header + x / 256 + x % 256) f)
+    unfolding sound
+    sound-tests n = rw (le-leb 2 v n, ← end-word, ← e, shape, tint)
 
-  pub sound-fails : 2 ≤ v → (leb (getD W (at + shapeAt) 0) 65535 && leb (getD W (at + colourAt) 0) black && leb (at + header + getD W (at + shapeAt) 0 / 256 + getD W (at + shapeAt) 0 % 256) f) ≡ false
-      → Damage ≡ soundAt M v
-  sound-fails n b = rw (sound-tests n ∙ b)
+    pub sound-passes : 2 ≤ v → (leb x 65535 && leb y black && leb (at + header + x / 256 + x % 256) f) ≡ true → Sound at (x / 256) (x % 256) ≡ soundAt M v
+    unfolding refs plains refsOf plainsOf
+    sound-passes n b = rw (sound-tests n ∙ b, shape, a)
+
+    pub sound-fails : 2 ≤ v → (leb x 65535 && leb y black && leb (at + header + x / 256 + x % 256) f) ≡ false → Damage ≡ soundAt M v
+    sound-fails n b = rw (sound-tests n ∙ b)
 
 -- ---- what is known of a record found
 

@@ -6,7 +6,9 @@ ghost use lib.ListN.{length};
 ghost use mathlib.Core.Bool.{true};
 ghost use Rattle.rules.specs.Memory.{frontier, halfOf, size, sound, pointsBack, follow};
 ghost use Rattle.heap.specs.View.{memory, soundAt};
-use super::words::get_word;
+ghost use Rattle.heap.specs.Pending.{memoryWith};
+use super::pending::pending_word;
+use super::pending::word_in;
 use super::words::half_of;
 use super::words::word_of;
 use crate::BLACK;
@@ -24,10 +26,17 @@ fn frontier_of(f0: usize, f1: usize, v: u32) -> usize
     if v % 2 == 0 { f0 } else { f1 }
 }
 
-// The place and the shape of the record that a reference names, where it is sound, or damage.
-fn sound_at<'a>(h0: &'a [u32], h1: &'a [u32], f0: usize, f1: usize, v: u32) -> Followed
+// The place and the shape of the record that a reference names, where it is sound with the pending words written, or damage.
+fn sound_at<'a>(
+    pending: &[u32],
+    h0: &'a [u32],
+    h1: &'a [u32],
+    f0: usize,
+    f1: usize,
+    v: u32,
+) -> Followed
     requires { ⌜ (f0 ≤ length (now h0)) × (f1 ≤ length (now h1)) ⌝ }
-    ensures { λ r. ⌜ r ≡ soundAt (memory (now (h0 .entry)) (now (h1 .entry)) f0 f1) v ⌝ }
+    ensures { λ r. ⌜ r ≡ soundAt (memoryWith (now (pending .entry)) (now (h0 .entry)) (now (h1 .entry)) f0 f1) v ⌝ }
 {
     if v < 2 {
         return Followed::Damage;
@@ -38,8 +47,8 @@ fn sound_at<'a>(h0: &'a [u32], h1: &'a [u32], f0: usize, f1: usize, v: u32) -> F
     if frontier < at + HEADER {
         return Followed::Damage;
     }
-    let shape = half[at + SHAPE_AT];
-    let colour = half[at + COLOUR_AT];
+    let shape = word_in(pending, half, v % 2, at + SHAPE_AT);
+    let colour = word_in(pending, half, v % 2, at + COLOUR_AT);
     let r = shape / 256;
     let p = shape % 256;
     let end = at + HEADER + (r as usize) + (p as usize);
@@ -53,6 +62,7 @@ fn sound_at<'a>(h0: &'a [u32], h1: &'a [u32], f0: usize, f1: usize, v: u32) -> F
 // Whether w, the replica word of a sound record v of n words, names a record that points back: in the other half, sound, with the same
 // word 0, and so as long, and with v as its replica word.
 fn points_back<'a>(
+    pending: &[u32],
     h0: &'a [u32],
     h1: &'a [u32],
     f0: usize,
@@ -61,9 +71,9 @@ fn points_back<'a>(
     v: u32,
     n: usize,
 ) -> bool
-    requires { ⌜ (f0 ≤ length (now h0)) × (f1 ≤ length (now h1)) × (sound (memory (now h0) (now h1) f0 f1) v ≡ true)
-        × (n ≡ size (memory (now h0) (now h1) f0 f1) v) ⌝ }
-    ensures { λ r. ⌜ r ≡ pointsBack (memory (now (h0 .entry)) (now (h1 .entry)) f0 f1) w v ⌝ }
+    requires { ⌜ (f0 ≤ length (now h0)) × (f1 ≤ length (now h1)) × (sound (memoryWith (now pending) (now h0) (now h1) f0 f1) v ≡ true)
+        × (n ≡ size (memoryWith (now pending) (now h0) (now h1) f0 f1) v) ⌝ }
+    ensures { λ r. ⌜ r ≡ pointsBack (memoryWith (now (pending .entry)) (now (h0 .entry)) (now (h1 .entry)) f0 f1) w v ⌝ }
 {
     if (w < 2) | (w % 2 == v % 2) {
         return false;
@@ -75,30 +85,46 @@ fn points_back<'a>(
     if frontier < at + n {
         return false;
     }
-    let shape = get_word(h0, h1, v, SHAPE_AT);
-    let copied = half[at + SHAPE_AT];
-    let colour = half[at + COLOUR_AT];
-    let back = half[at + REPLICA_AT];
+    let shape = pending_word(pending, h0, h1, v, SHAPE_AT);
+    let copied = word_in(pending, half, w % 2, at + SHAPE_AT);
+    let colour = word_in(pending, half, w % 2, at + COLOUR_AT);
+    let back = word_in(pending, half, w % 2, at + REPLICA_AT);
     (copied == shape) & (colour <= BLACK) & (back == v)
 }
 
-// The place and the shape of the record that a reference names, or damage: it is sound, and its replica, if there is one, points back.
-pub fn follow<'a>(h0: &'a [u32], h1: &'a [u32], f0: usize, f1: usize, v: u32) -> Followed
+// The place and the shape of the record that a reference names with the pending words written, or damage: it is sound, and its replica, if
+// there is one, points back.
+pub fn follow_pending<'a>(
+    pending: &[u32],
+    h0: &'a [u32],
+    h1: &'a [u32],
+    f0: usize,
+    f1: usize,
+    v: u32,
+) -> Followed
     requires { ⌜ (f0 ≤ length (now h0)) × (f1 ≤ length (now h1)) ⌝ }
-    ensures { λ r. ⌜ r ≡ follow (memory (now (h0 .entry)) (now (h1 .entry)) f0 f1) v ⌝ }
+    ensures { λ r. ⌜ r ≡ follow (memoryWith (now (pending .entry)) (now (h0 .entry)) (now (h1 .entry)) f0 f1) v ⌝ }
 {
-    let Followed::Sound(at, r, p) = sound_at(h0, h1, f0, f1, v) else {
+    let Followed::Sound(at, r, p) = sound_at(pending, h0, h1, f0, f1, v) else {
         return Followed::Damage;
     };
-    let w = get_word(h0, h1, v, REPLICA_AT);
+    let w = pending_word(pending, h0, h1, v, REPLICA_AT);
     if w == 0 {
         return Followed::Sound(at, r, p);
     }
     let n = HEADER + (r as usize) + (p as usize);
-    let back = points_back(h0, h1, f0, f1, w, v, n);
+    let back = points_back(pending, h0, h1, f0, f1, w, v, n);
     if back {
         Followed::Sound(at, r, p)
     } else {
         Followed::Damage
     }
+}
+
+// The same with the words as they are.
+pub fn follow<'a>(h0: &'a [u32], h1: &'a [u32], f0: usize, f1: usize, v: u32) -> Followed
+    requires { ⌜ (f0 ≤ length (now h0)) × (f1 ≤ length (now h1)) ⌝ }
+    ensures { λ r. ⌜ r ≡ follow (memory (now (h0 .entry)) (now (h1 .entry)) f0 f1) v ⌝ }
+{
+    follow_pending(&h0[..0], h0, h1, f0, f1, v)
 }

@@ -5,6 +5,7 @@
 
 pub mod following;
 pub mod forwarding;
+pub mod pending;
 pub mod records;
 pub mod same;
 pub mod shades;

@@ -19,6 +19,8 @@ pub mod Stores
 pub mod Table
 -- the call store, at every level in every phase that the level has
 pub mod Storing
+-- the call for several links: stores in list order
+pub mod Links
 -- the call write: a plain field, at levels 4 to 6 of both copies
 pub mod Writing
 -- the call put: a global takes a register's word

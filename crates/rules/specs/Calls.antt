@@ -2,7 +2,7 @@
 -- Where the two are used apart, a call is a plan, all its tests with what is to be written, and a commit, the store with that written.
 use Prim.Native.Nat.{ℕ, _+_}
 use mathlib.Core.Bool.{Bool, not, _&&_}
-use mathlib.Core.List.{List}
+use mathlib.Core.List.{List, [], _∷_}
 use lib.Dec.{leb, ltb, eqb}
 use lib.ListN.{getD, set, take, drop}
 use Rattle.rules.specs.Refusals.{Tested, passed, check, _>>=_, _>>_, Outcome, done, answered}
@@ -14,6 +14,7 @@ use Rattle.rules.specs.Barriers.{heapOf, shadeBoth, replicaFor, storeWri
 use Rattle.rules.specs.declared.Session.{Session}
 use Rattle.rules.specs.declared.Operands.{Operands}
 use Rattle.rules.specs.declared.Writes.{Writes}
+use Rattle.rules.specs.declared.Link.{Link}
 use Rattle.rules.specs.declared.Answer.the-variants.{Word, Same}
 
 -- ---- tests that calls share
@@ -37,6 +38,13 @@ isGlobal g = leb g lastGlobal
 -- 10: "each 0 to 255"
 abbrev pub isShape : ℕ → ℕ → Bool
 isShape r p = leb r mostCount && leb p mostCount
+
+-- request [8]: "up to eight links", and 10: "A count above eight"
+abbrev pub mostLinks : ℕ
+mostLinks = 8
+
+unfoldable pub isCount : ℕ → Bool
+isCount count = leb count mostLinks
 
 -- 17: "refuses an allocation that would pass the share", by what is charged to its session; numbers are compared, no sum is cut to 32 bits
 unfoldable pub withinShare : Session → ℕ → ℕ → Bool
@@ -141,6 +149,21 @@ unfoldable pub store : Store → ℕ → ℕ → ℕ → ℕ → Tested (Outcome
 store s n k i from = do
   q ← storePlan s n k i from
   done (storeCommit s i q)
+
+-- request [8]: "single stores in list order", each on the store that those before it left; the first that is refused ends them
+abbrev pub storeEach : Store → ℕ → ℕ → List Link → Tested (Outcome Store)
+storeEach s n k [] = done s
+storeEach s n k (x ∷ xs) = do
+  o ← store s n k (x .field) (x .from)
+  storeEach (o .store) n k xs
+
+-- "One call takes field numbers and registers in pairs and stores all or none". "A count above eight is refused with 10 right after the session
+-- tests; a count of 0 succeeds there, storing nothing"
+unfoldable pub storeLinks : Store → ℕ → ℕ → ℕ → List Link → Tested (Outcome Store)
+storeLinks s n k count xs = do
+  x ← sessionOf s n
+  check (isCount count) 10
+  storeEach s n k (take count xs)
 
 unfoldable pub read : Store → ℕ → ℕ → ℕ → Tested (Outcome Store)
 read s n k i = do

@@ -4,12 +4,13 @@ use Prim.Native.Nat.{ℕ, suc, _+_, _-_}
 use mathlib.Core.Bool.{Bool, true, false, cond, not, _&&_}
 use mathlib.Core.List.{List, [], _∷_, _++_}
 use lib.Dec.{leb, ltb, eqb}
-use lib.ListN.{getD, set, length, replicate}
+use lib.ListN.{getD, set, length, replicate, take}
 use Rattle.rules.specs.Refusals.{Tested, passed, check, _>>=_, _>>_, Outcome, Reply, answer, words, settle, wordsOr, doneOr, done, answered}
 use Rattle.rules.specs.Memory.{null}
 use Rattle.rules.specs.Control.{globalCount, sessionCount, registerCount, lastSession}
-use Rattle.rules.specs.Calls.{isRegister, isGlobal, isShape, numberLeft}
-use Rattle.rules.specs.Runs.{Call, Attach, Detach, SafePoint, Allocate, Load, StoreRef, Read, Write, Move, Clear, SameAs, Get, Put, Stretch, Companion, Birth, Step, isAllocation, Fed, fitted, overShare, noRoom}
+use Rattle.rules.specs.Calls.{isRegister, isGlobal, isShape, isCount, numberLeft}
+use Rattle.rules.specs.Runs.{Call, Attach, Detach, SafePoint, Allocate, Load, StoreRef, StoreLinks, Read, Write, Move, Clear, SameAs, Get, Put, Stretch, Companion, Birth, Step, isAllocation, Fed, fitted, overShare, noRoom}
+use Rattle.rules.specs.declared.Link.{Link}
 use Rattle.rules.specs.declared.Answer.the-variants.{Done, Word, Same}
 
 -- ---- what it keeps
@@ -153,6 +154,19 @@ freeStore f n k i from = do
   check (ltb i (length (recordAt f q .refs))) 13
   done (withRecord f q (record { refs = set (recordAt f q .refs) i (freeRegister x from); plains = recordAt f q .plains }))
 
+-- request [8]
+abbrev pub freeStoreEach : Free → ℕ → ℕ → List Link → Tested (Outcome Free)
+freeStoreEach f n k [] = done f
+freeStoreEach f n k (x ∷ xs) = do
+  o ← freeStore f n k (x .field) (x .from)
+  freeStoreEach (o .store) n k xs
+
+unfoldable pub freeStoreLinks : Free → ℕ → ℕ → ℕ → List Link → Tested (Outcome Free)
+freeStoreLinks f n k count xs = do
+  x ← freeSessionOf f n
+  check (isCount count) 10
+  freeStoreEach f n k (take count xs)
+
 unfoldable pub freeRead : Free → ℕ → ℕ → ℕ → Tested (Outcome Free)
 freeRead f n k i = do
   x ← freeSessionOf f n
@@ -228,6 +242,7 @@ freeApply f (SafePoint n) fed = record { store = f; reply = answer Done }
 freeApply f (Allocate n k r p) fed = settle f (freeAllocate f n k r p fed)
 freeApply f (Load n to k i) fed = settle f (freeLoad f n to k i)
 freeApply f (StoreRef n k i from) fed = settle f (freeStore f n k i from)
+freeApply f (StoreLinks n k count xs) fed = settle f (freeStoreLinks f n k count xs)
 freeApply f (Read n k i) fed = settle f (freeRead f n k i)
 freeApply f (Write n k i a) fed = settle f (freeWrite f n k i a)
 freeApply f (Move n to from) fed = settle f (freeMove f n to from)

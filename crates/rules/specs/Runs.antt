@@ -9,10 +9,11 @@ use Rattle.rules.specs.Cycle.{atRest, atHeapMark}
 use Rattle.rules.specs.Control.{Store}
 use Rattle.rules.specs.Calls as calls
 use Rattle.rules.specs.Collector as collector
+use Rattle.rules.specs.declared.Link.{Link}
 use Rattle.rules.specs.declared.Answer.the-variants.{Refused, Done, Word, Same, Phase}
 
--- the calls, with their arguments in the script's order; the stretch, its companion and the birth number are in no script, and an attach's share
--- is the same in all of them (`scriptShare`)
+-- the calls, with their arguments in the script's order; the store of several links, the stretch, its companion and the birth number are in no
+-- script, and an attach's share is the same in all of them (`scriptShare`)
 pub data Call : Type 0 where
   Attach : ℕ → ℕ → Call
   Detach : ℕ → Call
@@ -20,6 +21,7 @@ pub data Call : Type 0 where
   Allocate : ℕ → ℕ → ℕ → ℕ → Call
   Load : ℕ → ℕ → ℕ → ℕ → Call
   StoreRef : ℕ → ℕ → ℕ → ℕ → Call
+  StoreLinks : ℕ → ℕ → ℕ → List Link → Call
   Read : ℕ → ℕ → ℕ → Call
   Write : ℕ → ℕ → ℕ → ℕ → Call
   Move : ℕ → ℕ → ℕ → Call
@@ -40,6 +42,7 @@ apply s (SafePoint n) = settle s (calls.safePoint s n)
 apply s (Allocate n k r p) = settle s (calls.allocate s n k r p)
 apply s (Load n to k i) = settle s (calls.load s n to k i)
 apply s (StoreRef n k i from) = settle s (calls.store s n k i from)
+apply s (StoreLinks n k count xs) = settle s (calls.storeLinks s n k count xs)
 apply s (Read n k i) = settle s (calls.read s n k i)
 apply s (Write n k i a) = settle s (calls.write s n k i a)
 apply s (Move n to from) = settle s (calls.move s n to from)
@@ -72,6 +75,7 @@ isSession (SafePoint n) = false
 isSession (Allocate n k r p) = true
 isSession (Load n to k i) = true
 isSession (StoreRef n k i from) = true
+isSession (StoreLinks n k count xs) = true
 isSession (Read n k i) = true
 isSession (Write n k i a) = true
 isSession (Move n to from) = true
@@ -91,6 +95,7 @@ isAllocation (SafePoint n) = false
 isAllocation (Allocate n k r p) = true
 isAllocation (Load n to k i) = false
 isAllocation (StoreRef n k i from) = false
+isAllocation (StoreLinks n k count xs) = false
 isAllocation (Read n k i) = false
 isAllocation (Write n k i a) = false
 isAllocation (Move n to from) = false
@@ -143,6 +148,7 @@ isStep (SafePoint n) = false
 isStep (Allocate n k r p) = false
 isStep (Load n to k i) = false
 isStep (StoreRef n k i from) = false
+isStep (StoreLinks n k count xs) = false
 isStep (Read n k i) = false
 isStep (Write n k i a) = false
 isStep (Move n to from) = false

@@ -3,6 +3,9 @@
 // "eight registers"
 pub const REGISTERS: usize = 8;
 
+// Request [8]: "up to eight links"
+pub const LINKS: usize = 8;
+
 // A session: "eight registers, a level and a scanned mark", and whether it is attached. Request [7]: its share in words, and the
 // words charged to it.
 pub struct Session {
@@ -46,4 +49,10 @@ pub struct Writes {
     pub own: u32,
     pub replica: u32,
     pub copy: u32,
+}
+
+// One of several links to store: the number of the reference field, and the register whose reference it gets.
+pub struct Link {
+    pub field: u32,
+    pub from: u32,
 }

@@ -10,7 +10,7 @@ use Rattle.rules.specs.Memory.{null}
 use Rattle.rules.specs.Control.{lastSession, registerCount}
 use Rattle.rules.specs.Refusals.{Tested, passed, check, _>>=_, _>>_, Outcome}
 use Rattle.rules.specs.Calls.{isRegister, isGlobal, isShape, numberLeft}
-use Rattle.rules.specs.Runs.{Call, Attach, Detach, SafePoint, Allocate, Load, StoreRef, Read, Write, Move, Clear, SameAs, Get, Put, Stretch, Companion, Birth, Step, isSession, Fed}
+use Rattle.rules.specs.Runs.{Call, Attach, Detach, SafePoint, Allocate, Load, StoreRef, StoreLinks, Read, Write, Move, Clear, SameAs, Get, Put, Stretch, Companion, Birth, Step, isSession, Fed}
 use Rattle.rules.specs.Free.{Free, FreeSession, recordAt, freeSession, freeRegister, freeNobody, fedShare, fedRoom, freeSessionOf, freeRecordIn, freeAttach, freeDetach, freeAllocate, freeLoad, freeStore, freeRead, freeBirth, freeWrite, freeMove, freeClear, freeSame, freeGet, freePut, freeApply}
 use Rattle.rules.proofs.Ranges.{both}
 use Rattle.rules.proofs.memory.Lists.{all-same}

@@ -31,7 +31,7 @@ use Rattle.rules.proofs.invariant.Pairs.{pair-shape, replica-shape}
 use Rattle.rules.proofs.invariant.Originals.{pair-here}
 use Rattle.rules.proofs.invariant.Spans.{Allowed, level-most, level-from, level-home, level-late, level-last}
 use Rattle.rules.proofs.frames.Change.{refs-kept}
-use Rattle.rules.proofs.relation.Alike.{Alike, passed-both, both-check-eq, both-passes, both-commit, left-done}
+use Rattle.rules.proofs.relation.Alike.{Both, Unmoved, Alike, passed-both, both-check-eq, both-passes, both-commit, both-map, unmoved-left, unmoved-done}
 use Rattle.rules.proofs.relation.Tests.{both-record}
 use Rattle.rules.proofs.sessions.Session.{WordFits}
 use Rattle.rules.proofs.sessions.Registers.{held-fits}
@@ -153,10 +153,13 @@ module _ {K : ℕ → Type 0} {m : ℕ → ℕ} {s : Store} {f : Free} {x : Sess
 
 -- ---- the call
 module _ {K : ℕ → Type 0} {m : ℕ → ℕ} {s : Store} {f : Free} (h : Sim K m s f) where
-  pub store-alike : (n k i from q : ℕ) → Alike K q m s (calls.store s n k i from) (freeStore f n k i from)
+  pub store-unmoved : (n k i from : ℕ) → Both (Unmoved K m s) (calls.store s n k i from) (freeStore f n k i from)
   unfolding calls.store calls.storePlan freeStore
-  store-alike n k i from q = both-commit _ (both-record h n k from (isRegister k && isRegister from) refl _ _
+  store-unmoved n k i from = both-commit _ (both-record h n k from (isRegister k && isRegister from) refl _ _
       (λ a b z e. both-check-eq _ _ 13 (ap (ltb i) (sym (free-refs h z))) tt
       (λ l. let w = store-writes h (held-fits h n from a) (a .allowed) (held-fits h n k a) z (ltb-true _ _ l) in
       both-passes _ (w .writes) (w .passes) _
-      (passed-both (left-done (w .sim) refl (stored-front s _ i (w .writes) 0) (stored-front s _ i (w .writes) 1) (spent-grows (w .grows)))))))
+      (passed-both (unmoved-done (w .sim) refl (stored-front s _ i (w .writes) 0) (stored-front s _ i (w .writes) 1) (spent-grows (w .grows)))))))
+
+  pub store-alike : (n k i from q : ℕ) → Alike K q m s (calls.store s n k i from) (freeStore f n k i from)
+  store-alike n k i from q = both-map (λ o p. unmoved-left) (store-unmoved n k i from)

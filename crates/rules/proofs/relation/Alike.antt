@@ -1,7 +1,7 @@
 -- What is shown of a session call: it ends alike on the store and on the collector-free store. The two rules have the same tests in
 -- the same order; those that only the store has (4 and 12) pass.
 use Prim.Native.Nat.{ℕ}
-use mathlib.Core.Path.{_≡_, refl}
+use mathlib.Core.Path.{_≡_, refl, _∙_}
 use mathlib.Core.Logic.{_≢_}
 use mathlib.Core.Bool.{Bool, true, false, not, _||_}
 use native.Mathlib.Omega.{arith}
@@ -50,6 +50,16 @@ pub both-commit : {A B C : Type 0} {R : B → C → Type 0} (j : A → B) {t : T
 both-commit j (refused-both n x y) = refused-both n x y
 both-commit j (passed-both r) = passed-both r
 
+-- two rules one after the other, and what is related in another way
+pub both-then : {A B C D : Type 0} {R : A → B → Type 0} {S : C → D → Type 0} {t : Tested A} {u : Tested B} (k : A → Tested C) (l : B → Tested D)
+    → Both R t u → ((a : A) (b : B) → R a b → Both S (k a) (l b)) → Both S (t >>= k) (u >>= l)
+both-then k l (refused-both n x y) f = refused-both n x y
+both-then k l (passed-both {a} {b} r) f = f a b r
+
+pub both-map : {A B : Type 0} {R S : A → B → Type 0} {t : Tested A} {u : Tested B} → ((a : A) (b : B) → R a b → S a b) → Both R t u → Both S t u
+both-map f (refused-both n x y) = refused-both n x y
+both-map f (passed-both {a} {b} r) = passed-both (f a b r)
+
 -- ---- a session call on both stores: where it passes, with the same reply, the invariant kept, and the bound on marking too, and how it moves
 -- the frontiers; q is the place of a record that the call may have written
 
@@ -64,18 +74,43 @@ pub record Left (K : ℕ → Type 0) (q : ℕ) (m : ℕ → ℕ) (s : Store) (o 
 abbrev pub Alike : (K : ℕ → Type 0) (q : ℕ) (m : ℕ → ℕ) (s : Store) → Tested (Outcome Store) → Tested (Outcome Free) → Type 0
 Alike K q m s = Both (Left K q m s)
 
--- a call that ends with one reply on both sides and moves no frontier
-module _ {K : ℕ → Type 0} {q : ℕ} {m : ℕ → ℕ} {s t : Store} {g : Free} {r r′ : Reply} (h : Sim K m t g) (e : r ≡ r′)
-    (a : frontier (t .memory) 0 ≡ frontier (s .memory) 0) (b : frontier (t .memory) 1 ≡ frontier (s .memory) 1) (c : SpentKept s t) where
-  pub left-done : Left K q m s (record { store = t; reply = r }) (record { store = g; reply = r′ })
-  left-done = record {
+-- the same of a call that moves neither a record nor a frontier
+pub record Unmoved (K : ℕ → Type 0) (m : ℕ → ℕ) (s : Store) (o : Outcome Store) (p : Outcome Free) : Type 0 where
+  pub sim : Sim K m (o .store) (p .store)
+  pub reply : o .reply ≡ p .reply
+  pub front0 : frontier (o .store .memory) 0 ≡ frontier (s .memory) 0
+  pub front1 : frontier (o .store .memory) 1 ≡ frontier (s .memory) 1
+  pub spent : SpentKept s (o .store)
+
+module _ {K : ℕ → Type 0} {m : ℕ → ℕ} {s : Store} where
+  pub unmoved-left : {q : ℕ} {o : Outcome Store} {p : Outcome Free} → Unmoved K m s o p → Left K q m s o p
+  unmoved-left {q} {o} w = record {
     place = m;
-    sim = h;
-    reply = e;
-    tracks = tracks-stay q m (s .memory) (t .memory) (omega arith) (omega arith);
-    spent = c;
-    fronts = still (omega arith) (omega arith);
+    sim = w .sim;
+    reply = w .reply;
+    tracks = tracks-stay q m (s .memory) (o .store .memory) (omega (arith, w .front0)) (omega (arith, w .front1));
+    spent = w .spent;
+    fronts = still (omega (arith, w .front0)) (omega (arith, w .front1));
   }
 
-  pub alike-done : Alike K q m s (passed (record { store = t; reply = r })) (passed (record { store = g; reply = r′ }))
+  -- one such call after another
+  pub unmoved-then : {o u : Outcome Store} {p v : Outcome Free} → Unmoved K m s o p → Unmoved K m (o .store) u v → Unmoved K m s u v
+  unmoved-then a b = record {
+    sim = b .sim;
+    reply = b .reply;
+    front0 = b .front0 ∙ a .front0;
+    front1 = b .front1 ∙ a .front1;
+    spent = λ n k. b .spent n (a .spent n k);
+  }
+
+-- a call that ends with one reply on both sides
+module _ {K : ℕ → Type 0} {m : ℕ → ℕ} {s t : Store} {g : Free} {r r′ : Reply} (h : Sim K m t g) (e : r ≡ r′)
+    (a : frontier (t .memory) 0 ≡ frontier (s .memory) 0) (b : frontier (t .memory) 1 ≡ frontier (s .memory) 1) (c : SpentKept s t) where
+  pub unmoved-done : Unmoved K m s (record { store = t; reply = r }) (record { store = g; reply = r′ })
+  unmoved-done = record { sim = h; reply = e; front0 = a; front1 = b; spent = c }
+
+  pub left-done : {q : ℕ} → Left K q m s (record { store = t; reply = r }) (record { store = g; reply = r′ })
+  left-done = unmoved-left unmoved-done
+
+  pub alike-done : {q : ℕ} → Alike K q m s (passed (record { store = t; reply = r })) (passed (record { store = g; reply = r′ }))
   alike-done = passed-both left-done

@@ -1,7 +1,7 @@
 -- The kinds of calls: allocations, other session calls, and calls that are no session calls.
 use mathlib.Core.Path.{_≡_, refl, sym, _∙_}
 use mathlib.Core.Bool.{true, false, true≢false}
-use Rattle.rules.specs.Runs.{Call, Attach, Detach, SafePoint, Allocate, Load, StoreRef, Read, Write, Move, Clear, SameAs, Get, Put, Stretch, Companion, Birth, Step, isSession, isAllocation, Fed}
+use Rattle.rules.specs.Runs.{Call, Attach, Detach, SafePoint, Allocate, Load, StoreRef, StoreLinks, Read, Write, Move, Clear, SameAs, Get, Put, Stretch, Companion, Birth, Step, isSession, isAllocation, Fed}
 use Rattle.rules.specs.Free.{Free, freeApply}
 
 -- a call by what is fed for it; only an allocation goes by it
@@ -17,6 +17,7 @@ kind (SafePoint n) = silent refl refl
 kind (Allocate n k r p) = allocation refl refl
 kind (Load n to k i) = unfed refl refl (λ f x y. refl)
 kind (StoreRef n k i from) = unfed refl refl (λ f x y. refl)
+kind (StoreLinks n k count xs) = unfed refl refl (λ f x y. refl)
 kind (Read n k i) = unfed refl refl (λ f x y. refl)
 kind (Write n k i a) = unfed refl refl (λ f x y. refl)
 kind (Move n to from) = unfed refl refl (λ f x y. refl)

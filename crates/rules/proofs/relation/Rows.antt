@@ -44,6 +44,10 @@ module _ {P : ℕ → Type 0} where
   pub after-row : {A B : Type 0} {R : B → Type 0} {m : Tested A} (k : A → Tested B) → Ends P Any m → ((a : A) → Ends P R (k a)) → Ends P R (m >>= k)
   after-row k h f = then-row k h (λ a u. f a)
 
+  pub map-row : {A : Type 0} {Q R : A → Type 0} {m : Tested A} → ((a : A) → Q a → R a) → Ends P Q m → Ends P R m
+  map-row f (refuses n h) = refuses n h
+  map-row f (passes a h) = passes a (f a h)
+
   pub either-row : {A : Type 0} {Q : A → Type 0} (b : Bool) {m k : Tested A} → Ends P Q m → Ends P Q k → Ends P Q (cond b m k)
   either-row true h f = h
   either-row false h f = f

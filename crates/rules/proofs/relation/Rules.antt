@@ -1,10 +1,11 @@
 -- How every rule ends: refused with a number that its call may be refused with, or with a store in which lengths, marks, shares and charges
 -- stay, but for the share of an attach and the charge of an allocation, and an answer that is no refusal.
 use Prim.Native.Nat.{ℕ}
-use mathlib.Core.Path.{_≡_, refl}
+use mathlib.Core.Path.{_≡_, refl, _∙_}
 use mathlib.Core.Bool.{false, not}
+use mathlib.Core.List.{List, [], _∷_}
 use lib.Dec.{leb}
-use lib.ListN.{getD}
+use lib.ListN.{getD, take}
 use native.Mathlib.Nat.{le-refl}
 use native.Mathlib.Omega.{arith}
 use borrow.Author.Tests.{eq-eqb}
@@ -14,13 +15,14 @@ use Rattle.rules.specs.Control.{Store, inRange, lastSession}
 use Rattle.rules.specs.Phases.{sessionAt, withSession, moveOn}
 use Rattle.rules.specs.Calls as calls
 use Rattle.rules.specs.Collector as collector
-use Rattle.rules.specs.Runs.{Call, Attach, Detach, SafePoint, Allocate, Load, StoreRef, Read, Write, Move, Clear, SameAs, Get, Put, Stretch, Companion, Birth, Step, apply, isAllocation}
+use Rattle.rules.specs.Runs.{Call, Attach, Detach, SafePoint, Allocate, Load, StoreRef, StoreLinks, Read, Write, Move, Clear, SameAs, Get, Put, Stretch, Companion, Birth, Step, apply, isAllocation}
 use Rattle.rules.specs.declared.Session.{Session}
+use Rattle.rules.specs.declared.Link.{Link}
 use Rattle.rules.specs.declared.Answer.the-variants.{Refused}
 use Rattle.rules.proofs.relation.Replies.{isRefusal}
 use Rattle.rules.proofs.relation.Units.{each-unit}
-use Rattle.rules.proofs.relation.Rows.{Ends, refuses, passes, then-row, row, Allowed, Row, followed-row, forward-row, shading-row, shading-all-row, replica-row, store-writes-row, put-writes-row, same-at-row, forward-all-row, of-session, record-row}
-use Rattle.rules.proofs.relation.Stays.{NoAttach, NoAllocation, Stays, Kept, unwritten, uncharged-stays, stays}
+use Rattle.rules.proofs.relation.Rows.{Ends, refuses, passes, then-row, after-row, map-row, row, one-test, Allowed, allowed, Row, followed-row, forward-row, shading-row, shading-all-row, replica-row, store-writes-row, put-writes-row, same-at-row, forward-all-row, of-session, record-row}
+use Rattle.rules.proofs.relation.Stays.{NoAttach, NoAllocation, Stays, Kept, held, shade-both-held, unwritten, uncharged-stays, stays}
 
 -- what the rule of the call c of s leaves where all its tests pass
 pub record Passed (c : Call) (s : Store) (o : Outcome Store) : Type 0 where
@@ -29,6 +31,17 @@ pub record Passed (c : Call) (s : Store) (o : Outcome Store) : Type 0 where
 
 leaves : {c : Call} {s : Store} (o : Outcome Store) → Stays c s (o .store) → isRefusal (o .reply) ≡ false → Passed c s o
 leaves o h e = record { stays = h; reply = e }
+
+-- what it leaves where it writes nothing that `Stays` speaks of
+record Unheld (s : Store) (o : Outcome Store) : Type 0 where
+  same : held (o .store) ≡ held s
+  reply : isRefusal (o .reply) ≡ false
+
+leaves-held : {s : Store} (o : Outcome Store) → held (o .store) ≡ held s → isRefusal (o .reply) ≡ false → Unheld s o
+leaves-held o h e = record { same = h; reply = e }
+
+held-passed : {c : Call} {s : Store} (o : Outcome Store) → Unheld s o → Passed c s o
+held-passed o h = leaves o (unwritten (h .same)) (h .reply)
 
 -- the rule of a call, and that of a phase
 abbrev pub RuleEnds : Call → Store → Tested (Outcome Store) → Type 0
@@ -65,9 +78,12 @@ module _ (s : Store) where
   unfolding calls.load calls.loadPlan
   load-ends n to k i = search (rule, record-row)
 
-  pub store-ends : (n k i from : ℕ) → RuleEnds (StoreRef n k i from) s (calls.store s n k i from)
+  stored-ends : (n k i from : ℕ) → Ends (Allowed false) (Unheld s) (calls.store s n k i from)
   unfolding calls.store calls.storePlan calls.storeCommit
-  store-ends n k i from = search (rule, record-row, store-writes-row)
+  stored-ends n k i from = search (row, passes, leaves-held, record-row, store-writes-row, shade-both-held)
+
+  pub store-ends : (n k i from : ℕ) → RuleEnds (StoreRef n k i from) s (calls.store s n k i from)
+  store-ends n k i from = map-row held-passed (stored-ends n k i from)
 
   pub read-ends : (n k i : ℕ) → RuleEnds (Read n k i) s (calls.read s n k i)
   unfolding calls.read
@@ -169,6 +185,18 @@ module _ (s : Store) where
   unfolding collector.step
   step-ends = search (rule, then-row, unit-ends)
 
+-- ---- several links
+
+links-stored : (s : Store) (n k : ℕ) (xs : List Link) → Ends (Allowed false) (Unheld s) (calls.storeEach s n k xs)
+links-stored s n k [] = passes _ (leaves-held _ refl refl)
+links-stored s n k (x ∷ xs) = then-row _ (stored-ends s n k (x .field) (x .from))
+    (λ o h. map-row (λ u g. leaves-held u (g .same ∙ h .same) (g .reply)) (links-stored (o .store) n k xs))
+
+pub store-links-ends : (s : Store) (n k count : ℕ) (xs : List Link) → RuleEnds (StoreLinks n k count xs) s (calls.storeLinks s n k count xs)
+unfolding calls.storeLinks
+store-links-ends s n k count xs = of-session s n _
+    (after-row _ (one-test (calls.isCount count) 10 (allowed refl refl)) (λ u. map-row held-passed (links-stored s n k (take count xs))))
+
 -- ---- any call
 
 -- a refused call hands the store back as it came, and any other leaves what a rule does
@@ -191,6 +219,7 @@ call-ends s (SafePoint n) = settled (safe-point-ends s n)
 call-ends s (Allocate n k r p) = settled (allocate-ends s n k r p)
 call-ends s (Load n to k i) = settled (load-ends s n to k i)
 call-ends s (StoreRef n k i from) = settled (store-ends s n k i from)
+call-ends s (StoreLinks n k count xs) = settled (store-links-ends s n k count xs)
 call-ends s (Read n k i) = settled (read-ends s n k i)
 call-ends s (Write n k i a) = settled (write-ends s n k i a)
 call-ends s (Move n to from) = settled (move-ends s n to from)

@@ -40,7 +40,7 @@ pub record Stays (c : Call) (s t : Store) : Type 0 where
   pub rises : (n : ℕ) → NoEnd c s t → sessionAt s n .charge ≤ sessionAt t n .charge
 
 -- what it speaks of
-abbrev held : Store → Lengths × ℕ × List Session
+abbrev pub held : Store → Lengths × ℕ × List Session
 held s = (s .lengths, s .phase, s .sessions)
 
 pub shade-held : (s : Store) (v : ℕ) → held (shade s v) ≡ held s

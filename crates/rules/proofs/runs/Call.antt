@@ -11,7 +11,7 @@ use Rattle.rules.specs.Refusals.{Tested, refused, passed, _>>=_, Reply, 
 use Rattle.rules.specs.Memory.{Memory}
 use Rattle.rules.specs.Control.{Store}
 use Rattle.rules.specs.Collector.{walked, step}
-use Rattle.rules.specs.Runs.{Call, Attach, Detach, SafePoint, Allocate, Load, StoreRef, Read, Write, Move, Clear, SameAs, Get, Put, Stretch, Companion, Birth, Step, apply, isSession, isAllocation, isStep, fedBy, spentBy}
+use Rattle.rules.specs.Runs.{Call, Attach, Detach, SafePoint, Allocate, Load, StoreRef, StoreLinks, Read, Write, Move, Clear, SameAs, Get, Put, Stretch, Companion, Birth, Step, apply, isSession, isAllocation, isStep, fedBy, spentBy}
 use Rattle.rules.specs.Free.{Free, FreeSession, freeSessionOf, freeApply}
 use Rattle.rules.specs.Tracking.{Beside, track, besideCall}
 use Rattle.rules.specs.declared.Answer.the-variants.{Refused, Done, Phase}
@@ -21,13 +21,14 @@ use Rattle.rules.proofs.invariant.Spent.{Spent}
 use Rattle.rules.proofs.relation.Tracks.{tracked, Tracks, tracks-none}
 use Rattle.rules.proofs.relation.Alike.{Alike, Both, refused-both, passed-both}
 use Rattle.rules.proofs.relation.Rows.{of-passed}
-use Rattle.rules.proofs.relation.Rules.{RuleEnds, attach-ends, detach-ends, safe-point-ends, allocate-ends, load-ends, store-ends, read-ends, birth-ends, write-ends, move-ends, clear-ends, same-ends, get-ends, put-ends}
+use Rattle.rules.proofs.relation.Rules.{RuleEnds, attach-ends, detach-ends, safe-point-ends, allocate-ends, load-ends, store-ends, store-links-ends, read-ends, birth-ends, write-ends, move-ends, clear-ends, same-ends, get-ends, put-ends}
 use Rattle.rules.proofs.relation.Replies.{refusal-number, unrefused}
 use Rattle.rules.proofs.sessions.Registers.{move-alike, clear-alike, get-alike}
 use Rattle.rules.proofs.sessions.Attaching.{attach-alike, detach-alike, safe-point-alike}
 use Rattle.rules.proofs.sessions.Reading.{load-alike, read-alike, birth-alike, stretch-both}
 use Rattle.rules.proofs.sessions.Same.{same-alike}
 use Rattle.rules.proofs.fields.Storing.{store-alike}
+use Rattle.rules.proofs.fields.Links.{store-links-alike}
 use Rattle.rules.proofs.fields.Writing.{write-alike}
 use Rattle.rules.proofs.fields.Putting.{put-alike}
 use Rattle.rules.proofs.allocation.Allocate.{allocate-alike}
@@ -171,6 +172,8 @@ module _ {K : ℕ → Type 0} (b : Beside) (h : Sim K (b .place) (b .store) (b .
   one-call (Allocate n k r p) = of-kept b (Allocate n k r p) refl (settled h (Allocate n k r p) refl (allocate-ends s n k r p) (allocate-alike h n k r p))
   one-call (Load n to k i) = of-kept b (Load n to k i) refl (settled h (Load n to k i) refl (load-ends s n to k i) (load-alike h n to k i _))
   one-call (StoreRef n k i from) = of-kept b (StoreRef n k i from) refl (settled h (StoreRef n k i from) refl (store-ends s n k i from) (store-alike h n k i from _))
+  one-call (StoreLinks n k count xs) = of-kept b (StoreLinks n k count xs) refl
+      (settled h (StoreLinks n k count xs) refl (store-links-ends s n k count xs) (store-links-alike h n k count xs _))
   one-call (Read n k i) = of-kept b (Read n k i) refl (settled h (Read n k i) refl (read-ends s n k i) (read-alike h n k i _))
   one-call (Write n k i a) = of-kept b (Write n k i a) refl (settled h (Write n k i a) refl (write-ends s n k i a) (write-alike h n k i a _))
   one-call (Move n to from) = of-kept b (Move n to from) refl (settled h (Move n to from) refl (move-ends s n to from) (move-alike h n to from _))

@@ -9,7 +9,7 @@ use denote.Ref.{RefT, now}
 use denote.Triple.Entry.{Args, Res}
 use denote.Triple.Clauses.{Ended, Lasts, AtExit, atExit}
 use Rattle.rules.specs.Refusals.{answer, words}
-use Rattle.rules.specs.Runs.{Attach, Detach, SafePoint, Allocate, Load, StoreRef, Read, Write, Move, Clear, SameAs, Get, Put, Stretch, Companion, Birth, Step}
+use Rattle.rules.specs.Runs.{Attach, Detach, SafePoint, Allocate, Load, StoreRef, StoreLinks, Read, Write, Move, Clear, SameAs, Get, Put, Stretch, Companion, Birth, Step}
 use Rattle.rules.specs.declared.Answer.{Answer}
 use Rattle.rules.specs.declared.Answer.the-variants.{Done}
 use Rattle.store.specs.CodeRuns.{lent, CodeMade, by-make, Called, by-attach, by-detach, by-safe-point, by-allocate, by-load, by-store, by-read, by-write, by-move-register, by-clear, by-same, by-get, by-put, by-stretch, by-companion, by-birth, by-step}

@@ -5,21 +5,23 @@ use mathlib.Core.Path.{_≡_, _∙_, ap}
 use mathlib.Core.Bool.{true}
 use native.Mathlib.Omega.{arith}
 use lib.ListN.{length}
-use Rattle.rules.specs.Memory.{Memory, half, frontier, halfOf, wordOf, header, mostCount, shapeAt, size, sound}
+use Rattle.rules.specs.Memory.{Memory, half, frontier, halfOf, wordOf, header, mostCount, shapeAt, colourAt, replicaAt, size, sound}
 use Rattle.rules.proofs.memory.Records.{size-fields}
 use Rattle.heap.specs.View.{memory}
+use Rattle.heap.specs.Pending.{laid, memoryWith}
 use Rattle.heap.proofs.Halves.{half-across, frontier-across, frontier-within}
-use Rattle.heap.proofs.Soundness.{sound-small, header-inside}
+use Rattle.heap.proofs.Laid.{word-laid, header-laid}
+use Rattle.heap.proofs.Soundness.{sound-small}
 use Rattle.heap.proofs.Followings.{across, back-outside, back-short, back-tested}
 use borrow.Author.Needs.{needs}
 use Rattle.heap.proofs.following.points_back.Statement.{statement}
 use Rattle.heap.proofs.following.points_back.Tie as tie
 
 abbrev entry : tie.After-frontier-of → tie.Start
-entry c = c .before .before .before .before .before .before
+entry c = c .before .before .before .before .before .before .before
 
 abbrev lent : tie.After-frontier-of → Memory
-lent c = let a = entry c .args in memory (a .h0 .now) (a .h1 .now) (a .f0) (a .f1)
+lent c = let a = entry c .args in memoryWith (a .pending .now) (a .h0 .now) (a .h1 .now) (a .f0) (a .f1)
 
 -- what is known of w and of the half that it is in
 record Known (c : tie.After-frontier-of) : Type 0 where
@@ -27,7 +29,7 @@ record Known (c : tie.After-frontier-of) : Type 0 where
   sound : sound (lent c) (entry c .args .v) ≡ true
   size : entry c .args .n ≡ size (lent c) (entry c .args .v)
   place : c .before .before .word-of .result ≡ wordOf (entry c .args .w)
-  half : c .before .half-of .result .now ≡ half (lent c) (halfOf (entry c .args .w))
+  half : let a = entry c .args in c .before .half-of .result .now ≡ half (memory (a .h0 .now) (a .h1 .now) (a .f0) (a .f1)) (halfOf (a .w))
   frontier : c .frontier-of .result ≡ frontier (lent c) (halfOf (entry c .args .w))
 
 in-other : (c : tie.After-frontier-of) → (2 ≤ entry c .args .w) × (halfOf (entry c .args .w) ≡ halfOf (entry c .args .v) → ⊥)
@@ -44,7 +46,7 @@ known c =
       size = entry c .pre .3;
       place = c .before .before .word-of .ensures;
       half = c .before .half-of .ensures (a .f1) (a .f0) ∙ half-across (a .h0 .now) (a .h1 .now) (a .f0) (a .f1) (a .w) (a .v) (o .1);
-      frontier = c .frontier-of .ensures (a .h1 .now) (a .h0 .now) ∙ frontier-across (a .h0 .now) (a .h1 .now) (a .f0) (a .f1) (a .w) (a .v) (o .1);
+      frontier = c .frontier-of .ensures _ _ ∙ frontier-across (laid 0 (a .pending .now) (a .h0 .now)) (laid 1 (a .pending .now) (a .h1 .now)) (a .f0) (a .f1) (a .w) (a .v) (o .1);
     }
 
 -- the place and the words of the record are few, and the half reaches to its frontier
@@ -61,7 +63,7 @@ long : (c : tie.After-frontier-of) → c .frontier-of .result ≤ length (c .bef
 long c =
     let a = entry c .args in
     let k = known c in
-    omega (arith, ap length (k .half), k .frontier, frontier-within (a .h0 .now) (a .h1 .now) (a .f0) (a .f1) (a .w) (entry c .pre .0) (entry c .pre .1))
+    omega (arith, ap length (k .half), c .frontier-of .ensures (a .h1 .now) (a .h0 .now) ∙ frontier-across (a .h0 .now) (a .h1 .now) (a .f0) (a .f1) (a .w) (a .v) (k .other .1), frontier-within (a .h0 .now) (a .h1 .now) (a .f0) (a .f1) (a .w) (entry c .pre .0) (entry c .pre .1))
 
 returns : tie.Need-returns
 unfolding halfOf
@@ -83,45 +85,40 @@ add-if2 c = omega (arith, small c)
 returns-2 : tie.Need-returns-2
 returns-2 c =
     let k = known (c .before) in
-    back-short _ _ _ (k .sound) (k .size) (k .place) (k .half) (k .frontier) (c .if2 .taken)
+    back-short _ _ _ (k .sound) (k .size) (k .place) (k .frontier) (c .if2 .taken)
 
-get-word-requires : tie.Need-get-word-requires
-get-word-requires c κs =
+pending-word-requires : tie.Need-pending-word-requires
+pending-word-requires c κs =
     let k = entry (c .before) .pre in
-    header-inside _ _ _ _ _ (k .2) (k .0) (k .1) shapeAt (omega arith)
+    header-laid _ _ _ _ _ _ (k .2) (k .0) (k .1) shapeAt (omega arith)
 
-add-copied : tie.Need-add-copied
-add-copied c = search needs
+add-word-in : tie.Need-add-word-in
+add-word-in c = search needs
 
-mul-copied : tie.Need-mul-copied
-mul-copied c = omega (arith, small (c .before .before))
+word-in-requires : tie.Need-word-in-requires
+word-in-requires c κs = omega (arith, long (c .before .before), small (c .before .before), c .before .if2 .left)
 
-shared-slice-read-copied : tie.Need-shared-slice-read-copied
-shared-slice-read-copied c = omega (arith, long (c .before .before .before), small (c .before .before .before), c .before .before .if2 .left)
+add-word-in-2 : tie.Need-add-word-in-2
+add-word-in-2 c = omega (arith, small (c .before .before .before))
 
-add-colour : tie.Need-add-colour
-add-colour c = omega (arith, small (c .before .before .before))
+word-in-requires-2 : tie.Need-word-in-requires-2
+word-in-requires-2 c κs = omega (arith, long (c .before .before .before), small (c .before .before .before), c .before .before .if2 .left)
 
-mul-colour : tie.Need-mul-colour
-mul-colour c = omega (arith, small (c .before .before .before))
+add-word-in-3 : tie.Need-add-word-in-3
+add-word-in-3 c = omega (arith, small (c .before .before .before .before))
 
-shared-slice-read-colour : tie.Need-shared-slice-read-colour
-shared-slice-read-colour c = omega (arith, long (c .before .before .before .before), small (c .before .before .before .before), c .before .before .before .if2 .left)
-
-add-back : tie.Need-add-back
-add-back c = omega (arith, small (c .before .before .before .before))
-
-mul-back : tie.Need-mul-back
-mul-back c = omega (arith, small (c .before .before .before .before))
-
-shared-slice-read-back : tie.Need-shared-slice-read-back
-shared-slice-read-back c = omega (arith, long (c .before .before .before .before .before), small (c .before .before .before .before .before), c .before .before .before .before .if2 .left)
+word-in-requires-3 : tie.Need-word-in-requires-3
+word-in-requires-3 c κs = omega (arith, long (c .before .before .before .before), small (c .before .before .before .before), c .before .before .before .if2 .left)
 
 returns-3 : tie.Need-returns-3
 returns-3 c =
     let f = c .before .before .before .before .before in
     let k = known f in
-    back-tested _ _ _ (k .sound) (k .size) (k .place) (k .half) (k .frontier) (k .other .0) (k .other .1) (c .before .before .before .before .if2 .left) (c .before .before .before .get-word .ensures _ _)
+    back-tested _ _ _ (k .sound) (k .size) (k .place) (k .frontier) (k .other .0) (k .other .1) (c .before .before .before .before .if2 .left)
+    (c .before .before .before .pending-word .ensures _ _)
+    (c .before .before .word-in .ensures ∙ word-laid _ _ _ _ _ _ shapeAt _ _ (k .half) (k .place))
+    (c .before .word-in2 .ensures ∙ word-laid _ _ _ _ _ _ colourAt _ _ (k .half) (k .place))
+    (c .word-in3 .ensures ∙ word-laid _ _ _ _ _ _ replicaAt _ _ (k .half) (k .place))
 
 pub points-back-spec : {M : Type 1} → statement M
 points-back-spec =
@@ -133,14 +130,11 @@ points-back-spec =
     frontier-of-requires
     add-if2
     returns-2
-    get-word-requires
-    add-copied
-    mul-copied
-    shared-slice-read-copied
-    add-colour
-    mul-colour
-    shared-slice-read-colour
-    add-back
-    mul-back
-    shared-slice-read-back
+    pending-word-requires
+    add-word-in
+    word-in-requires
+    add-word-in-2
+    word-in-requires-2
+    add-word-in-3
+    word-in-requires-3
     returns-3)

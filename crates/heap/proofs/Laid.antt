@@ -1,0 +1,91 @@
+-- Halves with pending words written: their lengths, each word, and one pending word after another.
+use Prim.Native.Nat.{ℕ, suc, _+_, _%_, _≤_, _<_}
+use mathlib.Core.Path.{_≡_, refl, _∙_}
+use mathlib.Core.Bool.{Bool, true, false, cond, _&&_}
+use mathlib.Core.List.{List, [], _∷_}
+use native.Mathlib.Omega.{arith}
+use lib.Dec.{eqb}
+use lib.ListN.{length, getD, set, drop, length-set, length-drop}
+use lib.Seq.{drop-cons, getD-set-same, getD-set-other}
+use borrow.Author.Tests.{eq-eqb, ne-eqb}
+use Rattle.rules.specs.Memory.{half, halfOf, wordOf, inHalf, header, word, sound}
+use Rattle.rules.proofs.memory.Cases.{eq-or}
+use Rattle.heap.specs.View.{memory, Inside}
+use Rattle.heap.specs.Pending.{laid, memoryWith, seen}
+use Rattle.heap.proofs.Halves.{inside-kept}
+use Rattle.heap.proofs.Soundness.{header-inside}
+
+-- one word
+one-length : (b : Bool) (ws : List ℕ) (k x : ℕ) → length (cond b (set ws k x) ws) ≡ length ws
+one-length true ws k x = length-set ws k x
+one-length false ws k x = refl
+
+one-seen : (b : Bool) (ws : List ℕ) (j x k : ℕ) → k < length ws → getD (cond b (set ws j x) ws) k 0 ≡ cond (b && eqb j k) x (getD ws k 0)
+one-seen false ws j x k l = refl
+one-seen true ws j x k l = eq-or j k
+    (λ e. rw (eq-eqb j k e, e) (getD-set-same ws k x 0 l))
+    (λ n. rw (ne-eqb j k n) (getD-set-other ws j k x 0 (λ z. n (omega arith))))
+
+-- all of them; none
+pub laid-none : (h : ℕ) (ws : List ℕ) → laid h [] ws ≡ ws
+unfolding laid
+laid-none h ws = refl
+
+pub laid-length : (h : ℕ) (xs ws : List ℕ) → length (laid h xs ws) ≡ length ws
+unfolding laid
+laid-length h [] ws = refl
+laid-length h (a ∷ []) ws = refl
+laid-length h (a ∷ x ∷ xs) ws = laid-length h xs (cond (inHalf h a) (set ws (wordOf a) x) ws) ∙ one-length (inHalf h a) ws (wordOf a) x
+
+pub laid-seen : (h : ℕ) (xs ws : List ℕ) (k : ℕ) → k < length ws → getD (laid h xs ws) k 0 ≡ seen h xs k (getD ws k 0)
+unfolding laid seen
+laid-seen h [] ws k l = refl
+laid-seen h (a ∷ []) ws k l = refl
+laid-seen h (a ∷ x ∷ xs) ws k l =
+    let e = one-length (inHalf h a) ws (wordOf a) x in
+    rw (← one-seen (inHalf h a) ws (wordOf a) x k l) (laid-seen h xs (cond (inHalf h a) (set ws (wordOf a) x) ws) k (omega arith))
+
+-- the half of a reference
+both-laid : (h : ℕ) (xs h0 h1 : List ℕ) → h < 2 → cond (eqb h 0) (laid 0 xs h0) (laid 1 xs h1) ≡ laid h xs (cond (eqb h 0) h0 h1)
+both-laid h xs h0 h1 two = eq-or h 0
+    (λ e. rw (eq-eqb h 0 e, e))
+    (λ n. let e : h ≡ 1 = omega arith in rw (ne-eqb h 0 n, e))
+
+half-laid : (xs h0 h1 : List ℕ) (f0 f1 v : ℕ)
+    → half (memory (laid 0 xs h0) (laid 1 xs h1) f0 f1) (halfOf v) ≡ laid (halfOf v) xs (half (memory h0 h1 f0 f1) (halfOf v))
+unfolding half halfOf
+half-laid xs h0 h1 f0 f1 v = both-laid _ xs h0 h1 (omega arith)
+
+-- a word of the half of v
+pub word-laid : (xs h0 h1 : List ℕ) (f0 f1 v j at : ℕ) (W : List ℕ) → W ≡ half (memory h0 h1 f0 f1) (halfOf v) → at ≡ wordOf v
+    → getD (laid (v % 2) xs W) (at + j) 0 ≡ word (memoryWith xs h0 h1 f0 f1) v j
+unfolding word halfOf
+word-laid xs h0 h1 f0 f1 v j at W e a = rw (half-laid xs h0 h1 f0 f1 v, ← e, a)
+
+-- a record's words stay inside
+pub laid-inside : (xs h0 h1 : List ℕ) (v j : ℕ) → Inside (laid 0 xs h0) (laid 1 xs h1) v j → Inside h0 h1 v j
+laid-inside xs h0 h1 v j i = inside-kept (laid 0 xs h0) (laid 1 xs h1) h0 h1 v j (omega (arith, laid-length 0 xs h0)) (omega (arith, laid-length 1 xs h1)) i
+
+pub header-laid : (xs h0 h1 : List ℕ) (f0 f1 v : ℕ) → sound (memoryWith xs h0 h1 f0 f1) v ≡ true → f0 ≤ length h0 → f1 ≤ length h1
+    → (j : ℕ) → j < header → Inside h0 h1 v j
+header-laid xs h0 h1 f0 f1 v s a b j l =
+    laid-inside xs h0 h1 v j (header-inside _ _ f0 f1 v s (omega (arith, laid-length 0 xs h0)) (omega (arith, laid-length 1 xs h1)) j l)
+
+-- ---- one pending word after another
+
+pub seen-on : (h : ℕ) (xs : List ℕ) (i k w : ℕ) → i + 2 ≤ length xs
+    → seen h (drop i xs) k w ≡ seen h (drop (i + 2) xs) k (cond (inHalf h (getD xs i 0) && eqb (wordOf (getD xs i 0)) k) (getD xs (i + 1) 0) w)
+unfolding seen
+seen-on h xs i k w l = 
+    let e : i + 1 ≡ suc i = omega arith in
+    let d : i + 2 ≡ suc (suc i) = omega arith in
+    rw (drop-cons xs i 0 (omega arith), drop-cons xs (suc i) 0 (omega arith), e, d)
+
+seen-short : (h : ℕ) (ys : List ℕ) (k w : ℕ) → length ys < 2 → seen h ys k w ≡ w
+unfolding seen
+seen-short h [] k w l = refl
+seen-short h (a ∷ []) k w l = refl
+seen-short h (a ∷ x ∷ ys) k w l = absurd (omega arith)
+
+pub seen-last : (h : ℕ) (xs : List ℕ) (i k w : ℕ) → length xs < i + 2 → seen h (drop i xs) k w ≡ w
+seen-last h xs i k w l = seen-short h (drop i xs) k w (omega (arith, length-drop i xs))

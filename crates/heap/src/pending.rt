@@ -1,0 +1,59 @@
+// Words that are going to be written, and words read through them. Pending words are a row of numbers: for each word its reference (null
+// for none) and what it gets, in the order in which they will be written.
+ghost use mathlib.Core.Path.{_≡_};
+ghost use Prim.Native.Nat.{ℕ, _<_};
+ghost use mathlib.Core.Bool.{cond, _&&_};
+ghost use lib.Dec.{eqb};
+ghost use lib.ListN.{length, getD};
+ghost use Rattle.rules.specs.Memory.{inHalf, wordOf, word};
+ghost use Rattle.heap.specs.View.{Inside};
+ghost use Rattle.heap.specs.Pending.{laid, memoryWith, seen};
+use crate::words::half_of;
+use crate::words::word_of;
+
+// y where a is the reference of word `at` of half h, else x.
+fn over(a: u32, y: u32, h: u32, at: usize, x: u32) -> u32
+    ensures { λ r. ⌜ r ≡ cond (inHalf h a && eqb (wordOf a) at) y x ⌝ }
+{
+    if a < 2 {
+        return x;
+    }
+    let k = word_of(a);
+    if (a % 2 == h) & (k == at) {
+        return y;
+    }
+    x
+}
+
+// Word `at` of half h with the pending words written, where it is x before that.
+fn seen_word(pending: &[u32], h: u32, at: usize, x: u32) -> u32
+    ensures { λ r. ⌜ r ≡ seen h (now (pending .entry)) at x ⌝ }
+{
+    let n = pending.len();
+    let mut word = x;
+    let mut i: usize = 0;
+    while 2 <= n - i {
+        word = over(pending[i], pending[i + 1], h, at, word);
+        i += 2;
+    }
+    word
+}
+
+// Word `at` of a half, half h, with the pending words written.
+pub(crate) fn word_in(pending: &[u32], half: &[u32], h: u32, at: usize) -> u32
+    requires { ⌜ at < length (now half) ⌝ }
+    ensures { λ r. ⌜ r ≡ getD (laid h (now (pending .entry)) (now (half .entry))) at 0 ⌝ }
+{
+    let x = half[at];
+    seen_word(pending, h, at, x)
+}
+
+// Word j of the record that v names, with the pending words written.
+pub(crate) fn pending_word<'a>(pending: &[u32], h0: &'a [u32], h1: &'a [u32], v: u32, j: usize) -> u32
+    requires { ⌜ Inside (now h0) (now h1) v j ⌝ }
+    ensures { λ r. ⌜ ((f0 f1 : ℕ) → r ≡ word (memoryWith (now (pending .entry)) (now (h0 .entry)) (now (h1 .entry)) f0 f1) v j) ⌝ }
+{
+    let at = word_of(v);
+    let half = half_of(h0, h1, v);
+    word_in(pending, half, v % 2, at + j)
+}
