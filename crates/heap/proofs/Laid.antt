@@ -8,12 +8,13 @@ use lib.Dec.{eqb}
 use lib.ListN.{length, getD, set, drop, length-set, length-drop}
 use lib.Seq.{drop-cons, getD-set-same, getD-set-other}
 use borrow.Author.Tests.{eq-eqb, ne-eqb}
-use Rattle.rules.specs.Memory.{half, halfOf, wordOf, inHalf, header, word, sound}
+use Rattle.rules.specs.Memory.{half, halfOf, wordOf, inHalf, header, word, refs, sound}
 use Rattle.rules.proofs.memory.Cases.{eq-or}
 use Rattle.heap.specs.View.{memory, Inside}
 use Rattle.heap.specs.Pending.{laid, memoryWith, seen}
 use Rattle.heap.proofs.Halves.{inside-kept}
 use Rattle.heap.proofs.Soundness.{header-inside}
+use Rattle.heap.proofs.Fields.{ref-inside}
 
 -- one word
 one-length : (b : Bool) (ws : List ℕ) (k x : ℕ) → length (cond b (set ws k x) ws) ≡ length ws
@@ -66,17 +67,26 @@ word-laid xs h0 h1 f0 f1 v j at W e a = rw (half-laid xs h0 h1 f0 f1 v, ← e, a
 pub laid-inside : (xs h0 h1 : List ℕ) (v j : ℕ) → Inside (laid 0 xs h0) (laid 1 xs h1) v j → Inside h0 h1 v j
 laid-inside xs h0 h1 v j i = inside-kept (laid 0 xs h0) (laid 1 xs h1) h0 h1 v j (omega (arith, laid-length 0 xs h0)) (omega (arith, laid-length 1 xs h1)) i
 
-pub header-laid : (xs h0 h1 : List ℕ) (f0 f1 v : ℕ) → sound (memoryWith xs h0 h1 f0 f1) v ≡ true → f0 ≤ length h0 → f1 ≤ length h1
-    → (j : ℕ) → j < header → Inside h0 h1 v j
-header-laid xs h0 h1 f0 f1 v s a b j l =
-    laid-inside xs h0 h1 v j (header-inside _ _ f0 f1 v s (omega (arith, laid-length 0 xs h0)) (omega (arith, laid-length 1 xs h1)) j l)
+-- the words of a record that is sound with them written
+module _ (xs h0 h1 : List ℕ) (f0 f1 v : ℕ) (s : sound (memoryWith xs h0 h1 f0 f1) v ≡ true) (a : f0 ≤ length h0) (b : f1 ≤ length h1) where
+  front0 : f0 ≤ length (laid 0 xs h0)
+  front0 = omega (arith, laid-length 0 xs h0)
+
+  front1 : f1 ≤ length (laid 1 xs h1)
+  front1 = omega (arith, laid-length 1 xs h1)
+
+  pub header-laid : (j : ℕ) → j < header → Inside h0 h1 v j
+  header-laid j l = laid-inside xs h0 h1 v j (header-inside _ _ f0 f1 v s front0 front1 j l)
+
+  pub ref-laid : (i : ℕ) → i < refs (memoryWith xs h0 h1 f0 f1) v → Inside h0 h1 v (header + i)
+  ref-laid i l = laid-inside xs h0 h1 v (header + i) (ref-inside _ _ f0 f1 v s front0 front1 i l)
 
 -- ---- one pending word after another
 
 pub seen-on : (h : ℕ) (xs : List ℕ) (i k w : ℕ) → i + 2 ≤ length xs
     → seen h (drop i xs) k w ≡ seen h (drop (i + 2) xs) k (cond (inHalf h (getD xs i 0) && eqb (wordOf (getD xs i 0)) k) (getD xs (i + 1) 0) w)
 unfolding seen
-seen-on h xs i k w l = 
+seen-on h xs i k w l =
     let e : i + 1 ≡ suc i = omega arith in
     let d : i + 2 ≡ suc (suc i) = omega arith in
     rw (drop-cons xs i 0 (omega arith), drop-cons xs (suc i) 0 (omega arith), e, d)

@@ -3,9 +3,9 @@
 -- for callers: which half, what following found, its fields, answers taken apart, what there is to shade, what a plan writes, room for
 -- a record
 pub mod Halves
-pub mod Laid
 pub mod Soundness
 pub mod Fields
+pub mod Laid
 pub mod Answers
 pub mod Passed
 pub mod ToShade

@@ -49,7 +49,13 @@ pub(crate) fn word_in(pending: &[u32], half: &[u32], h: u32, at: usize) -> u32
 }
 
 // Word j of the record that v names, with the pending words written.
-pub(crate) fn pending_word<'a>(pending: &[u32], h0: &'a [u32], h1: &'a [u32], v: u32, j: usize) -> u32
+pub(crate) fn pending_word<'a>(
+    pending: &[u32],
+    h0: &'a [u32],
+    h1: &'a [u32],
+    v: u32,
+    j: usize,
+) -> u32
     requires { ⌜ Inside (now h0) (now h1) v j ⌝ }
     ensures { λ r. ⌜ ((f0 f1 : ℕ) → r ≡ word (memoryWith (now (pending .entry)) (now (h0 .entry)) (now (h1 .entry)) f0 f1) v j) ⌝ }
 {

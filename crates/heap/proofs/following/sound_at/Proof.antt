@@ -30,9 +30,10 @@ words : (c : tie.After-word-in2)
     (c .before .word-in .result ≡ word M (a .v) shapeAt) × (c .word-in2 .result ≡ colour M (a .v))
 unfolding colour
 words c =
-    let h = c .before .before .before .before in
-    (c .before .word-in .ensures ∙ word-laid _ _ _ _ _ _ shapeAt _ _ (h .half-of .ensures _ _) (h .before .word-of .ensures),
-    c .word-in2 .ensures ∙ word-laid _ _ _ _ _ _ colourAt _ _ (h .half-of .ensures _ _) (h .before .word-of .ensures))
+    let h = c .before .before .before .before in (
+      c .before .word-in .ensures ∙ word-laid _ _ _ _ _ _ shapeAt _ _ (h .half-of .ensures _ _) (h .before .word-of .ensures),
+      c .word-in2 .ensures ∙ word-laid _ _ _ _ _ _ colourAt _ _ (h .half-of .ensures _ _) (h .before .word-of .ensures),
+    )
 
 returns : tie.Need-returns
 returns c = sound-none _ _ (c .if1 .taken)

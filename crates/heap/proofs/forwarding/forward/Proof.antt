@@ -1,26 +1,18 @@
--- Null and references into tospace stay, tested as the rules do; all others go by other_copy's contract.
-use Rattle.rules.specs.Memory.{forward}
+-- No word is pending.
+use Rattle.heap.proofs.Laid.{laid-none}
 use borrow.Author.Needs.{needs}
 use Rattle.heap.proofs.forwarding.forward.Statement.{statement}
 use Rattle.heap.proofs.forwarding.forward.Tie as tie
 
-other-half-requires : tie.Need-other-half-requires
-other-half-requires c κs = search needs
+slice-aggregate-forward-pending : tie.Need-slice-aggregate-forward-pending
+slice-aggregate-forward-pending c = search needs
 
-in-half-requires : tie.Need-in-half-requires
-in-half-requires c κs = search needs
+forward-pending-requires : tie.Need-forward-pending-requires
+forward-pending-requires c κs = search needs
 
 returns : tie.Need-returns
-unfolding forward
-returns c = rw (← c .before .before .other-half .ensures, ← c .before .in-half .ensures, c .if1 .taken)
-
-other-copy-requires : tie.Need-other-copy-requires
-other-copy-requires c κs = search needs
-
-returns-2 : tie.Need-returns-2
-unfolding forward
-returns-2 c = rw (← c .before .before .before .other-half .ensures, ← c .before .before .in-half .ensures, c .before .if1 .left) (c .other-copy .ensures)
+returns c = rw (laid-none 0 _, laid-none 1 _) at (c .forward-pending .ensures)
 
 pub forward-spec : {M : Type 1} → statement M
 forward-spec =
-    tie.close (tie.spec other-half-requires in-half-requires returns other-copy-requires returns-2)
+    tie.close (tie.spec slice-aggregate-forward-pending forward-pending-requires returns)

@@ -12,7 +12,7 @@ shading-both-requires c κs = search needs
 
 returns : tie.Need-returns
 unfolding barrierShades
-returns c = rw (c .before .before .before .before .pre .1, ← c .before .overwritten .ensures) (c .shading-both .ensures)
+returns c = rw (c .before .before .before .before .before .pre .1, ← c .before .overwritten .ensures) (c .shading-both .ensures)
 
 pub barrier-shades-spec : {M : Type 1} → statement M
 barrier-shades-spec = tie.close (tie.spec overwritten-requires shading-both-requires returns)

@@ -1,24 +1,18 @@
--- Null, a white record, or one of another colour.
-use mathlib.Core.Path.{sym}
-use borrow.Author.Tests.{eq-eqb, ne-eqb}
-use Rattle.rules.specs.Memory.{colour}
-use Rattle.heap.proofs.ToShade.{null-white}
+-- No word is pending.
+use Rattle.heap.proofs.Laid.{laid-none}
+use borrow.Author.Needs.{needs}
 use Rattle.heap.proofs.shades.if_white.Statement.{statement}
 use Rattle.heap.proofs.shades.if_white.Tie as tie
 
+slice-aggregate-if-white-pending : tie.Need-slice-aggregate-if-white-pending
+slice-aggregate-if-white-pending c = search needs
+
+if-white-pending-requires : tie.Need-if-white-pending-requires
+if-white-pending-requires c κs = search needs
+
 returns : tie.Need-returns
-returns c = λ f0 f1. sym (null-white _ _ (c .if1 .taken))
-
-get-word-requires : tie.Need-get-word-requires
-get-word-requires c κs = c .before .before .before .pre (c .if1 .left)
-
-returns-2 : tie.Need-returns-2
-unfolding colour
-returns-2 c = λ f0 f1. rw (← c .before .get-word .ensures f0 f1, eq-eqb _ _ (c .if2 .taken))
-
-returns-3 : tie.Need-returns-3
-unfolding colour
-returns-3 c = λ f0 f1. rw (← c .before .get-word .ensures f0 f1, ne-eqb _ _ (c .if2 .left))
+returns c = λ f0 f1. rw (laid-none 0 _, laid-none 1 _) at (c .if-white-pending .ensures f0 f1)
 
 pub if-white-spec : {M : Type 1} → statement M
-if-white-spec = tie.close (tie.spec returns get-word-requires returns-2 returns-3)
+if-white-spec =
+    tie.close (tie.spec slice-aggregate-if-white-pending if-white-pending-requires returns)

@@ -15,7 +15,7 @@ returns-2 : tie.Need-returns-2
 returns-2 c = rw (ne-eqb _ _ (c .before .before .if1 .left)) (c .replica-word .ensures)
 
 returns-3 : tie.Need-returns-3
-returns-3 c = rw (ne-eqb _ _ (c .before .if1 .left)) (one-word _ _ _ _ (c .if2 .left) (c .before .before .before .before .pre .1))
+returns-3 c = rw (ne-eqb _ _ (c .before .if1 .left)) (one-word _ _ _ _ (c .if2 .left) (c .before .before .before .before .before .pre .1))
 
 pub copy-word-spec : {M : Type 1} → statement M
 copy-word-spec = tie.close (tie.spec returns replica-word-requires returns-2 returns-3)

@@ -5,12 +5,12 @@ use borrow.Author.Needs.{needs}
 use Rattle.heap.proofs.stores.own_word.Statement.{statement}
 use Rattle.heap.proofs.stores.own_word.Tie as tie
 
-forward-requires : tie.Need-forward-requires
-forward-requires c κs = search needs
+forward-pending-requires : tie.Need-forward-pending-requires
+forward-pending-requires c κs = search needs
 
 returns : tie.Need-returns
 unfolding ownWord
-returns c = rw (eq-eqb _ _ (c .before .if1 .taken)) (c .forward .ensures)
+returns c = rw (eq-eqb _ _ (c .before .if1 .taken)) (c .forward-pending .ensures)
 
 other-half-requires : tie.Need-other-half-requires
 other-half-requires c κs = search needs
@@ -40,7 +40,7 @@ pub own-word-spec : {M : Type 1} → statement M
 own-word-spec =
     tie.close
     (tie.spec
-    forward-requires
+    forward-pending-requires
     returns
     other-half-requires
     in-half-requires

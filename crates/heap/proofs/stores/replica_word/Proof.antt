@@ -6,12 +6,12 @@ use borrow.Author.Needs.{needs}
 use Rattle.heap.proofs.stores.replica_word.Statement.{statement}
 use Rattle.heap.proofs.stores.replica_word.Tie as tie
 
-forward-requires : tie.Need-forward-requires
-forward-requires c κs = search needs
+forward-pending-requires : tie.Need-forward-pending-requires
+forward-pending-requires c κs = search needs
 
 returns : tie.Need-returns
 unfolding replicaWord halfOf
-returns c = rw (ne-eqb _ _ (c .before .if1 .taken)) (c .forward .ensures)
+returns c = rw (ne-eqb _ _ (c .before .if1 .taken)) (c .forward-pending .ensures)
 
 in-half-requires : tie.Need-in-half-requires
 in-half-requires c κs = search needs
@@ -30,4 +30,4 @@ returns-3 c = rw (eq-eqb _ _ (c .before .before .if1 .left), ← c .before .in-h
 pub replica-word-spec : {M : Type 1} → statement M
 replica-word-spec =
     tie.close
-    (tie.spec forward-requires returns in-half-requires other-copy-requires returns-2 returns-3)
+    (tie.spec forward-pending-requires returns in-half-requires other-copy-requires returns-2 returns-3)

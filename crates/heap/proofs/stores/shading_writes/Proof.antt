@@ -2,7 +2,7 @@
 use Rattle.heap.proofs.Answers.{records-passed, records-refused}
 use Rattle.heap.proofs.Levels.{shades-low, own-itself}
 use Rattle.heap.proofs.Shadings.{first-record, second-record}
-use Rattle.heap.specs.View.{heap}
+use Rattle.heap.specs.Pending.{heapWith}
 use Rattle.rules.specs.Barriers.{putWrites}
 use borrow.Author.Needs.{needs}
 use Rattle.heap.proofs.stores.shading_writes.Statement.{statement}
@@ -24,11 +24,11 @@ returns c = rw (records-refused (c .before .before .barrier-shades .ensures) (c 
 returns-2 : tie.Need-returns-2
 unfolding putWrites
 returns-2 c =
-    let start = c .before .before .before .before .before .before in
+    let start = c .before .before .before .before .before .before .before in
     let a = start .args in
     rw (
       records-passed (c .before .before .before .barrier-shades .ensures) (c .before .first .given .1),
-      own-itself (heap (a .b) (a .h0 .now) (a .h1 .now)) (a .l) (a .q) (shades-low (a .l) (start .pre .1)) 0,
+      own-itself (heapWith (a .b) (a .pending .now) (a .h0 .now) (a .h1 .now)) (a .l) (a .q) (shades-low (a .l) (start .pre .1)) 0,
       first-record,
       second-record,
     )

@@ -9,9 +9,9 @@ use Rattle.rules.specs.Memory.{header, replicaAt, refs}
 use Rattle.rules.specs.Barriers.{shadesAt, replicaFor, ownWord, storeWrites}
 use Rattle.rules.specs.Claims.{CanFollow}
 use Rattle.rules.proofs.memory.Followed.{can-follow}
-use Rattle.heap.specs.View.{heap, Inside}
-use Rattle.heap.proofs.Soundness.{header-inside}
-use Rattle.heap.proofs.Fields.{ref-inside}
+use Rattle.heap.specs.View.{Inside}
+use Rattle.heap.specs.Pending.{heapWith}
+use Rattle.heap.proofs.Laid.{header-laid, ref-laid}
 use Rattle.heap.proofs.Answers.{word-passed, word-refused}
 use Rattle.heap.proofs.Levels.{unshaded, shades-low, as-put, as-word}
 use Rattle.heap.proofs.Replicas.{replica-written}
@@ -20,51 +20,51 @@ use Rattle.heap.proofs.stores.store_writes.Statement.{statement}
 use Rattle.heap.proofs.stores.store_writes.Tie as tie
 
 -- the record was followed, and has the field
-followed : (c : tie.Start) → CanFollow (heap (c .args .b) (c .args .h0 .now) (c .args .h1 .now) .memory) (c .args .v)
+followed : (c : tie.Start) → CanFollow (heapWith (c .args .b) (c .args .pending .now) (c .args .h0 .now) (c .args .h1 .now) .memory) (c .args .v)
 followed c = can-follow _ _ (c .pre .1)
 
 field : (c : tie.Start) → Inside (c .args .h0 .now) (c .args .h1 .now) (c .args .v) (header + c .args .i)
-field c = ref-inside _ _ _ _ _ (followed c .sound) (c .pre .0 .low) (c .pre .0 .high) _ (c .pre .2)
+field c = ref-laid _ _ _ _ _ _ (followed c .sound) (c .pre .0 .low) (c .pre .0 .high) _ (c .pre .2)
 
 -- past the test of the level: nothing is shaded
-plain : (c : tie.Else1) → shadesAt (c .before .before .before .before .args .l) ≡ false
+plain : (c : tie.Else1) → shadesAt (c .before .before .before .before .before .args .l) ≡ false
 plain c = sym (c .before .shades-at .ensures) ∙ c .if1 .left
 
 -- past the replica: the one that is written as well
-abbrev entry : tie.After-replica-for → tie.Start
-entry c = c .before .before .before .before .before .before
+abbrev entry : tie.After-replica-pending → tie.Start
+entry c = c .before .before .before .before .before .before .before
 
-replica : (c : tie.After-replica-for) → let a = entry c .args in
-    replicaFor (heap (a .b) (a .h0 .now) (a .h1 .now) .memory) refs (a .l) (a .v) (a .i) ≡ passed (c .replica-for .result)
+replica : (c : tie.After-replica-pending) → let a = entry c .args in
+    replicaFor (heapWith (a .b) (a .pending .now) (a .h0 .now) (a .h1 .now) .memory) refs (a .l) (a .v) (a .i) ≡ passed (c .replica-pending .result)
 replica c =
     let x = entry c in
     let b = x .args .b in
-    replica-written (followed x) false (x .args .l) (x .args .i) (x .pre .2) ∙ ap passed (sym (c .replica-for .ensures (b .frontier0) (b .frontier1)))
+    replica-written (followed x) false (x .args .l) (x .args .i) (x .pre .2) ∙ ap passed (sym (c .replica-pending .ensures (b .frontier0) (b .frontier1)))
 
 -- past the own word: the word for the record itself
-abbrev past : tie.After-own → tie.After-replica-for
+abbrev past : tie.After-own → tie.After-replica-pending
 past c = c .before .before .before
 
 own : (c : tie.After-own) → let a = entry (past c) .args in
-    ownWord (heap (a .b) (a .h0 .now) (a .h1 .now)) (a .l) (a .v) (a .q) ≡ passed (c .own .given .0 .0)
+    ownWord (heapWith (a .b) (a .pending .now) (a .h0 .now) (a .h1 .now)) (a .l) (a .v) (a .q) ≡ passed (c .own .given .0 .0)
 own c = word-passed (c .before .before .own-word .ensures) (c .own .given .1)
 
 shades-at-requires : tie.Need-shades-at-requires
 shades-at-requires c κs = search needs
 
-add-get-word : tie.Need-add-get-word
-add-get-word c = search needs
+add-pending-word : tie.Need-add-pending-word
+add-pending-word c = search needs
 
-get-word-requires : tie.Need-get-word-requires
-get-word-requires c κs = field (c .before .before .before .before)
+pending-word-requires : tie.Need-pending-word-requires
+pending-word-requires c κs = field (c .before .before .before .before .before)
 
 shading-writes-requires : tie.Need-shading-writes-requires
-shading-writes-requires c κs = (c .before .before .before .before .before .pre .0, sym (c .before .before .shades-at .ensures) ∙ c .before .if1 .taken)
+shading-writes-requires c κs = (c .before .before .before .before .before .before .pre .0, sym (c .before .before .shades-at .ensures) ∙ c .before .if1 .taken)
 
 returns : tie.Need-returns
 returns c =
     let t = c .before .before in
-    rw (← as-put _ _ _ (shades-low _ (sym (t .before .shades-at .ensures) ∙ t .if1 .taken)), ← c .before .get-word .ensures _ _) (c .shading-writes .ensures)
+    rw (← as-put _ _ _ (shades-low _ (sym (t .before .shades-at .ensures) ∙ t .if1 .taken)), ← c .before .pending-word .ensures _ _) (c .shading-writes .ensures)
 
 word-alone-requires : tie.Need-word-alone-requires
 word-alone-requires c κs = search needs
@@ -72,10 +72,10 @@ word-alone-requires c κs = search needs
 returns-2 : tie.Need-returns-2
 returns-2 c = c .word-alone .ensures ∙ sym (as-word _ _ _ (omega (arith, c .before .if2 .taken)) (plain (c .before .before)) _ _)
 
-replica-for-requires : tie.Need-replica-for-requires
-replica-for-requires c κs =
-    let x = c .before .before .before .before .before in
-    header-inside _ _ _ _ _ (followed x .sound) (x .pre .0 .low) (x .pre .0 .high) replicaAt (search needs)
+replica-pending-requires : tie.Need-replica-pending-requires
+replica-pending-requires c κs =
+    let x = c .before .before .before .before .before .before in
+    header-laid _ _ _ _ _ _ (followed x .sound) (x .pre .0 .low) (x .pre .0 .high) replicaAt (search needs)
 
 own-word-requires : tie.Need-own-word-requires
 own-word-requires c κs = search needs
@@ -120,13 +120,13 @@ store-writes-spec =
     tie.close
     (tie.spec
     shades-at-requires
-    add-get-word
-    get-word-requires
+    add-pending-word
+    pending-word-requires
     shading-writes-requires
     returns
     word-alone-requires
     returns-2
-    replica-for-requires
+    replica-pending-requires
     own-word-requires
     enum-known-own
     enum-told
