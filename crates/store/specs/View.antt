@@ -3,6 +3,7 @@ use Prim.Native.Nat.{ℕ}
 use mathlib.Core.List.{List}
 use Rattle.rules.specs.Refusals.{Outcome, answer}
 use Rattle.rules.specs.Control.{Store, Lengths}
+use Rattle.heap.specs.Pending.{laid}
 use Rattle.store.specs.declared.Control.{Control}
 use Rattle.store.specs.declared.Reply.{Reply}
 
@@ -20,6 +21,10 @@ view c h0 h1 l =
       globals = c .globals;
       sessions = c .sessions;
     }
+
+-- the same with pending words written
+abbrev pub viewWith : Control → List ℕ → List ℕ → List ℕ → List ℕ → Store
+viewWith c xs h0 h1 l = view c (laid 0 xs h0) (laid 1 xs h1) l
 
 -- what a call of the code leaves, with the words that it leaves
 abbrev pub outcome : Reply → List ℕ → List ℕ → List ℕ → Outcome Store

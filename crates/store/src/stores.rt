@@ -3,7 +3,7 @@
 ghost use mathlib.Core.Path.{_≡_};
 ghost use Rattle.rules.specs.Calls.{storePlan, putPlan};
 ghost use Rattle.rules.specs.Runs.{apply, StoreRef, Put};
-ghost use Rattle.store.specs.View.{view, outcome};
+ghost use Rattle.store.specs.View.{view, viewWith, outcome};
 ghost use Rattle.store.specs.Plans.{storing, putting};
 use crate::Control;
 use crate::Reply;
@@ -11,7 +11,7 @@ use crate::operands::Held;
 use crate::shade::shade_both;
 use heap::HEADER;
 use heap::Planned;
-use heap::following::follow;
+use heap::following::follow_pending;
 use heap::stores::put_writes;
 use heap::stores::store_writes;
 use heap::words::put_both;
@@ -24,9 +24,11 @@ pub enum Storing {
 }
 
 impl Control {
-    // The tests of a store, and what it writes.
-    fn store_plan<'a>(
+    // The tests of a store, and what it writes, with the pending words written before. It is the plan of a single store, where none is pending,
+    // and of each of several links.
+    pub(crate) fn store_plan<'a>(
         self,
+        pending: &[u32],
         h0: &'a [u32],
         h1: &'a [u32],
         list: &[u32],
@@ -35,7 +37,7 @@ impl Control {
         field: u32,
         from: u32,
     ) -> Storing
-        ensures { λ r. ⌜ storing r ≡ storePlan (view self (now (h0 .entry)) (now (h1 .entry)) (now (list .entry))) s register field from ⌝ }
+        ensures { λ r. ⌜ storing r ≡ storePlan (viewWith self (now (pending .entry)) (now (h0 .entry)) (now (h1 .entry)) (now (list .entry))) s register field from ⌝ }
     {
         let operands = match self.held(h0, h1, list, s, register, from) {
             Held::Refusal(n) => return Storing::Refusal(n),
@@ -44,15 +46,23 @@ impl Control {
         let v = operands.own;
         let f0 = self.cursor.frontier0;
         let f1 = self.cursor.frontier1;
-        let Followed::Sound(_, r, _) = follow(h0, h1, f0, f1, v) else {
+        let Followed::Sound(_, r, _) = follow_pending(pending, h0, h1, f0, f1, v) else {
             return Storing::Refusal(12);
         };
         if r <= field {
             return Storing::Refusal(13);
         }
         let b = self.bounds();
-        let Planned::Plan(w) = store_writes(b, h0, h1, operands.level, v, field, operands.other)
-        else {
+        let Planned::Plan(w) = store_writes(
+            pending,
+            b,
+            h0,
+            h1,
+            operands.level,
+            v,
+            field,
+            operands.other,
+        ) else {
             return Storing::Refusal(12);
         };
         Storing::Into(v, w)
@@ -72,7 +82,8 @@ impl Control {
         ensures { λ r. ⌜ outcome r (now (h0 .exit)) (now (h1 .exit)) (now (list .exit))
             ≡ apply (view self (now (h0 .entry)) (now (h1 .entry)) (now (list .entry))) (StoreRef s register field from) ⌝ }
     {
-        let plan = self.store_plan(h0, h1, list, s, register, field, from);
+        let none = [0u32; 0];
+        let plan = self.store_plan(&none, h0, h1, list, s, register, field, from);
         let answer = match plan {
             Storing::Refusal(n) => rules::Answer::Refused(n),
             Storing::Into(v, w) => {

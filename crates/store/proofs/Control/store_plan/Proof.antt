@@ -1,12 +1,22 @@
 -- The tests of a store in order, then what it writes.
-use Rattle.rules.specs.Calls.{storePlan}
-use Rattle.store.specs.View.{view}
+use mathlib.Core.Path.{_≡_}
+use Rattle.rules.specs.Calls.{operandsOf, storePlan}
+use Rattle.store.specs.View.{viewWith}
+use Rattle.store.specs.Plans.{tested}
 use Rattle.store.proofs.shading.Shade.{within}
 use Rattle.store.proofs.tests.Opening.{Opened, away, lent, unsound, opened, ref-out}
+use Rattle.store.proofs.calls.Pending.{held-laid, within-laid}
 use Rattle.store.proofs.calls.Store.{store-ready, plan-unwritable, plan-made}
 use borrow.Author.Needs.{needs}
 use Rattle.store.proofs.Control.store_plan.Statement.{statement}
 use Rattle.store.proofs.Control.store_plan.Tie as tie
+
+-- what `held` answered, of the store with the pending words written
+asked : (c : tie.After-held) → let a = c .before .before .before .before .before .args in
+    tested (c .held .result) ≡ operandsOf (viewWith (a .self) (a .pending .now) (a .h0 .now) (a .h1 .now) (a .list .now)) (a .s) (a .register) (a .from)
+asked c =
+    let a = c .before .before .before .before .before .args in
+    held-laid (c .held .result) (a .self) (a .pending .now) (a .h0 .now) (a .h1 .now) (a .list .now) (a .s) (a .register) (a .from) (c .held .ensures)
 
 held-requires : tie.Need-held-requires
 held-requires c κs = search needs
@@ -16,13 +26,13 @@ enum-known-n c = search needs
 
 returns : tie.Need-returns
 unfolding storePlan
-returns c = rw (away _ _ _ _ (c .before .before .before .held .ensures) (c .before .n .given .1))
+returns c = rw (away _ _ _ _ (asked (c .before .before .before)) (c .before .n .given .1))
 
 enum-known-operands : tie.Need-enum-known-operands
 enum-known-operands c = search needs
 
-follow-requires : tie.Need-follow-requires
-follow-requires c κs = lent _ _ _ _ (c .before .before .before .held .ensures) (c .before .operands .given .1)
+follow-pending-requires : tie.Need-follow-pending-requires
+follow-pending-requires c κs = lent _ _ _ _ (c .before .before .before .held .ensures) (c .before .operands .given .1)
 
 enum-known-r : tie.Need-enum-known-r
 enum-known-r c = search needs
@@ -34,17 +44,17 @@ returns-2 : tie.Need-returns-2
 unfolding storePlan
 returns-2 c =
     let x = c .before .before .before .before in
-    rw (unsound _ _ _ _ (x .before .before .held .ensures) (x .operands .given .1) (c .before .before .follow .ensures) (c .enum-told .given .1))
+    rw (unsound _ _ _ _ (asked (x .before .before)) (x .operands .given .1) (c .before .before .follow-pending .ensures) (c .enum-told .given .1))
 
 -- what the opening gives of the record found
 opening : (c : tie.After-r)
-    → let a = c .before .before .before .before .before .before .before .before .before .before .args in
+    → let a = c .before .before .before .before .before .before .before .before .before .before .before .args in
     let f = c .r .given .0 in
-    Opened (view (a .self) (a .h0 .now) (a .h1 .now) (a .list .now)) (a .s) (a .register) (a .from)
+    Opened (viewWith (a .self) (a .pending .now) (a .h0 .now) (a .h1 .now) (a .list .now)) (a .s) (a .register) (a .from)
     (c .before .before .before .before .operands .given .0 .0) (f .0) (f .1 .0) (f .1 .1 .0)
 opening c =
     let x = c .before .before .before .before in
-    opened _ _ _ _ (x .before .before .held .ensures) (x .operands .given .1) (c .before .before .follow .ensures) (c .r .given .1)
+    opened _ _ _ _ (asked (x .before .before)) (x .operands .given .1) (c .before .before .follow-pending .ensures) (c .r .given .1)
 
 returns-3 : tie.Need-returns-3
 unfolding storePlan
@@ -60,7 +70,7 @@ store-writes-requires c κs =
     let d = opening (c .before .before .before) in
     let e = c .bounds .ensures _ _ _ (d .known .lent2) in
     let q = store-ready d _ (c .before .if1 .left) e in
-    (within _ _ e (d .known), q .0, q .1)
+    (within-laid _ _ _ (within _ _ e (d .known)), q .0, q .1)
 
 enum-known-w : tie.Need-enum-known-w
 enum-known-w c = search needs
@@ -88,7 +98,7 @@ store-plan-spec =
     enum-known-n
     returns
     enum-known-operands
-    follow-requires
+    follow-pending-requires
     enum-known-r
     enum-told
     returns-2
