@@ -1,20 +1,34 @@
 -- Halves with pending words written: their lengths, each word, and one pending word after another.
 use Prim.Native.Nat.{ℕ, suc, _+_, _%_, _≤_, _<_}
 use mathlib.Core.Path.{_≡_, refl, _∙_}
-use mathlib.Core.Bool.{Bool, true, false, cond, _&&_}
+use mathlib.Core.Bool.{Bool, true, false, cond, not, _&&_, _||_, and-false}
 use mathlib.Core.List.{List, [], _∷_}
 use native.Mathlib.Omega.{arith}
-use lib.Dec.{eqb}
+use lib.Dec.{leb, ltb, eqb}
 use lib.ListN.{length, getD, set, drop, length-set, length-drop}
 use lib.Seq.{drop-cons, getD-set-same, getD-set-other}
-use borrow.Author.Tests.{eq-eqb, ne-eqb}
+use borrow.Author.Tests.{eq-eqb, ne-eqb, le-leb, lt-leb, ltb-true, ltb-false, not-true, not-false}
 use Rattle.rules.specs.Memory.{half, halfOf, wordOf, inHalf, header, word, refs, sound}
-use Rattle.rules.proofs.memory.Cases.{eq-or}
+use Rattle.rules.proofs.memory.Cases.{bool-or, eq-or, or-second, neither}
 use Rattle.heap.specs.View.{memory, Inside}
 use Rattle.heap.specs.Pending.{laid, memoryWith, seen}
 use Rattle.heap.proofs.Halves.{inside-kept}
 use Rattle.heap.proofs.Soundness.{header-inside}
 use Rattle.heap.proofs.Fields.{ref-inside}
+
+-- the test whether a reference names no word of half h
+pub elsewhere : (h a : ℕ) → (ltb a 2 || not (eqb (a % 2) h)) ≡ true → inHalf h a ≡ false
+unfolding inHalf halfOf
+elsewhere h a e = bool-or (ltb a 2)
+    (λ t. rw (lt-leb 2 a (ltb-true a 2 t)))
+    (λ f. rw (not-true (eqb (a % 2) h) (or-second (ltb a 2) (not (eqb (a % 2) h)) e f), and-false (leb 2 a)))
+
+pub here : (h a : ℕ) → (ltb a 2 || not (eqb (a % 2) h)) ≡ false → (2 ≤ a) × (inHalf h a ≡ true)
+unfolding inHalf halfOf
+here h a e =
+    let b = neither (ltb a 2) (not (eqb (a % 2) h)) e in
+    let two : 2 ≤ a = ltb-false a 2 (b .0) in
+    (two, rw (le-leb 2 a two, not-false (eqb (a % 2) h) (b .1)))
 
 -- one word
 one-length : (b : Bool) (ws : List ℕ) (k x : ℕ) → length (cond b (set ws k x) ws) ≡ length ws
@@ -99,3 +113,20 @@ seen-short h (a ∷ x ∷ ys) k w l = absurd (omega arith)
 
 pub seen-last : (h : ℕ) (xs : List ℕ) (i k w : ℕ) → length xs < i + 2 → seen h (drop i xs) k w ≡ w
 seen-last h xs i k w l = seen-short h (drop i xs) k w (omega (arith, length-drop i xs))
+
+pub laid-on : (h : ℕ) (xs : List ℕ) (i : ℕ) (ws : List ℕ) → i + 2 ≤ length xs
+    → laid h (drop i xs) ws ≡ laid h (drop (i + 2) xs) (cond (inHalf h (getD xs i 0)) (set ws (wordOf (getD xs i 0)) (getD xs (i + 1) 0)) ws)
+unfolding laid
+laid-on h xs i ws l =
+    let e : i + 1 ≡ suc i = omega arith in
+    let d : i + 2 ≡ suc (suc i) = omega arith in
+    rw (drop-cons xs i 0 (omega arith), drop-cons xs (suc i) 0 (omega arith), e, d)
+
+laid-short : (h : ℕ) (ys ws : List ℕ) → length ys < 2 → laid h ys ws ≡ ws
+unfolding laid
+laid-short h [] ws l = refl
+laid-short h (a ∷ []) ws l = refl
+laid-short h (a ∷ x ∷ ys) ws l = absurd (omega arith)
+
+pub laid-last : (h : ℕ) (xs : List ℕ) (i : ℕ) (ws : List ℕ) → length xs < i + 2 → laid h (drop i xs) ws ≡ ws
+laid-last h xs i ws l = laid-short h (drop i xs) ws (omega (arith, length-drop i xs))

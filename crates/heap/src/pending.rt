@@ -4,7 +4,7 @@ ghost use mathlib.Core.Path.{_≡_};
 ghost use Prim.Native.Nat.{ℕ, _<_};
 ghost use mathlib.Core.Bool.{cond, _&&_};
 ghost use lib.Dec.{eqb};
-ghost use lib.ListN.{length, getD};
+ghost use lib.ListN.{length, getD, set};
 ghost use Rattle.rules.specs.Memory.{inHalf, wordOf, word};
 ghost use Rattle.heap.specs.View.{Inside};
 ghost use Rattle.heap.specs.Pending.{laid, memoryWith, seen};
@@ -62,4 +62,30 @@ pub(crate) fn pending_word<'a>(
     let at = word_of(v);
     let half = half_of(h0, h1, v);
     word_in(pending, half, v % 2, at + j)
+}
+
+// Sets the word of a half, half h, that a names to x, where a names one of its words.
+fn put_in(half: &mut [u32], h: u32, a: u32, x: u32)
+    ensures { λ _. ⌜ now (half .exit) ≡ cond (inHalf h a) (set (now (half .entry)) (wordOf a) x) (now (half .entry)) ⌝ }
+{
+    if (a < 2) | (a % 2 != h) {
+        return;
+    }
+    let at = word_of(a);
+    if half.len() <= at {
+        return;
+    }
+    half[at] = x;
+}
+
+// Writes the pending words of a half, half h.
+pub fn lay(half: &mut [u32], h: u32, pending: &[u32])
+    ensures { λ _. ⌜ now (half .exit) ≡ laid h (now (pending .entry)) (now (half .entry)) ⌝ }
+{
+    let n = pending.len();
+    let mut i: usize = 0;
+    while 2 <= n - i {
+        put_in(half, h, pending[i], pending[i + 1]);
+        i += 2;
+    }
 }
