@@ -1,18 +1,18 @@
 -- Halves with pending words written: their lengths, each word, and one pending word after another.
-use Prim.Native.Nat.{ℕ, suc, _+_, _%_, _≤_, _<_}
+use Prim.Native.Nat.{ℕ, zero, suc, _+_, _-_, _*_, _/_, _%_, _≤_, _<_}
 use mathlib.Core.Path.{_≡_, refl, _∙_}
 use mathlib.Core.Bool.{Bool, true, false, cond, not, _&&_, _||_, and-false}
-use mathlib.Core.List.{List, [], _∷_}
+use mathlib.Core.List.{List, [], _∷_, _++_}
 use native.Mathlib.Omega.{arith}
 use lib.Dec.{leb, ltb, eqb}
 use lib.ListN.{length, getD, set, drop, length-set, length-drop}
 use lib.Seq.{drop-cons, getD-set-same, getD-set-other}
 use borrow.Author.Tests.{eq-eqb, ne-eqb, le-leb, lt-leb, ltb-true, ltb-false, not-true, not-false}
-use Rattle.rules.specs.Memory.{half, halfOf, wordOf, inHalf, header, word, refs, sound}
+use Rattle.rules.specs.Memory.{half, halfOf, wordOf, inHalf, header, word, put, refs, sound}
 use Rattle.rules.proofs.memory.Cases.{bool-or, eq-or, or-second, neither}
 use Rattle.heap.specs.View.{memory, Inside}
 use Rattle.heap.specs.Pending.{laid, memoryWith, seen}
-use Rattle.heap.proofs.Halves.{inside-kept}
+use Rattle.heap.proofs.Halves.{inside-kept, put-low, put-high}
 use Rattle.heap.proofs.Soundness.{header-inside}
 use Rattle.heap.proofs.Fields.{ref-inside}
 
@@ -59,6 +59,14 @@ laid-seen h (a ∷ []) ws k l = refl
 laid-seen h (a ∷ x ∷ xs) ws k l =
     let e = one-length (inHalf h a) ws (wordOf a) x in
     rw (← one-seen (inHalf h a) ws (wordOf a) x k l) (laid-seen h xs (cond (inHalf h a) (set ws (wordOf a) x) ws) k (omega arith))
+
+-- some after others, each with its word
+pub laid-append : (h m : ℕ) (xs ys ws : List ℕ) → length xs ≡ 2 * m → laid h (xs ++ ys) ws ≡ laid h ys (laid h xs ws)
+unfolding laid
+laid-append h m [] ys ws e = refl
+laid-append h zero (a ∷ xs) ys ws e = absurd (omega arith)
+laid-append h (suc m) (a ∷ []) ys ws e = absurd (omega arith)
+laid-append h (suc m) (a ∷ x ∷ xs) ys ws e = laid-append h m xs ys (cond (inHalf h a) (set ws (wordOf a) x) ws) (omega arith)
 
 -- the half of a reference
 both-laid : (h : ℕ) (xs h0 h1 : List ℕ) → h < 2 → cond (eqb h 0) (laid 0 xs h0) (laid 1 xs h1) ≡ laid h xs (cond (eqb h 0) h0 h1)
@@ -130,3 +138,22 @@ laid-short h (a ∷ x ∷ ys) ws l = absurd (omega arith)
 
 pub laid-last : (h : ℕ) (xs : List ℕ) (i : ℕ) (ws : List ℕ) → length xs < i + 2 → laid h (drop i xs) ws ≡ ws
 laid-last h xs i ws l = laid-short h (drop i xs) ws (omega (arith, length-drop i xs))
+
+-- ---- a pending word as a word put
+
+-- the reference of word j of the record v
+place-in : (h v j : ℕ) → 2 ≤ v → inHalf h (v + 2 * j) ≡ eqb (halfOf v) h
+unfolding inHalf halfOf
+place-in h v j two = let e : (v + 2 * j) % 2 ≡ v % 2 = omega arith in rw (le-leb 2 (v + 2 * j) (omega arith), e)
+
+place-word : (v j : ℕ) → 2 ≤ v → wordOf (v + 2 * j) ≡ wordOf v + j
+unfolding wordOf
+place-word v j two = omega arith
+
+pub laid-put : (xs : List ℕ) (h0 h1 : List ℕ) (f0 f1 v j x : ℕ) → 2 ≤ v
+    → let N = put (memory h0 h1 f0 f1) v j x in memoryWith ((v + 2 * j) ∷ x ∷ xs) h0 h1 f0 f1 ≡ memoryWith xs (N .half0) (N .half1) (N .frontier0) (N .frontier1)
+unfolding laid halfOf
+laid-put xs h0 h1 f0 f1 v j x two = eq-or (v % 2) 0
+    (λ e. rw (place-in 0 v j two, place-in 1 v j two, place-word v j two, e, ← put-low h0 h1 f0 f1 v j x e))
+    (λ n. let e : v % 2 ≡ 1 = omega arith in
+    rw (place-in 0 v j two, place-in 1 v j two, place-word v j two, ← put-high h0 h1 f0 f1 v j x n, e))

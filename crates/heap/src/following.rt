@@ -2,7 +2,7 @@
 ghost use mathlib.Core.Path.{_≡_};
 ghost use Prim.Native.Nat.{ℕ, _≤_};
 ghost use mathlib.Core.List.{List};
-ghost use lib.ListN.{length};
+ghost use lib.ListN.{length, take};
 ghost use mathlib.Core.Bool.{true};
 ghost use Rattle.rules.specs.Memory.{frontier, halfOf, size, sound, pointsBack, follow};
 ghost use Rattle.heap.specs.View.{memory, soundAt};
@@ -29,6 +29,7 @@ fn frontier_of(f0: usize, f1: usize, v: u32) -> usize
 // The place and the shape of the record that a reference names, where it is sound with the pending words written, or damage.
 fn sound_at<'a>(
     pending: &[u32],
+    filled: usize,
     h0: &'a [u32],
     h1: &'a [u32],
     f0: usize,
@@ -36,7 +37,7 @@ fn sound_at<'a>(
     v: u32,
 ) -> Followed
     requires { ⌜ (f0 ≤ length (now h0)) × (f1 ≤ length (now h1)) ⌝ }
-    ensures { λ r. ⌜ r ≡ soundAt (memoryWith (now (pending .entry)) (now (h0 .entry)) (now (h1 .entry)) f0 f1) v ⌝ }
+    ensures { λ r. ⌜ r ≡ soundAt (memoryWith (take filled (now (pending .entry))) (now (h0 .entry)) (now (h1 .entry)) f0 f1) v ⌝ }
 {
     if v < 2 {
         return Followed::Damage;
@@ -47,8 +48,8 @@ fn sound_at<'a>(
     if frontier < at + HEADER {
         return Followed::Damage;
     }
-    let shape = word_in(pending, half, v % 2, at + SHAPE_AT);
-    let colour = word_in(pending, half, v % 2, at + COLOUR_AT);
+    let shape = word_in(pending, filled, half, v % 2, at + SHAPE_AT);
+    let colour = word_in(pending, filled, half, v % 2, at + COLOUR_AT);
     let r = shape / 256;
     let p = shape % 256;
     let end = at + HEADER + (r as usize) + (p as usize);
@@ -63,6 +64,7 @@ fn sound_at<'a>(
 // word 0, and so as long, and with v as its replica word.
 fn points_back<'a>(
     pending: &[u32],
+    filled: usize,
     h0: &'a [u32],
     h1: &'a [u32],
     f0: usize,
@@ -71,9 +73,9 @@ fn points_back<'a>(
     v: u32,
     n: usize,
 ) -> bool
-    requires { ⌜ (f0 ≤ length (now h0)) × (f1 ≤ length (now h1)) × (sound (memoryWith (now pending) (now h0) (now h1) f0 f1) v ≡ true)
-        × (n ≡ size (memoryWith (now pending) (now h0) (now h1) f0 f1) v) ⌝ }
-    ensures { λ r. ⌜ r ≡ pointsBack (memoryWith (now (pending .entry)) (now (h0 .entry)) (now (h1 .entry)) f0 f1) w v ⌝ }
+    requires { ⌜ (f0 ≤ length (now h0)) × (f1 ≤ length (now h1)) × (sound (memoryWith (take filled (now pending)) (now h0) (now h1) f0 f1) v ≡ true)
+        × (n ≡ size (memoryWith (take filled (now pending)) (now h0) (now h1) f0 f1) v) ⌝ }
+    ensures { λ r. ⌜ r ≡ pointsBack (memoryWith (take filled (now (pending .entry))) (now (h0 .entry)) (now (h1 .entry)) f0 f1) w v ⌝ }
 {
     if (w < 2) | (w % 2 == v % 2) {
         return false;
@@ -85,10 +87,10 @@ fn points_back<'a>(
     if frontier < at + n {
         return false;
     }
-    let shape = pending_word(pending, h0, h1, v, SHAPE_AT);
-    let copied = word_in(pending, half, w % 2, at + SHAPE_AT);
-    let colour = word_in(pending, half, w % 2, at + COLOUR_AT);
-    let back = word_in(pending, half, w % 2, at + REPLICA_AT);
+    let shape = pending_word(pending, filled, h0, h1, v, SHAPE_AT);
+    let copied = word_in(pending, filled, half, w % 2, at + SHAPE_AT);
+    let colour = word_in(pending, filled, half, w % 2, at + COLOUR_AT);
+    let back = word_in(pending, filled, half, w % 2, at + REPLICA_AT);
     (copied == shape) & (colour <= BLACK) & (back == v)
 }
 
@@ -96,6 +98,7 @@ fn points_back<'a>(
 // there is one, points back.
 pub fn follow_pending<'a>(
     pending: &[u32],
+    filled: usize,
     h0: &'a [u32],
     h1: &'a [u32],
     f0: usize,
@@ -103,17 +106,17 @@ pub fn follow_pending<'a>(
     v: u32,
 ) -> Followed
     requires { ⌜ (f0 ≤ length (now h0)) × (f1 ≤ length (now h1)) ⌝ }
-    ensures { λ r. ⌜ r ≡ follow (memoryWith (now (pending .entry)) (now (h0 .entry)) (now (h1 .entry)) f0 f1) v ⌝ }
+    ensures { λ r. ⌜ r ≡ follow (memoryWith (take filled (now (pending .entry))) (now (h0 .entry)) (now (h1 .entry)) f0 f1) v ⌝ }
 {
-    let Followed::Sound(at, r, p) = sound_at(pending, h0, h1, f0, f1, v) else {
+    let Followed::Sound(at, r, p) = sound_at(pending, filled, h0, h1, f0, f1, v) else {
         return Followed::Damage;
     };
-    let w = pending_word(pending, h0, h1, v, REPLICA_AT);
+    let w = pending_word(pending, filled, h0, h1, v, REPLICA_AT);
     if w == 0 {
         return Followed::Sound(at, r, p);
     }
     let n = HEADER + (r as usize) + (p as usize);
-    let back = points_back(pending, h0, h1, f0, f1, w, v, n);
+    let back = points_back(pending, filled, h0, h1, f0, f1, w, v, n);
     if back {
         Followed::Sound(at, r, p)
     } else {
@@ -126,5 +129,5 @@ pub fn follow<'a>(h0: &'a [u32], h1: &'a [u32], f0: usize, f1: usize, v: u32) ->
     requires { ⌜ (f0 ≤ length (now h0)) × (f1 ≤ length (now h1)) ⌝ }
     ensures { λ r. ⌜ r ≡ follow (memory (now (h0 .entry)) (now (h1 .entry)) f0 f1) v ⌝ }
 {
-    follow_pending(&h0[..0], h0, h1, f0, f1, v)
+    follow_pending(h0, 0, h0, h1, f0, f1, v)
 }

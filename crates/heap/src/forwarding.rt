@@ -1,5 +1,6 @@
 // The other copy of a record.
 ghost use mathlib.Core.Path.{_≡_};
+ghost use lib.ListN.{take};
 ghost use Rattle.rules.specs.Memory.{inHalf, otherCopy, forward};
 ghost use Rattle.rules.specs.Phases.{otherHalf};
 ghost use Rattle.rules.specs.Barriers.{to};
@@ -29,19 +30,27 @@ pub fn other_half(h: u32) -> u32
 // The reference of the other copy of a record with the pending words written, or its own where it has no replica.
 pub(crate) fn other_copy<'a>(
     pending: &[u32],
+    filled: usize,
     b: Bounds,
     h0: &'a [u32],
     h1: &'a [u32],
     v: u32,
 ) -> Checked
     requires { ⌜ Within b (now h0) (now h1) ⌝ }
-    ensures { λ r. ⌜ checked r ≡ otherCopy (heapWith b (now (pending .entry)) (now (h0 .entry)) (now (h1 .entry)) .memory) v ⌝ }
+    ensures { λ r. ⌜ checked r ≡ otherCopy (heapWith b (take filled (now (pending .entry))) (now (h0 .entry)) (now (h1 .entry)) .memory) v ⌝ }
 {
-    let Followed::Sound(_, _, _) = follow_pending(pending, h0, h1, b.frontier0, b.frontier1, v)
-    else {
+    let Followed::Sound(_, _, _) = follow_pending(
+        pending,
+        filled,
+        h0,
+        h1,
+        b.frontier0,
+        b.frontier1,
+        v,
+    ) else {
         return Checked::Damage;
     };
-    let t = pending_word(pending, h0, h1, v, REPLICA_AT);
+    let t = pending_word(pending, filled, h0, h1, v, REPLICA_AT);
     if t == 0 {
         Checked::Word(v)
     } else {
@@ -52,21 +61,22 @@ pub(crate) fn other_copy<'a>(
 // A reference forwarded to tospace, with the pending words written.
 pub(crate) fn forward_pending<'a>(
     pending: &[u32],
+    filled: usize,
     b: Bounds,
     h0: &'a [u32],
     h1: &'a [u32],
     v: u32,
 ) -> Checked
     requires { ⌜ Within b (now h0) (now h1) ⌝ }
-    ensures { λ r. ⌜ checked r ≡ forward (heapWith b (now (pending .entry)) (now (h0 .entry)) (now (h1 .entry)) .memory)
-        (to (heapWith b (now (pending .entry)) (now (h0 .entry)) (now (h1 .entry)))) v ⌝ }
+    ensures { λ r. ⌜ checked r ≡ forward (heapWith b (take filled (now (pending .entry))) (now (h0 .entry)) (now (h1 .entry)) .memory)
+        (to (heapWith b (take filled (now (pending .entry))) (now (h0 .entry)) (now (h1 .entry)))) v ⌝ }
 {
     let tospace = other_half(b.from);
     let kept = in_half(tospace, v);
     if (v == 0) | kept {
         return Checked::Word(v);
     }
-    other_copy(pending, b, h0, h1, v)
+    other_copy(pending, filled, b, h0, h1, v)
 }
 
 // The same with the words as they are.
@@ -74,5 +84,5 @@ pub fn forward<'a>(b: Bounds, h0: &'a [u32], h1: &'a [u32], v: u32) -> Checked
     requires { ⌜ Within b (now h0) (now h1) ⌝ }
     ensures { λ r. ⌜ checked r ≡ forward (heap b (now (h0 .entry)) (now (h1 .entry)) .memory) (to (heap b (now (h0 .entry)) (now (h1 .entry)))) v ⌝ }
 {
-    forward_pending(&h0[..0], b, h0, h1, v)
+    forward_pending(h0, 0, b, h0, h1, v)
 }

@@ -1,5 +1,6 @@
 // Shading: the record to colour grey, with room for it in the grey list, and what a store or a put shades.
 ghost use mathlib.Core.Path.{_≡_};
+ghost use lib.ListN.{take};
 ghost use mathlib.Core.Bool.{true, cond};
 ghost use mathlib.Core.List.{List, [], _∷_};
 ghost use Prim.Native.Nat.{ℕ, _≤_};
@@ -22,14 +23,14 @@ pub enum Shaded {
 }
 
 // v where the record that it names is white with the pending words written, else null.
-fn if_white_pending<'a>(pending: &[u32], h0: &'a [u32], h1: &'a [u32], v: u32) -> u32
+fn if_white_pending<'a>(pending: &[u32], filled: usize, h0: &'a [u32], h1: &'a [u32], v: u32) -> u32
     requires { ⌜ ((v ≡ null → ⊥) → Inside (now h0) (now h1) v colourAt) ⌝ }
-    ensures { λ r. ⌜ ((f0 f1 : ℕ) → r ≡ ifWhite (memoryWith (now (pending .entry)) (now (h0 .entry)) (now (h1 .entry)) f0 f1) v) ⌝ }
+    ensures { λ r. ⌜ ((f0 f1 : ℕ) → r ≡ ifWhite (memoryWith (take filled (now (pending .entry))) (now (h0 .entry)) (now (h1 .entry)) f0 f1) v) ⌝ }
 {
     if v == 0 {
         return 0;
     }
-    let colour = pending_word(pending, h0, h1, v, COLOUR_AT);
+    let colour = pending_word(pending, filled, h0, h1, v, COLOUR_AT);
     if colour == WHITE {
         return v;
     }
@@ -41,22 +42,36 @@ pub fn if_white<'a>(h0: &'a [u32], h1: &'a [u32], v: u32) -> u32
     requires { ⌜ ((v ≡ null → ⊥) → Inside (now h0) (now h1) v colourAt) ⌝ }
     ensures { λ r. ⌜ ((f0 f1 : ℕ) → r ≡ ifWhite (memory (now (h0 .entry)) (now (h1 .entry)) f0 f1) v) ⌝ }
 {
-    if_white_pending(&h0[..0], h0, h1, v)
+    if_white_pending(h0, 0, h0, h1, v)
 }
 
 // The reference to shade with the pending words written, or null where there is nothing to do.
-fn to_shade_pending<'a>(pending: &[u32], b: Bounds, h0: &'a [u32], h1: &'a [u32], v: u32) -> Checked
+fn to_shade_pending<'a>(
+    pending: &[u32],
+    filled: usize,
+    b: Bounds,
+    h0: &'a [u32],
+    h1: &'a [u32],
+    v: u32,
+) -> Checked
     requires { ⌜ Within b (now h0) (now h1) ⌝ }
-    ensures { λ r. ⌜ checked r ≡ toShade (heapWith b (now (pending .entry)) (now (h0 .entry)) (now (h1 .entry)) .memory) v ⌝ }
+    ensures { λ r. ⌜ checked r ≡ toShade (heapWith b (take filled (now (pending .entry))) (now (h0 .entry)) (now (h1 .entry)) .memory) v ⌝ }
 {
     if v == 0 {
         return Checked::Word(0);
     }
-    let Followed::Sound(_, _, _) = follow_pending(pending, h0, h1, b.frontier0, b.frontier1, v)
-    else {
+    let Followed::Sound(_, _, _) = follow_pending(
+        pending,
+        filled,
+        h0,
+        h1,
+        b.frontier0,
+        b.frontier1,
+        v,
+    ) else {
         return Checked::Damage;
     };
-    let w = if_white_pending(pending, h0, h1, v);
+    let w = if_white_pending(pending, filled, h0, h1, v);
     Checked::Word(w)
 }
 
@@ -65,7 +80,7 @@ pub fn to_shade<'a>(b: Bounds, h0: &'a [u32], h1: &'a [u32], v: u32) -> Checked
     requires { ⌜ Within b (now h0) (now h1) ⌝ }
     ensures { λ r. ⌜ checked r ≡ toShade (heap b (now (h0 .entry)) (now (h1 .entry)) .memory) v ⌝ }
 {
-    to_shade_pending(&h0[..0], b, h0, h1, v)
+    to_shade_pending(h0, 0, b, h0, h1, v)
 }
 
 // What there is to shade of a reference, with room for it in the grey list.
@@ -100,6 +115,7 @@ fn listing(b: Bounds, first: u32, second: u32) -> Shaded
 // What there is to shade of two references with the pending words written, in their order, each record once, with room for all of it in the grey list.
 fn shading_both<'a>(
     pending: &[u32],
+    filled: usize,
     b: Bounds,
     h0: &'a [u32],
     h1: &'a [u32],
@@ -107,12 +123,12 @@ fn shading_both<'a>(
     w: u32,
 ) -> Shaded
     requires { ⌜ Within b (now h0) (now h1) ⌝ }
-    ensures { λ r. ⌜ shaded r ≡ shadingAll (heapWith b (now (pending .entry)) (now (h0 .entry)) (now (h1 .entry))) (v ∷ w ∷ []) ⌝ }
+    ensures { λ r. ⌜ shaded r ≡ shadingAll (heapWith b (take filled (now (pending .entry))) (now (h0 .entry)) (now (h1 .entry))) (v ∷ w ∷ []) ⌝ }
 {
-    let Checked::Word(first) = to_shade_pending(pending, b, h0, h1, v) else {
+    let Checked::Word(first) = to_shade_pending(pending, filled, b, h0, h1, v) else {
         return Shaded::Damage;
     };
-    let Checked::Word(second) = to_shade_pending(pending, b, h0, h1, w) else {
+    let Checked::Word(second) = to_shade_pending(pending, filled, b, h0, h1, w) else {
         return Shaded::Damage;
     };
     if (first == 0) | (first == second) {
@@ -141,6 +157,7 @@ fn overwritten(l: u32, old: u32) -> u32
 // What a store or a put of q over `old` shades at level l, one that shades: the overwritten reference before the stored one.
 pub(crate) fn barrier_shades<'a>(
     pending: &[u32],
+    filled: usize,
     b: Bounds,
     h0: &'a [u32],
     h1: &'a [u32],
@@ -149,8 +166,8 @@ pub(crate) fn barrier_shades<'a>(
     q: u32,
 ) -> Shaded
     requires { ⌜ Within b (now h0) (now h1) × (shadesAt l ≡ true) ⌝ }
-    ensures { λ r. ⌜ shaded r ≡ barrierShades (heapWith b (now (pending .entry)) (now (h0 .entry)) (now (h1 .entry))) l old q ⌝ }
+    ensures { λ r. ⌜ shaded r ≡ barrierShades (heapWith b (take filled (now (pending .entry))) (now (h0 .entry)) (now (h1 .entry))) l old q ⌝ }
 {
     let over = overwritten(l, old);
-    shading_both(pending, b, h0, h1, over, q)
+    shading_both(pending, filled, b, h0, h1, over, q)
 }

@@ -2,8 +2,10 @@
 -- shading.
 
 pub mod Pending
+pub mod Rows
 pub mod Load
 pub mod Store
+pub mod Links
 pub mod Write
 pub mod Stretch
 pub mod Same

@@ -15,6 +15,7 @@ mod sessions; // sessions.rt: the session tests, refusals 5 and 6; attach, detac
 mod registers; // registers.rt: move, clear, get
 mod shade; // shade.rt: shading
 mod stores; // stores.rt: store, put
+mod links; // links.rt: store of several links
 mod allocate; // allocate.rt: allocate
 mod operands; // operands.rt: the register of the record worked on, refusals 8 and 11
 mod fields; // fields.rt: load and read

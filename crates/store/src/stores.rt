@@ -1,6 +1,7 @@
 // The calls that write a reference: store, to a field of a record, and put, to a global. Each makes all its tests in a
 // plan that only reads, and then writes what the plan says.
 ghost use mathlib.Core.Path.{_≡_};
+ghost use lib.ListN.{take};
 ghost use Rattle.rules.specs.Calls.{storePlan, putPlan};
 ghost use Rattle.rules.specs.Runs.{apply, StoreRef, Put};
 ghost use Rattle.store.specs.View.{view, viewWith, outcome};
@@ -29,6 +30,7 @@ impl Control {
     pub(crate) fn store_plan<'a>(
         self,
         pending: &[u32],
+        filled: usize,
         h0: &'a [u32],
         h1: &'a [u32],
         list: &[u32],
@@ -37,7 +39,7 @@ impl Control {
         field: u32,
         from: u32,
     ) -> Storing
-        ensures { λ r. ⌜ storing r ≡ storePlan (viewWith self (now (pending .entry)) (now (h0 .entry)) (now (h1 .entry)) (now (list .entry))) s register field from ⌝ }
+        ensures { λ r. ⌜ storing r ≡ storePlan (viewWith self (take filled (now (pending .entry))) (now (h0 .entry)) (now (h1 .entry)) (now (list .entry))) s register field from ⌝ }
     {
         let operands = match self.held(h0, h1, list, s, register, from) {
             Held::Refusal(n) => return Storing::Refusal(n),
@@ -46,7 +48,7 @@ impl Control {
         let v = operands.own;
         let f0 = self.cursor.frontier0;
         let f1 = self.cursor.frontier1;
-        let Followed::Sound(_, r, _) = follow_pending(pending, h0, h1, f0, f1, v) else {
+        let Followed::Sound(_, r, _) = follow_pending(pending, filled, h0, h1, f0, f1, v) else {
             return Storing::Refusal(12);
         };
         if r <= field {
@@ -55,6 +57,7 @@ impl Control {
         let b = self.bounds();
         let Planned::Plan(w) = store_writes(
             pending,
+            filled,
             b,
             h0,
             h1,
@@ -83,7 +86,7 @@ impl Control {
             ≡ apply (view self (now (h0 .entry)) (now (h1 .entry)) (now (list .entry))) (StoreRef s register field from) ⌝ }
     {
         let none = [0u32; 0];
-        let plan = self.store_plan(&none, h0, h1, list, s, register, field, from);
+        let plan = self.store_plan(&none, 0, h0, h1, list, s, register, field, from);
         let answer = match plan {
             Storing::Refusal(n) => rules::Answer::Refused(n),
             Storing::Into(v, w) => {

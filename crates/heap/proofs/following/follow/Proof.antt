@@ -4,9 +4,6 @@ use borrow.Author.Needs.{needs}
 use Rattle.heap.proofs.following.follow.Statement.{statement}
 use Rattle.heap.proofs.following.follow.Tie as tie
 
-slice-aggregate-follow-pending : tie.Need-slice-aggregate-follow-pending
-slice-aggregate-follow-pending c = search needs
-
 follow-pending-requires : tie.Need-follow-pending-requires
 follow-pending-requires c κs = search needs
 
@@ -14,4 +11,4 @@ returns : tie.Need-returns
 returns c = rw (laid-none 0 _, laid-none 1 _) at (c .follow-pending .ensures)
 
 pub follow-spec : {M : Type 1} → statement M
-follow-spec = tie.close (tie.spec slice-aggregate-follow-pending follow-pending-requires returns)
+follow-spec = tie.close (tie.spec follow-pending-requires returns)

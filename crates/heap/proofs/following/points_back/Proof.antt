@@ -4,7 +4,7 @@ use Prim.Native.Nat.{_+_, _≤_}
 use mathlib.Core.Path.{_≡_, _∙_, ap}
 use mathlib.Core.Bool.{true}
 use native.Mathlib.Omega.{arith}
-use lib.ListN.{length}
+use lib.ListN.{length, take}
 use Rattle.rules.specs.Memory.{Memory, half, frontier, halfOf, wordOf, header, mostCount, shapeAt, colourAt, replicaAt, size, sound}
 use Rattle.rules.proofs.memory.Records.{size-fields}
 use Rattle.heap.specs.View.{memory}
@@ -21,7 +21,7 @@ abbrev entry : tie.After-frontier-of → tie.Start
 entry c = c .before .before .before .before .before .before .before
 
 abbrev lent : tie.After-frontier-of → Memory
-lent c = let a = entry c .args in memoryWith (a .pending .now) (a .h0 .now) (a .h1 .now) (a .f0) (a .f1)
+lent c = let a = entry c .args in memoryWith (take (a .filled) (a .pending .now)) (a .h0 .now) (a .h1 .now) (a .f0) (a .f1)
 
 -- what is known of w and of the half that it is in
 record Known (c : tie.After-frontier-of) : Type 0 where
@@ -46,7 +46,7 @@ known c =
       size = entry c .pre .3;
       place = c .before .before .word-of .ensures;
       half = c .before .half-of .ensures (a .f1) (a .f0) ∙ half-across (a .h0 .now) (a .h1 .now) (a .f0) (a .f1) (a .w) (a .v) (o .1);
-      frontier = c .frontier-of .ensures _ _ ∙ frontier-across (laid 0 (a .pending .now) (a .h0 .now)) (laid 1 (a .pending .now) (a .h1 .now)) (a .f0) (a .f1) (a .w) (a .v) (o .1);
+      frontier = c .frontier-of .ensures _ _ ∙ frontier-across (laid 0 (take (a .filled) (a .pending .now)) (a .h0 .now)) (laid 1 (take (a .filled) (a .pending .now)) (a .h1 .now)) (a .f0) (a .f1) (a .w) (a .v) (o .1);
     }
 
 -- the place and the words of the record are few, and the half reaches to its frontier

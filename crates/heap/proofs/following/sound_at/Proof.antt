@@ -2,7 +2,7 @@
 use Prim.Native.Nat.{_≤_}
 use mathlib.Core.Path.{_≡_, ap, _∙_}
 use native.Mathlib.Omega.{arith}
-use lib.ListN.{length}
+use lib.ListN.{length, take}
 use Rattle.rules.specs.Memory.{wordOf, colour, shapeAt, colourAt, word}
 use Rattle.heap.specs.Pending.{memoryWith}
 use Rattle.heap.proofs.Halves.{frontier-within}
@@ -26,7 +26,7 @@ half-long c =
 -- the words read are its shape word and its colour
 words : (c : tie.After-word-in2)
     → let a = c .before .before .before .before .before .before .before .before .before .before .args in
-    let M = memoryWith (a .pending .now) (a .h0 .now) (a .h1 .now) (a .f0) (a .f1) in
+    let M = memoryWith (take (a .filled) (a .pending .now)) (a .h0 .now) (a .h1 .now) (a .f0) (a .f1) in
     (c .before .word-in .result ≡ word M (a .v) shapeAt) × (c .word-in2 .result ≡ colour M (a .v))
 unfolding colour
 words c =

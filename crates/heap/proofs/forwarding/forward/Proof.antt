@@ -4,9 +4,6 @@ use borrow.Author.Needs.{needs}
 use Rattle.heap.proofs.forwarding.forward.Statement.{statement}
 use Rattle.heap.proofs.forwarding.forward.Tie as tie
 
-slice-aggregate-forward-pending : tie.Need-slice-aggregate-forward-pending
-slice-aggregate-forward-pending c = search needs
-
 forward-pending-requires : tie.Need-forward-pending-requires
 forward-pending-requires c κs = search needs
 
@@ -15,4 +12,4 @@ returns c = rw (laid-none 0 _, laid-none 1 _) at (c .forward-pending .ensures)
 
 pub forward-spec : {M : Type 1} → statement M
 forward-spec =
-    tie.close (tie.spec slice-aggregate-forward-pending forward-pending-requires returns)
+    tie.close (tie.spec forward-pending-requires returns)

@@ -4,9 +4,6 @@ use borrow.Author.Needs.{needs}
 use Rattle.heap.proofs.shades.if_white.Statement.{statement}
 use Rattle.heap.proofs.shades.if_white.Tie as tie
 
-slice-aggregate-if-white-pending : tie.Need-slice-aggregate-if-white-pending
-slice-aggregate-if-white-pending c = search needs
-
 if-white-pending-requires : tie.Need-if-white-pending-requires
 if-white-pending-requires c κs = search needs
 
@@ -15,4 +12,4 @@ returns c = λ f0 f1. rw (laid-none 0 _, laid-none 1 _) at (c .if-white-pending 
 
 pub if-white-spec : {M : Type 1} → statement M
 if-white-spec =
-    tie.close (tie.spec slice-aggregate-if-white-pending if-white-pending-requires returns)
+    tie.close (tie.spec if-white-pending-requires returns)

@@ -1,4 +1,5 @@
 -- Damage at the first reference that isn't sound; else by the records to shade: one at most, the second's, or both in order.
+use lib.ListN.{take}
 use mathlib.Core.Path.{_≡_, _∙_}
 use Rattle.rules.specs.Refusals.{passed}
 use Rattle.rules.specs.Barriers.{toShade}
@@ -11,14 +12,14 @@ use Rattle.heap.proofs.shades.shading_both.Tie as tie
 
 -- past the first test, and past the second: what there is to shade
 met : (c : tie.After-first) → let a = c .before .before .before .before .before .before .args in
-    toShade (heapWith (a .b) (a .pending .now) (a .h0 .now) (a .h1 .now) .memory) (a .v) ≡ passed (c .first .given .0 .0)
+    toShade (heapWith (a .b) (take (a .filled) (a .pending .now)) (a .h0 .now) (a .h1 .now) .memory) (a .v) ≡ passed (c .first .given .0 .0)
 met c = word-passed (c .before .before .to-shade-pending .ensures) (c .first .given .1)
 
 abbrev first : tie.After-second → tie.After-first
 first c = c .before .before .before .before
 
 met-too : (c : tie.After-second) → let a = first c .before .before .before .before .before .before .args in
-    toShade (heapWith (a .b) (a .pending .now) (a .h0 .now) (a .h1 .now) .memory) (a .w) ≡ passed (c .second .given .0 .0)
+    toShade (heapWith (a .b) (take (a .filled) (a .pending .now)) (a .h0 .now) (a .h1 .now) .memory) (a .w) ≡ passed (c .second .given .0 .0)
 met-too c = word-passed (c .before .before .to-shade-pending2 .ensures) (c .second .given .1)
 
 to-shade-pending-requires : tie.Need-to-shade-pending-requires

@@ -4,9 +4,6 @@ use borrow.Author.Needs.{needs}
 use Rattle.heap.proofs.shades.to_shade.Statement.{statement}
 use Rattle.heap.proofs.shades.to_shade.Tie as tie
 
-slice-aggregate-to-shade-pending : tie.Need-slice-aggregate-to-shade-pending
-slice-aggregate-to-shade-pending c = search needs
-
 to-shade-pending-requires : tie.Need-to-shade-pending-requires
 to-shade-pending-requires c κs = search needs
 
@@ -15,4 +12,4 @@ returns c = rw (laid-none 0 _, laid-none 1 _) at (c .to-shade-pending .ensures)
 
 pub to-shade-spec : {M : Type 1} → statement M
 to-shade-spec =
-    tie.close (tie.spec slice-aggregate-to-shade-pending to-shade-pending-requires returns)
+    tie.close (tie.spec to-shade-pending-requires returns)

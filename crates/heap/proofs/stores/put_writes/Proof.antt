@@ -11,17 +11,11 @@ use Rattle.heap.proofs.stores.put_writes.Tie as tie
 shades-at-requires : tie.Need-shades-at-requires
 shades-at-requires c κs = search needs
 
-slice-aggregate-shading-writes : tie.Need-slice-aggregate-shading-writes
-slice-aggregate-shading-writes c = search needs
-
 shading-writes-requires : tie.Need-shading-writes-requires
-shading-writes-requires c κs = (c .before .before .before .before .before .pre, sym (c .before .before .shades-at .ensures) ∙ c .before .if1 .taken)
+shading-writes-requires c κs = (c .before .before .before .before .pre, sym (c .before .shades-at .ensures) ∙ c .if1 .taken)
 
 returns : tie.Need-returns
 returns c = rw (laid-none 0 _, laid-none 1 _) at (c .shading-writes .ensures)
-
-slice-aggregate-own-word : tie.Need-slice-aggregate-own-word
-slice-aggregate-own-word c = search needs
 
 own-word-requires : tie.Need-own-word-requires
 own-word-requires c κs = search needs
@@ -35,7 +29,7 @@ enum-told c = search needs
 returns-2 : tie.Need-returns-2
 unfolding putWrites
 returns-2 c =
-    let n = c .before .before .before .before in
+    let n = c .before .before .before in
     rw (unshaded _ _ _ _ (sym (n .before .shades-at .ensures) ∙ n .if1 .left), word-refused (rw (laid-none 0 _, laid-none 1 _) at (c .before .before .own-word .ensures)) (c .enum-told .given .1))
 
 word-alone-requires : tie.Need-word-alone-requires
@@ -44,7 +38,7 @@ word-alone-requires c κs = search needs
 returns-3 : tie.Need-returns-3
 unfolding putWrites
 returns-3 c =
-    let n = c .before .before .before .before .before .before in
+    let n = c .before .before .before .before .before in
     rw (unshaded _ _ _ _ (sym (n .before .shades-at .ensures) ∙ n .if1 .left), word-passed (rw (laid-none 0 _, laid-none 1 _) at (c .before .before .before .before .own-word .ensures)) (c .before .before .own .given .1)) (c .word-alone .ensures)
 
 pub put-writes-spec : {M : Type 1} → statement M
@@ -52,10 +46,8 @@ put-writes-spec =
     tie.close
     (tie.spec
     shades-at-requires
-    slice-aggregate-shading-writes
     shading-writes-requires
     returns
-    slice-aggregate-own-word
     own-word-requires
     enum-known-own
     enum-told

@@ -4,9 +4,6 @@ use borrow.Author.Needs.{needs}
 use Rattle.heap.proofs.stores.replica_for.Statement.{statement}
 use Rattle.heap.proofs.stores.replica_for.Tie as tie
 
-slice-aggregate-replica-pending : tie.Need-slice-aggregate-replica-pending
-slice-aggregate-replica-pending c = search needs
-
 replica-pending-requires : tie.Need-replica-pending-requires
 replica-pending-requires c κs = search needs
 
@@ -15,4 +12,4 @@ returns c = λ f0 f1. rw (laid-none 0 _, laid-none 1 _) at (c .replica-pending .
 
 pub replica-for-spec : {M : Type 1} → statement M
 replica-for-spec =
-    tie.close (tie.spec slice-aggregate-replica-pending replica-pending-requires returns)
+    tie.close (tie.spec replica-pending-requires returns)

@@ -1,4 +1,5 @@
 -- Damage, or the records to shade with q itself, which is what the own word is at these levels.
+use lib.ListN.{take}
 use Rattle.heap.proofs.Answers.{records-passed, records-refused}
 use Rattle.heap.proofs.Levels.{shades-low, own-itself}
 use Rattle.heap.proofs.Shadings.{first-record, second-record}
@@ -28,7 +29,7 @@ returns-2 c =
     let a = start .args in
     rw (
       records-passed (c .before .before .before .barrier-shades .ensures) (c .before .first .given .1),
-      own-itself (heapWith (a .b) (a .pending .now) (a .h0 .now) (a .h1 .now)) (a .l) (a .q) (shades-low (a .l) (start .pre .1)) 0,
+      own-itself (heapWith (a .b) (take (a .filled) (a .pending .now)) (a .h0 .now) (a .h1 .now)) (a .l) (a .q) (shades-low (a .l) (start .pre .1)) 0,
       first-record,
       second-record,
     )

@@ -1,5 +1,6 @@
 -- Levels 1 to 3 as a put over the field's word, level 0 the word alone; above, the replica that a record that was followed has, and the
 -- tests in order: damage at the first that fails, else the plan.
+use lib.ListN.{take}
 use Prim.Native.Nat.{_+_}
 use mathlib.Core.Path.{_≡_, _∙_, sym, ap}
 use mathlib.Core.Bool.{false}
@@ -20,7 +21,7 @@ use Rattle.heap.proofs.stores.store_writes.Statement.{statement}
 use Rattle.heap.proofs.stores.store_writes.Tie as tie
 
 -- the record was followed, and has the field
-followed : (c : tie.Start) → CanFollow (heapWith (c .args .b) (c .args .pending .now) (c .args .h0 .now) (c .args .h1 .now) .memory) (c .args .v)
+followed : (c : tie.Start) → CanFollow (heapWith (c .args .b) (take (c .args .filled) (c .args .pending .now)) (c .args .h0 .now) (c .args .h1 .now) .memory) (c .args .v)
 followed c = can-follow _ _ (c .pre .1)
 
 field : (c : tie.Start) → Inside (c .args .h0 .now) (c .args .h1 .now) (c .args .v) (header + c .args .i)
@@ -35,7 +36,7 @@ abbrev entry : tie.After-replica-pending → tie.Start
 entry c = c .before .before .before .before .before .before .before
 
 replica : (c : tie.After-replica-pending) → let a = entry c .args in
-    replicaFor (heapWith (a .b) (a .pending .now) (a .h0 .now) (a .h1 .now) .memory) refs (a .l) (a .v) (a .i) ≡ passed (c .replica-pending .result)
+    replicaFor (heapWith (a .b) (take (a .filled) (a .pending .now)) (a .h0 .now) (a .h1 .now) .memory) refs (a .l) (a .v) (a .i) ≡ passed (c .replica-pending .result)
 replica c =
     let x = entry c in
     let b = x .args .b in
@@ -46,7 +47,7 @@ abbrev past : tie.After-own → tie.After-replica-pending
 past c = c .before .before .before
 
 own : (c : tie.After-own) → let a = entry (past c) .args in
-    ownWord (heapWith (a .b) (a .pending .now) (a .h0 .now) (a .h1 .now)) (a .l) (a .v) (a .q) ≡ passed (c .own .given .0 .0)
+    ownWord (heapWith (a .b) (take (a .filled) (a .pending .now)) (a .h0 .now) (a .h1 .now)) (a .l) (a .v) (a .q) ≡ passed (c .own .given .0 .0)
 own c = word-passed (c .before .before .own-word .ensures) (c .own .given .1)
 
 shades-at-requires : tie.Need-shades-at-requires

@@ -1,5 +1,6 @@
 -- The tests of a store in order, then what it writes.
 use mathlib.Core.Path.{_≡_}
+use lib.ListN.{take}
 use Rattle.rules.specs.Calls.{operandsOf, storePlan}
 use Rattle.store.specs.View.{viewWith}
 use Rattle.store.specs.Plans.{tested}
@@ -13,10 +14,10 @@ use Rattle.store.proofs.Control.store_plan.Tie as tie
 
 -- what `held` answered, of the store with the pending words written
 asked : (c : tie.After-held) → let a = c .before .before .before .before .before .args in
-    tested (c .held .result) ≡ operandsOf (viewWith (a .self) (a .pending .now) (a .h0 .now) (a .h1 .now) (a .list .now)) (a .s) (a .register) (a .from)
+    tested (c .held .result) ≡ operandsOf (viewWith (a .self) (take (a .filled) (a .pending .now)) (a .h0 .now) (a .h1 .now) (a .list .now)) (a .s) (a .register) (a .from)
 asked c =
     let a = c .before .before .before .before .before .args in
-    held-laid (c .held .result) (a .self) (a .pending .now) (a .h0 .now) (a .h1 .now) (a .list .now) (a .s) (a .register) (a .from) (c .held .ensures)
+    held-laid (c .held .result) (a .self) (take (a .filled) (a .pending .now)) (a .h0 .now) (a .h1 .now) (a .list .now) (a .s) (a .register) (a .from) (c .held .ensures)
 
 held-requires : tie.Need-held-requires
 held-requires c κs = search needs
@@ -50,7 +51,7 @@ returns-2 c =
 opening : (c : tie.After-r)
     → let a = c .before .before .before .before .before .before .before .before .before .before .before .args in
     let f = c .r .given .0 in
-    Opened (viewWith (a .self) (a .pending .now) (a .h0 .now) (a .h1 .now) (a .list .now)) (a .s) (a .register) (a .from)
+    Opened (viewWith (a .self) (take (a .filled) (a .pending .now)) (a .h0 .now) (a .h1 .now) (a .list .now)) (a .s) (a .register) (a .from)
     (c .before .before .before .before .operands .given .0 .0) (f .0) (f .1 .0) (f .1 .1 .0)
 opening c =
     let x = c .before .before .before .before in
