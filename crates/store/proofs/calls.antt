@@ -5,7 +5,7 @@ pub mod Pending
 pub mod Rows
 pub mod Load
 pub mod Store
-pub mod Links
 pub mod Write
 pub mod Stretch
+pub mod Links
 pub mod Same

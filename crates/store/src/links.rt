@@ -142,7 +142,7 @@ impl Control {
         pending: &mut [u32],
         entries: &mut [u32],
     ) -> Linked
-        requires { ⌜ (count ≤ 8) × (linkNumbers * 8 ≤ length (now pending)) × (16 ≤ length (now entries)) ⌝ }
+        requires { ⌜ (count ≤ 8) × (linkNumbers * 8 ≤ length (now pending)) × (16 ≤ length (now entries)) × (self .cursor .tail ≤ length (now list)) ⌝ }
         ensures { λ r. ⌜ (linked r (view self (now (h0 .entry)) (now (h1 .entry)) (now (list .entry))) (now (pending .exit)) (now (entries .exit)) count
             ≡ storeEach (view self (now (h0 .entry)) (now (h1 .entry)) (now (list .entry))) s register (take count links))
             × Ends r (self .cursor .tail) (self .cursor .tail + 2 * count) (length (now (list .entry))) ⌝ }

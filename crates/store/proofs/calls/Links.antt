@@ -5,25 +5,35 @@ use mathlib.Core.Bool.{Bool, true, false, cond}
 use mathlib.Core.List.{List, [], _∷_, _++_}
 use native.Mathlib.Omega.{arith}
 use lib.Dec.{eqb}
-use lib.ListN.{length, take, drop, set, length-append}
-use lib.Seq.{sets, length-sets}
+use lib.ListN.{length, getD, take, drop, set, length-append, drop-of-length-le}
+use lib.Seq.{sets, length-sets, length-take-le, getD-take, drop-cons}
 use borrow.Author.Tests.{eq-eqb, ne-eqb}
-use Rattle.rules.specs.Refusals.{refused, passed, done}
-use Rattle.rules.specs.Memory.{Memory, null, inHalf, colourAt, grey, refField, put}
+use Rattle.rules.specs.Refusals.{Tested, refused, done, Outcome}
+use Rattle.rules.specs.Memory.{Memory, null, halfOf, wordOf, inHalf, colourAt, grey, refField, put}
 use Rattle.rules.specs.Control.{Store, inRange, withMemory, withList}
 use Rattle.rules.specs.Phases.{sessionAt, fromspace}
 use Rattle.rules.specs.Barriers.{shade, shadeBoth, putBoth}
-use Rattle.rules.specs.Calls.{sessionOf, operandsOf, recordOf, storePlan, storeCommit, store}
+use Rattle.rules.specs.Calls.{sessionOf, operandsOf, recordOf, storePlan, storeCommit, store, storeEach}
 use Rattle.rules.specs.declared.Writes.{Writes}
+use Rattle.rules.specs.declared.Link.{Link}
+use Rattle.rules.proofs.Ranges.{InRange}
 use Rattle.rules.proofs.memory.Cases.{eq-or}
 use Rattle.heap.specs.View.{memory, Inside}
 use Rattle.heap.specs.Pending.{laid, memoryWith}
-use Rattle.heap.proofs.Laid.{laid-append, laid-put}
+use Rattle.heap.proofs.Halves.{half-any}
+use Rattle.heap.proofs.Laid.{laid-none, laid-append, laid-put}
 use Rattle.store.specs.View.{view, viewWith}
-use Rattle.store.specs.Links.{placeOf, linkWords, entryOf, withPending, tailed}
+use Rattle.store.specs.Links.{placeOf, linkWords, linkNumbers, Placeable, entryOf, withPending, linked, Ends, tailed}
+use Rattle.store.specs.Plans.{storing}
 use Rattle.store.specs.declared.Control.{Control}
-use Rattle.store.proofs.calls.Rows.{sets-append}
-use Rattle.store.proofs.calls.Store.{Storable}
+use Rattle.store.specs.declared.links.Linked.{Linked}
+use Rattle.store.specs.declared.links.Linked.the-variants as links
+use Rattle.store.specs.declared.links.Linked.the-variants.{End}
+use Rattle.store.specs.declared.stores.Storing.{Storing}
+use Rattle.store.specs.declared.stores.Storing.the-variants.{Refusal, Into}
+use Rattle.store.proofs.calls.Rows.{take-sets, sets-append}
+use Rattle.store.proofs.calls.Store.{Storable, store-away, store-known-by}
+use Rattle.store.proofs.calls.Stretch.{half-small}
 
 -- ---- the row of a link's words
 
@@ -105,3 +115,149 @@ commit-pending s xs es end m i v w even at k =
     let here : s .list .tail + length es₁ ≡ end + length (entryOf (w .first)) = omega (arith, length-append es (entryOf (w .first))) in
     rw (shade-entered (shade (withPending s xs es end) (w .first)) (w .second), shade-entered (withPending s xs es end) (w .first),
       laid-append 0 m xs (linkWords v i w) (M .half0) even, laid-append 1 m xs (linkWords v i w) (M .half1) even, two, one, here, ← at, link)
+
+-- ---- the references of a link's words, in halves of the lengths that are allowed
+
+place-small : {s : Store} → InRange s → (v j : ℕ) → Inside (s .memory .half0) (s .memory .half1) v j → v + 2 * j ≤ 4294967295
+unfolding wordOf
+place-small {s} k v j i =
+    let e = ap length (half-any (s .memory .half0) (s .memory .half1) (s .memory .frontier0) (s .memory .frontier1) (halfOf v)) in
+    omega (arith, i .below, half-small k (halfOf v), e)
+
+place-or : {s : Store} → InRange s → (v j : ℕ) → 2 * j ≤ 4294967295 → ((v ≡ 0 → ⊥) → Inside (s .memory .half0) (s .memory .half1) v j) → v + 2 * j ≤ 4294967295
+place-or k v j l i = eq-or v 0 (λ e. omega arith) (λ n. place-small k v j (i n))
+
+placeable : {s : Store} {i v : ℕ} {w : Writes} → Storable s i v w → Placeable v i w
+placeable {s} {i} {v} {w} k =
+    let own = place-small (k .known) v (refField i) (k .own) in
+    record {
+      first = place-or (k .known) (w .first) colourAt (omega arith) (λ n. k .shaded .0 n .0);
+      second = place-or (k .known) (w .second) colourAt (omega arith) (λ n. k .shaded .1 n .0);
+      own = own;
+      replica = place-or (k .known) (w .replica) (refField i) (omega (arith, own)) (k .copy);
+    }
+
+-- ---- one link, by what its plan answered
+
+module _ (y : Storing) (c : Control) (xs es h0 h1 l : List ℕ) (end n k i from : ℕ)
+    (e : storing y ≡ storePlan (viewWith (tailed c end) xs h0 h1 l) n k i from) where
+  -- the store that it is made on
+  abbrev on : Store
+  on = withPending (view c h0 h1 l) xs es end
+
+  plan : storing y ≡ storePlan on n k i from
+  plan = e ∙ plan-entries c xs es h0 h1 l end n k i from
+
+  pub link-away : {g : ℕ} → y ≡ Refusal g → refused g ≡ store on n k i from
+  link-away d = sym (store-away on n k i from plan d)
+
+  pub link-known : {v : ℕ} {w : Writes} → y ≡ Into v w → Storable on i v w
+  link-known d = store-known-by on n k i from plan d
+
+  link-stored : {v : ℕ} {w : Writes} → y ≡ Into v w → store on n k i from ≡ done (storeCommit on i (record { into = v; writes = w }))
+  unfolding store
+  link-stored d = rw (← plan, d)
+
+  pub link-placeable : {v : ℕ} {w : Writes} → y ≡ Into v w → Placeable v i w
+  link-placeable d = placeable (link-known d)
+
+-- the numbers of a row, after it
+pub entry-few : (v : ℕ) → length (entryOf v) ≤ 1
+entry-few v = by-null (eqb v null)
+  where
+    by-null : (b : Bool) → length (cond b [] (v ∷ [])) ≤ 1
+    by-null true = omega arith
+    by-null false = omega arith
+
+entry-none : (v : ℕ) → v ≡ null → length (entryOf v) ≡ 0
+entry-none v e = rw (eq-eqb v null e)
+
+module _ (y : Storing) (c : Control) (P E h0 h1 l : List ℕ) (j end n k i from : ℕ) {v : ℕ} {w : Writes} {P′ A B : List ℕ} {a b : ℕ}
+    (late : c .cursor .tail ≤ end) (room : linkNumbers * j + linkNumbers ≤ length P) (wide : end - c .cursor .tail + 2 ≤ length E)
+    (e : storing y ≡ storePlan (viewWith (tailed c end) (take (linkNumbers * j) P) h0 h1 l) n k i from) (d : y ≡ Into v w)
+    (row : P′ ≡ sets P (linkNumbers * j) (linkWords v i w)) (first : A ≡ sets E (end - c .cursor .tail) (entryOf (w .first)))
+    (one : a ≡ end - c .cursor .tail + length (entryOf (w .first))) (second : B ≡ sets A a (entryOf (w .second))) (two : b ≡ a + length (entryOf (w .second))) where
+  abbrev tail : ℕ
+  tail = c .cursor .tail
+
+  abbrev xs : List ℕ
+  xs = take (linkNumbers * j) P
+
+  abbrev es : List ℕ
+  es = take (end - tail) E
+
+  rows : take (linkNumbers * (j + 1)) P′ ≡ xs ++ linkWords v i w
+  rows = let q : linkNumbers * (j + 1) ≡ linkNumbers * j + linkNumbers = omega arith in rw (row, q) (take-sets P (linkNumbers * j) (linkWords v i w) room)
+
+  entries : take (tail + b - tail) B ≡ es ++ entryOf (w .first) ++ entryOf (w .second)
+  entries =
+      let f = entry-few (w .first) in
+      let g = entry-few (w .second) in
+      let q : tail + b - tail ≡ a + length (entryOf (w .second)) = omega arith in
+      let z : length A ≡ length E = ap length first ∙ length-sets E (end - tail) (entryOf (w .first)) in
+      let before : take a A ≡ es ++ entryOf (w .first) = rw (first, one) (take-sets E (end - tail) (entryOf (w .first)) (omega arith)) in
+      rw (q, second, ← before) (take-sets A a (entryOf (w .second)) (omega arith))
+
+  pub link-made : done (withPending (view c h0 h1 l) (take (linkNumbers * (j + 1)) P′) (take (tail + b - tail) B) (tail + b)) ≡ store (on y c xs es h0 h1 l end n k i from e) n k i from
+  link-made =
+      let even : length xs ≡ 2 * (4 * j) = length-take-le (linkNumbers * j) P (omega arith) ∙ omega arith in
+      let at : end ≡ tail + length es = omega (arith, length-take-le (end - tail) E (omega arith)) in
+      let z : tail + b ≡ end + length (entryOf (w .first)) + length (entryOf (w .second)) = omega arith in
+      rw (rows, entries, z) (sym (link-stored y c xs es h0 h1 l end n k i from e d
+      ∙ ap done (commit-pending (view c h0 h1 l) xs es end (4 * j) i v w even at (link-known y c xs es h0 h1 l end n k i from e d))))
+
+  pub link-after : (end ≤ tail + b) × (tail + b ≤ end + 2) × (tail + b ≤ length l)
+  link-after =
+      let f = entry-few (w .first) in
+      let g = entry-few (w .second) in
+      let z = link-known y c xs es h0 h1 l end n k i from e d in
+      let long = length-sets l tail es in
+      (omega arith, omega arith, eq-or (w .second) null
+      (λ u. eq-or (w .first) null
+      (λ t. omega (arith, entry-none (w .first) t, entry-none (w .second) u, z .known .ends, z .known .lent2))
+      (λ t. omega (arith, entry-none (w .second) u, z .shaded .0 t .1)))
+      (λ u. omega (arith, z .shaded .1 u .1)))
+
+-- ---- the list's end that the plans answer
+
+pub ends-at : (x low high most : ℕ) → (low ≤ x) × (x ≤ high) × (x ≤ most) → Ends (End x) low high most
+ends-at x low high most k end e = rw (ap endIn e) at k
+  where
+    endIn : Linked → ℕ
+    endIn (End end) = end
+    endIn (links.Refusal r) = 0
+
+pub ends-refused : (r low high most : ℕ) → Ends (links.Refusal r) low high most
+ends-refused r low high most end e = absurd (let z : _≡_ {A = ℕ} 0 1 = cc in omega arith)
+
+-- ---- one link after another
+
+-- at first nothing is pending
+pub pending-none : (s : Store) (P E : List ℕ) → withPending s (take (linkNumbers * 0) P) (take (s .list .tail - s .list .tail) E) (s .list .tail) ≡ s
+pending-none s P E =
+    let z : s .list .tail - s .list .tail ≡ 0 = omega arith in
+    rw (z, laid-none 0 (s .memory .half0), laid-none 1 (s .memory .half1))
+
+-- what the plan of one link answered
+pub link-next : (r : Linked) (s : Store) (P E : List ℕ) (m : ℕ) {end : ℕ} {u : Tested (Outcome Store)} → r ≡ End end → linked r s P E m ≡ u
+    → done (withPending s (take (linkNumbers * m) P) (take (end - s .list .tail) E) end) ≡ u
+link-next r s P E m d e = rw d at e
+
+pub link-refused : (r : Linked) (s : Store) (P E : List ℕ) (m : ℕ) {g : ℕ} {u : Tested (Outcome Store)} → r ≡ links.Refusal g → linked r s P E m ≡ u → refused g ≡ u
+link-refused r s P E m d e = rw d at e
+
+module _ (s : Store) (n k : ℕ) (xs : List Link) (count i : ℕ) (x : Link) (l : i < count) (m : count ≤ length xs) where
+  next : drop i (take count xs) ≡ getD xs i x ∷ drop (i + 1) (take count xs)
+  next =
+      let e : i + 1 ≡ suc i = omega arith in
+      rw (e, ← getD-take count xs i x l) (drop-cons (take count xs) i x (omega (arith, length-take-le count xs m)))
+
+  pub each-on : {t : Store} → done t ≡ store s n k (getD xs i x .field) (getD xs i x .from)
+      → storeEach s n k (drop i (take count xs)) ≡ storeEach t n k (drop (i + 1) (take count xs))
+  each-on e = rw (next, ← e)
+
+  pub each-refused : {r : ℕ} → refused r ≡ store s n k (getD xs i x .field) (getD xs i x .from) → storeEach s n k (drop i (take count xs)) ≡ refused r
+  each-refused e = rw (next, ← e)
+
+pub each-ended : (s : Store) (n k : ℕ) (xs : List Link) (i : ℕ) → length xs ≤ i → done s ≡ storeEach s n k (drop i xs)
+each-ended s n k xs i l = rw (drop-of-length-le xs {i = i} l)

@@ -97,6 +97,7 @@ listable s w k d = (
 
 -- a store: it shades records with room in the list, and writes fields of the two copies
 pub record Storable (s : Store) (i v : ℕ) (w : Writes) : Type 0 where
+  pub known : InRange s
   pub shaded : Listable s w
   pub own : Inside (s .memory .half0) (s .memory .half1) v (refField i)
   pub copy : (w .replica ≡ 0 → ⊥) → Inside (s .memory .half0) (s .memory .half1) (w .replica) (refField i)
@@ -118,6 +119,7 @@ storable {q} s n k i from e =
     let st : Stored (heapOf s) i w = store-known (heapOf s) (x .level) (x .own) i (x .other) w (f .1 ∙ ap (λ (y : StorePlan). passed (y .writes)) p) in
     let v : x .own ≡ q .into = ap (λ (y : StorePlan). y .into) p in
     record {
+      known = b .0 .known;
       shaded = listable s w (b .0 .known) (st .shaded);
       own = rw (← v) (field-inside s (x .own) i (b .0 .known) (b .1 .sound) (ltb-true i (refs (s .memory) (x .own)) (d .0)));
       copy = λ m. field-inside s (w .replica) i (b .0 .known) (st .copied m .sound) (st .copied m .field);

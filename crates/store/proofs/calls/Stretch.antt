@@ -21,7 +21,7 @@ either-small : (b : Bool) (h0 h1 : List ℕ) (m : ℕ) → length h0 ≤ m → l
 either-small true h0 h1 m x y = x
 either-small false h0 h1 m x y = y
 
-half-small : {s : Store} → InRange s → (h : ℕ) → length (half (s .memory) h) ≤ mostLength
+pub half-small : {s : Store} → InRange s → (h : ℕ) → length (half (s .memory) h) ≤ mostLength
 unfolding half
 half-small {s} k h =
     either-small (eqb h 0) (s .memory .half0) (s .memory .half1) mostLength
