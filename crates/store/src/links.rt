@@ -7,6 +7,7 @@ ghost use lib.ListN.{length, take, set};
 ghost use lib.Seq.{sets};
 ghost use Rattle.rules.specs.Calls.{store, storeEach, storeLinks};
 ghost use Rattle.rules.specs.Runs.{apply, StoreLinks};
+ghost use Rattle.heap.specs.Pending.{laid};
 ghost use Rattle.store.specs.View.{view, outcome};
 ghost use Rattle.store.specs.Links.{placeOf, linkWords, linkNumbers, Placeable, entryOf, withPending, linked, Ends};
 use crate::Control;
@@ -89,6 +90,28 @@ fn put_entries(list: &mut [u32], at: usize, entries: &[u32])
         list[at + i] = entries[i];
         i += 1;
     }
+}
+
+// Writes what the plans of links say: the first `filled` numbers of pending words, and the entries from the list's end `begin` up to `end`.
+fn put_links(
+    h0: &mut [u32],
+    h1: &mut [u32],
+    list: &mut [u32],
+    pending: &[u32],
+    filled: usize,
+    entries: &[u32],
+    begin: usize,
+    end: usize,
+)
+    requires { ⌜ (filled ≤ length (now pending)) × (begin ≤ end) × (end - begin ≤ length (now entries)) × (end ≤ length (now list)) ⌝ }
+    ensures { λ _. ⌜ (now (h0 .exit) ≡ laid 0 (take filled (now (pending .entry))) (now (h0 .entry)))
+        × (now (h1 .exit) ≡ laid 1 (take filled (now (pending .entry))) (now (h1 .entry)))
+        × (now (list .exit) ≡ sets (now (list .entry)) begin (take (end - begin) (now (entries .entry)))) ⌝ }
+{
+    lay(h0, 0, &pending[..filled]);
+    lay(h1, 1, &pending[..filled]);
+    let n = end - begin;
+    put_entries(list, begin, &entries[..n]);
 }
 
 impl Control {
@@ -222,11 +245,8 @@ impl Control {
             Linked::Refusal(n) => rules::Answer::Refused(n),
             Linked::End(end) => {
                 let filled = NUMBERS * (count as usize);
-                lay(h0, 0, &pending[..filled]);
-                lay(h1, 1, &pending[..filled]);
                 let begin = self.cursor.tail;
-                let n = end - begin;
-                put_entries(list, begin, &entries[..n]);
+                put_links(h0, h1, list, &pending, filled, &entries, begin, end);
                 self.cursor.tail = end;
                 rules::Answer::Done
             }

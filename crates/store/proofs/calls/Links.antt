@@ -4,22 +4,25 @@ use mathlib.Core.Path.{_≡_, refl, sym, ap, _∙_}
 use mathlib.Core.Bool.{Bool, true, false, cond}
 use mathlib.Core.List.{List, [], _∷_, _++_}
 use native.Mathlib.Omega.{arith}
-use lib.Dec.{eqb}
+use lib.Dec.{leb, eqb}
 use lib.ListN.{length, getD, take, drop, set, length-append, drop-of-length-le}
 use lib.Seq.{sets, length-sets, length-take-le, getD-take, drop-cons}
-use borrow.Author.Tests.{eq-eqb, ne-eqb}
-use Rattle.rules.specs.Refusals.{Tested, refused, done, Outcome}
+use borrow.Author.Tests.{eq-eqb, ne-eqb, leb-true, le-leb, lt-leb}
+use Rattle.rules.specs.Refusals.{Tested, refused, passed, done, answer, Outcome}
 use Rattle.rules.specs.Memory.{Memory, null, halfOf, wordOf, inHalf, colourAt, grey, refField, put}
 use Rattle.rules.specs.Control.{Store, inRange, withMemory, withList}
 use Rattle.rules.specs.Phases.{sessionAt, fromspace}
 use Rattle.rules.specs.Barriers.{shade, shadeBoth, putBoth}
-use Rattle.rules.specs.Calls.{sessionOf, operandsOf, recordOf, storePlan, storeCommit, store, storeEach}
+use Rattle.rules.specs.Calls.{mostLinks, isCount, sessionOf, operandsOf, recordOf, storePlan, storeCommit, store, storeEach, storeLinks}
 use Rattle.rules.specs.declared.Writes.{Writes}
+use Rattle.rules.specs.Runs.{apply, StoreLinks}
+use Rattle.rules.specs.declared.Answer.the-variants.{Refused, Done}
 use Rattle.rules.specs.declared.Link.{Link}
-use Rattle.rules.proofs.Ranges.{InRange}
+use Rattle.rules.proofs.Ranges.{InRange, in-session, after-check}
 use Rattle.rules.proofs.memory.Cases.{eq-or}
 use Rattle.heap.specs.View.{memory, Inside}
 use Rattle.heap.specs.Pending.{laid, memoryWith}
+use Rattle.heap.proofs.Passed.{bind-passed}
 use Rattle.heap.proofs.Halves.{half-any}
 use Rattle.heap.proofs.Laid.{laid-none, laid-append, laid-put}
 use Rattle.store.specs.View.{view, viewWith}
@@ -113,8 +116,17 @@ commit-pending s xs es end m i v w even at k =
     let one = sets-append (s .list .words) (s .list .tail) es (entryOf (w .first)) in
     let two = sets-append (s .list .words) (s .list .tail) es₁ (entryOf (w .second)) in
     let here : s .list .tail + length es₁ ≡ end + length (entryOf (w .first)) = omega (arith, length-append es (entryOf (w .first))) in
-    rw (shade-entered (shade (withPending s xs es end) (w .first)) (w .second), shade-entered (withPending s xs es end) (w .first),
-      laid-append 0 m xs (linkWords v i w) (M .half0) even, laid-append 1 m xs (linkWords v i w) (M .half1) even, two, one, here, ← at, link)
+    rw (
+      shade-entered (shade (withPending s xs es end) (w .first)) (w .second),
+      shade-entered (withPending s xs es end) (w .first),
+      laid-append 0 m xs (linkWords v i w) (M .half0) even,
+      laid-append 1 m xs (linkWords v i w) (M .half1) even,
+      two,
+      one,
+      here,
+      ← at,
+      link,
+    )
 
 -- ---- the references of a link's words, in halves of the lengths that are allowed
 
@@ -211,12 +223,15 @@ module _ (y : Storing) (c : Control) (P E h0 h1 l : List ℕ) (j end n k i from 
       let f = entry-few (w .first) in
       let g = entry-few (w .second) in
       let z = link-known y c xs es h0 h1 l end n k i from e d in
-      let long = length-sets l tail es in
-      (omega arith, omega arith, eq-or (w .second) null
-      (λ u. eq-or (w .first) null
-      (λ t. omega (arith, entry-none (w .first) t, entry-none (w .second) u, z .known .ends, z .known .lent2))
-      (λ t. omega (arith, entry-none (w .second) u, z .shaded .0 t .1)))
-      (λ u. omega (arith, z .shaded .1 u .1)))
+      let long = length-sets l tail es in (
+        omega arith,
+        omega arith,
+        eq-or (w .second) null
+            (λ u. eq-or (w .first) null
+            (λ t. omega (arith, entry-none (w .first) t, entry-none (w .second) u, z .known .ends, z .known .lent2))
+            (λ t. omega (arith, entry-none (w .second) u, z .shaded .0 t .1)))
+            (λ u. omega (arith, z .shaded .1 u .1)),
+      )
 
 -- ---- the list's end that the plans answer
 
@@ -261,3 +276,38 @@ module _ (s : Store) (n k : ℕ) (xs : List Link) (count i : ℕ) (x : Link) (l 
 
 pub each-ended : (s : Store) (n k : ℕ) (xs : List Link) (i : ℕ) → length xs ≤ i → done s ≡ storeEach s n k (drop i xs)
 each-ended s n k xs i l = rw (drop-of-length-le xs {i = i} l)
+
+-- ---- the call, by its tests
+
+module _ (s : Store) (n k count : ℕ) (xs : List Link) (a : sessionOf s n ≡ passed (sessionAt s n)) where
+  pub links-many : mostLinks < count → refused 10 ≡ storeLinks s n k count xs
+  unfolding storeLinks isCount
+  links-many l = rw (a, lt-leb count mostLinks l)
+
+  pub links-each : count ≤ mostLinks → storeEach s n k (take count xs) ≡ storeLinks s n k count xs
+  unfolding storeLinks isCount
+  links-each l = rw (a, le-leb count mostLinks l)
+
+  -- the list's end is within the list
+  pub tail-within : s .list .tail ≤ length (s .list .words)
+  tail-within = let r = in-session s n a .known in omega (arith, r .ends, r .lent2)
+
+-- ---- the call, by what its plan answered
+
+module _ (r : Linked) (s : Store) (P E : List ℕ) (n k count : ℕ) (xs : List Link) (e : linked r s P E count ≡ storeLinks s n k count xs) where
+  pub links-away : {g : ℕ} → r ≡ links.Refusal g → record { store = s; reply = answer (Refused g) } ≡ apply s (StoreLinks n k count xs)
+  links-away d = rw (← link-refused r s P E count d e)
+
+  module _ {end : ℕ} (d : r ≡ End end) where
+    stored : done (withPending s (take (linkNumbers * count) P) (take (end - s .list .tail) E) end) ≡ storeLinks s n k count xs
+    stored = link-next r s P E count d e
+
+    -- the count is one that is allowed
+    pub links-few : count ≤ mostLinks
+    unfolding storeLinks isCount
+    links-few =
+        let a = bind-passed (sessionOf s n) _ (sym stored) in
+        leb-true count mostLinks (after-check (leb count mostLinks) 10 _ (a .2) .0)
+
+    pub links-done : record { store = withPending s (take (linkNumbers * count) P) (take (end - s .list .tail) E) end; reply = answer Done } ≡ apply s (StoreLinks n k count xs)
+    links-done = rw (← stored)

@@ -85,9 +85,10 @@ same-length c = search needs
 returns : tie.Need-returns
 returns c =
     let x = c .before .before .before in
-    let a = x .before .before .before .before .before .before .before .before .args in
-    (link-away _ (a .self) _ (take (a .tail - a .self .cursor .tail) (a .entries .now)) (a .h0 .now) (a .h1 .now) (a .list .now) (a .tail) (a .s) (a .register) (a .link .field) (a .link .from) (asked x) (c .before .plan .given .1),
-    ends-refused _ _ _ _)
+    let a = x .before .before .before .before .before .before .before .before .args in (
+      link-away _ (a .self) _ (take (a .tail - a .self .cursor .tail) (a .entries .now)) (a .h0 .now) (a .h1 .now) (a .list .now) (a .tail) (a .s) (a .register) (a .link .field) (a .link .from) (asked x) (c .before .plan .given .1),
+      ends-refused _ _ _ _,
+    )
 
 same-length-2 : tie.Need-same-length-2
 same-length-2 c = search needs
@@ -102,10 +103,11 @@ returns-2 c =
     let k = start p .pre in
     let two = c .before .before in
     let one = two .before .before .before .before in
-    let row = one .before .before .before .before in
-    (link-made _ (a .self) (a .pending .now) (a .entries .now) (a .h0 .now) (a .h1 .now) (a .list .now) (a .i) (a .tail) (a .s) (a .register) (a .link .field) (a .link .from)
-    (k .1) (k .0) (k .2) (asked (p .before .before)) (p .plan2 .given .1) (row .put-link .ensures) (one .enter .ensures .0) (one .enter .ensures .1) (two .enter2 .ensures .0) (two .enter2 .ensures .1),
-    ends-at _ _ _ _ (grown c))
+    let row = one .before .before .before .before in (
+      link-made _ (a .self) (a .pending .now) (a .entries .now) (a .h0 .now) (a .h1 .now) (a .list .now) (a .i) (a .tail) (a .s) (a .register) (a .link .field) (a .link .from)
+          (k .1) (k .0) (k .2) (asked (p .before .before)) (p .plan2 .given .1) (row .put-link .ensures) (one .enter .ensures .0) (one .enter .ensures .1) (two .enter2 .ensures .0) (two .enter2 .ensures .1),
+      ends-at _ _ _ _ (grown c),
+    )
 
 pub plan-link-spec : {M : Type 1} → statement M
 plan-link-spec =

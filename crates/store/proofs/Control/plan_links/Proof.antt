@@ -61,9 +61,10 @@ returns c =
     let a = st .args in
     let l = c .before .before .before .before .before .before .before .before .before .before .before .before .loop in
     let q = c .before .before .before .before .before .before .before .plan-link in
-    let t = c .before .before .before .before .before .before .before .before .before .before .before .loop-test .taken in
-    (sym (l .inv .6 ∙ each-refused _ (a .s) (a .register) (a .t8) (a .count) (l .i) none t (omega (arith, eight st, st .pre .0)) (link-refused _ _ _ _ _ (c .before .n .given .1) (q .ensures .0))),
-    ends-refused _ _ _ _)
+    let t = c .before .before .before .before .before .before .before .before .before .before .before .loop-test .taken in (
+      sym (l .inv .6 ∙ each-refused _ (a .s) (a .register) (a .t8) (a .count) (l .i) none t (omega (arith, eight st, st .pre .0)) (link-refused _ _ _ _ _ (c .before .n .given .1) (q .ensures .0))),
+      ends-refused _ _ _ _,
+    )
 
 enum-known-end : tie.Need-enum-known-end Inv-loop μ-loop
 enum-known-end c = search needs
@@ -81,8 +82,7 @@ loop-again c =
     let l = c .before .before .before .before .before .before .before .before .before .before .before .before .loop in
     let q = c .before .before .before .before .before .before .before .plan-link in
     let z = q .ensures .1 _ (c .before .end .given .1) in
-    let t = c .before .before .before .before .before .before .before .before .before .before .before .loop-test .taken in
-    (
+    let t = c .before .before .before .before .before .before .before .before .before .before .before .loop-test .taken in (
       omega (arith, t),
       search needs,
       search needs,
@@ -104,10 +104,11 @@ returns-2 c =
     let a = st .args in
     let l = c .before .loop in
     let e : a .count ≡ l .i = omega (arith, l .inv .0, c .loop-test .left) in
-    let v = view (a .self) (a .h0 .now) (a .h1 .now) (a .list .now) in
-    (ap (λ m. done (withPending v (take (linkNumbers * m) (l .pending)) (take (l .tail - a .self .cursor .tail) (l .entries)) (l .tail))) e
-    ∙ each-ended _ (a .s) (a .register) (take (a .count) (a .t8)) (l .i) (omega (arith, length-take (a .count) (a .t8), e)) ∙ sym (l .inv .6),
-    ends-at _ _ _ _ (l .inv .3, omega (arith, l .inv .4, e), l .inv .5))
+    let v = view (a .self) (a .h0 .now) (a .h1 .now) (a .list .now) in (
+      ap (λ m. done (withPending v (take (linkNumbers * m) (l .pending)) (take (l .tail - a .self .cursor .tail) (l .entries)) (l .tail))) e
+          ∙ each-ended _ (a .s) (a .register) (take (a .count) (a .t8)) (l .i) (omega (arith, length-take (a .count) (a .t8), e)) ∙ sym (l .inv .6),
+      ends-at _ _ _ _ (l .inv .3, omega (arith, l .inv .4, e), l .inv .5),
+    )
 
 pub plan-links-spec : {M : Type 1} → statement M
 plan-links-spec =
