@@ -98,6 +98,7 @@ sized (SafePoint n) xs = xs
 sized (Allocate n k r p) xs = (r + p) ∷ xs
 sized (Load n to k i) xs = xs
 sized (StoreRef n k i from) xs = xs
+sized (StoreLinks n k count ys) xs = xs
 sized (Read n k i) xs = xs
 sized (Write n k i a) xs = xs
 sized (Move n to from) xs = xs

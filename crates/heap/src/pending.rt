@@ -1,6 +1,6 @@
 // Words that are going to be written, and words read through them. Pending words are the first `filled` numbers of a row: for each word its
-// reference (null for none) and what it gets, in the order in which they will be written. That none is pending is said by a number, 0, for the
-// compiler: where no caller has any, it leaves all of this out, which it does not for an empty slice.
+// reference (null for none) and what it gets, in the order in which they will be written. That none is pending is said by a number, 0, and asked
+// first: so the compiler leaves the rest out wherever the caller has none, which it does not for an empty slice.
 ghost use mathlib.Core.Path.{_≡_};
 ghost use Prim.Native.Nat.{ℕ, _<_, min};
 ghost use mathlib.Core.Bool.{cond, _&&_};
@@ -53,6 +53,9 @@ pub(crate) fn word_in(pending: &[u32], filled: usize, half: &[u32], h: u32, at: 
     ensures { λ r. ⌜ r ≡ getD (laid h (take filled (now (pending .entry))) (now (half .entry))) at 0 ⌝ }
 {
     let x = half[at];
+    if filled == 0 {
+        return x;
+    }
     seen_word(pending, filled, h, at, x)
 }
 

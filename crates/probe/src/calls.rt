@@ -1,9 +1,29 @@
 // The store's call of a case: its kind is the case's first word, its arguments are the next four. Kind 0 is making, 1 to 14
-// are those of the script, 15 is the stretch, 16 its companion, 17 the birth number; 116 to 122 are the directory's (requests.rt).
+// are those of the script, 15 is the stretch, 16 its companion, 17 the birth number, 18 the store of several links, whose links are the case's last
+// words; 116 to 122 are the directory's (requests.rt).
 use crate::CASE;
 use crate::STRETCH;
+use rules::Link;
 use store::Control;
 use store::Reply;
+
+// Where the links of a case begin.
+const FIRST_LINK: usize = 270;
+
+// The eight links of a case: of each its field, then its register.
+fn links_of(case: &[u32; CASE]) -> [Link; rules::LINKS] {
+    let mut links = [Link { field: 0, from: 0 }; rules::LINKS];
+    let mut i: usize = 0;
+    while i < rules::LINKS {
+        let at = FIRST_LINK + 2 * i;
+        links[i] = Link {
+            field: case[at],
+            from: case[at + 1],
+        };
+        i += 1;
+    }
+    links
+}
 
 // Making, and the calls that look at no record.
 fn call_session(
@@ -78,6 +98,7 @@ pub(crate) fn call(
         8 => control.write(h0, h1, list, s, a, b, c),
         13 => control.put(h0, h1, list, s, a, b),
         14 => control.step(h0, h1, list),
+        18 => control.store_links(h0, h1, list, s, a, b, links_of(case)),
         _ => call_reading(control, h0, h1, list, case),
     }
 }

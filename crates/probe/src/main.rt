@@ -1,6 +1,6 @@
 // A program for tests: it puts any control record and any words before a call of the store or of the directory, and
 // writes all that comes out. Its input is a row of cases, each in 32-bit words, big-endian: CASE words (kind and arguments
-// of the call, lent lengths, control record), then the words of half 0, half 1 and the list as far as they are lent. For
+// of the call, lent lengths, control record, eight links), then the words of half 0, half 1 and the list as far as they are lent. For
 // each case it writes REPLY words (refusal number, value, control record), the lent words, and a count with the words of
 // a stretch, or with those that a list of the directory was lent. tests/probe.py has both layouts. A case that is cut
 // short or lends too much ends the program.
@@ -10,7 +10,7 @@ mod calls; // calls.rt: the call of a case, of the store
 mod requests; // requests.rt: the call of a case, of the directory
 
 // The words of a case before those that it lends, and the words of a reply before those.
-pub(crate) const CASE: usize = 270;
+pub(crate) const CASE: usize = 286;
 
 pub(crate) const REPLY: usize = 265;
 

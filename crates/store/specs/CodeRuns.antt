@@ -9,6 +9,7 @@ use Rattle.rules.specs.Control.{Store, make}
 use Rattle.rules.specs.Calls.{stretch}
 use Rattle.rules.specs.Runs.{Call, Attach, Detach, SafePoint, Allocate, Load, StoreRef, StoreLinks, Read, Write, Move, Clear, SameAs, Get, Put, Stretch, Companion, Birth, Step, apply, run, after}
 use Rattle.rules.specs.Claims.{Made}
+use Rattle.rules.specs.declared.Link.{Link}
 use Rattle.rules.specs.declared.Answer.{Answer}
 use Rattle.rules.specs.declared.Answer.the-variants.{Done}
 use Rattle.store.specs.View.{view, outcome}
@@ -64,6 +65,9 @@ pub data Called (self : Control) (h0 h1 list : List ℕ) : Call → Reply → Le
   by-store : (s register field from : ℕ) (r : code.Reply) (h0′ h1′ list′ : List ℕ)
       → outcome r h0′ h1′ list′ ≡ apply (view self h0 h1 list) (StoreRef s register field from)
       → Called self h0 h1 list (StoreRef s register field from) (answer (r .answer)) (lent (r .control) h0′ h1′ list′)
+  by-store-links : (s register count : ℕ) (links : List Link) (r : code.Reply) (h0′ h1′ list′ : List ℕ)
+      → outcome r h0′ h1′ list′ ≡ apply (view self h0 h1 list) (StoreLinks s register count links)
+      → Called self h0 h1 list (StoreLinks s register count links) (answer (r .answer)) (lent (r .control) h0′ h1′ list′)
   by-read : (s register field : ℕ) (r : code.Reply)
       → outcome r h0 h1 list ≡ apply (view self h0 h1 list) (Read s register field)
       → Called self h0 h1 list (Read s register field) (answer (r .answer)) (lent (r .control) h0 h1 list)

@@ -7,7 +7,7 @@ use Rattle.rules.specs.Free.{Free, recordAt, freeSession}
 use Rattle.directory_rules.specs.Table.{Table}
 use Rattle.directory_rules.specs.Acts.{ownSession}
 use Rattle.directory_rules.proofs.free.Slots.{top, held}
-use Rattle.directory_rules.proofs.chains.Core.{othersLabel, Apart, SoundStore, Layout, Represents}
+use Rattle.directory_rules.proofs.chains.Core.{othersLabel, Owned, Apart, SoundStore, Layout, Represents}
 use Rattle.directory_rules.proofs.chains.SoundStore.{good-from}
 use Rattle.directory_rules.proofs.chains.Frame.{core-frame}
 
@@ -20,10 +20,14 @@ pub record Aside (lab : ℕ → ℕ) (f f′ : Free) : Type 0 where
   pub records : (q : ℕ) → lab q ≢ othersLabel → recordAt f′ q ≡ recordAt f q
   pub apart : Apart f′ lab
 
+-- the directory's records stay good
+pub owned-aside : {lab : ℕ → ℕ} {f f′ : Free} → Owned f lab → Aside lab f f′ → Owned f′ lab
+owned-aside own a q ours = good-from (a .longer) (ap (λ x. x .plains) (a .records q ours)) (ap (λ x. length (x .refs)) (a .records q ours)) (own q ours)
+
 sound-aside : {lab : ℕ → ℕ} {f f′ : Free} → SoundStore f lab → Aside lab f f′ → SoundStore f′ lab
 sound-aside s a = record {
   shaped = record { sessions = a .sessions ∙ s .shaped .sessions; registers = rw (a .session) (s .shaped .registers); globals = a .globals ∙ s .shaped .globals };
-  own = λ q ours. good-from (a .longer) (ap (λ x. x .plains) (a .records q ours)) (ap (λ x. length (x .refs)) (a .records q ours)) (s .own q ours);
+  own = owned-aside (s .own) a;
   apart = a .apart;
 }
 

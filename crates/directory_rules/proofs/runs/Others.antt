@@ -3,24 +3,26 @@ use Prim.Native.Nat.{ℕ}
 use mathlib.Core.Path.{_≡_, refl}
 use mathlib.Core.Logic.{_≢_}
 use mathlib.Core.Bool.{Bool, true, false, cond, not, _&&_}
+use mathlib.Core.List.{List, [], _∷_}
 use lib.Dec.{leb, ltb, eqb}
-use lib.ListN.{length}
+use lib.ListN.{length, take}
 use borrow.Author.Tests.{eqb-false, not-true}
 use Rattle.rules.specs.Memory.{null}
 use Rattle.rules.specs.Control.{lastSession, registerCount}
 use Rattle.rules.specs.Refusals.{Tested, passed, check, _>>=_, _>>_, Outcome}
-use Rattle.rules.specs.Calls.{isRegister, isGlobal, isShape, numberLeft}
+use Rattle.rules.specs.Calls.{isRegister, isGlobal, isShape, isCount, numberLeft}
 use Rattle.rules.specs.Runs.{Call, Attach, Detach, SafePoint, Allocate, Load, StoreRef, StoreLinks, Read, Write, Move, Clear, SameAs, Get, Put, Stretch, Companion, Birth, Step, isSession, Fed}
-use Rattle.rules.specs.Free.{Free, FreeSession, recordAt, freeSession, freeRegister, freeNobody, fedShare, fedRoom, freeSessionOf, freeRecordIn, freeAttach, freeDetach, freeAllocate, freeLoad, freeStore, freeRead, freeBirth, freeWrite, freeMove, freeClear, freeSame, freeGet, freePut, freeApply}
+use Rattle.rules.specs.Free.{Free, FreeSession, recordAt, freeSession, freeRegister, freeNobody, fedShare, fedRoom, freeSessionOf, freeRecordIn, freeAttach, freeDetach, freeAllocate, freeLoad, freeStore, freeStoreEach, freeStoreLinks, freeRead, freeBirth, freeWrite, freeMove, freeClear, freeSame, freeGet, freePut, freeApply}
+use Rattle.rules.specs.declared.Link.{Link}
 use Rattle.rules.proofs.Ranges.{both}
 use Rattle.rules.proofs.memory.Lists.{all-same}
 use Rattle.directory_rules.specs.Table.{Table}
 use Rattle.directory_rules.specs.Acts.{ownSession, ownGlobal}
 use Rattle.directory_rules.specs.Runs.{others}
 use Rattle.directory_rules.proofs.Lists.{set-holds}
-use Rattle.directory_rules.proofs.acts.Ends.{Ends, fails, ends, settled, after-tests}
+use Rattle.directory_rules.proofs.acts.Ends.{Ends, fails, ends, settled, then-ends, map-ends, after-tests}
 use Rattle.directory_rules.proofs.chains.Core.{Owned, Foreign, Apart, Layout, Represents}
-use Rattle.directory_rules.proofs.runs.Aside.{Aside, represents-aside}
+use Rattle.directory_rules.proofs.runs.Aside.{Aside, owned-aside, represents-aside}
 use Rattle.directory_rules.proofs.runs.Changes.{null-foreign, new-foreign, aside-then, aside-none, aside-session, aside-register, aside-global, aside-record, aside-grown}
 
 -- ---- rows of tests
@@ -126,24 +128,36 @@ module _ {lab : ℕ → ℕ} {f : Free} (own : Owned f lab) (apart : Apart f lab
     unfolding freePut
     put-aside g from d = row-session f n _ (row-check (isRegister from) 8 (row-check (isGlobal g) 9 (ends _ (aside-global apart g _ d (apart .registers n from other)))))
 
+-- stores of several links, one after the other
+links-aside : {lab : ℕ → ℕ} {f : Free} → Owned f lab → Apart f lab → (n : ℕ) → n ≢ ownSession → (k : ℕ) (xs : List Link) → Ends (Aside lab f) (freeStoreEach f n k xs)
+links-aside own apart n other k [] = ends _ (aside-none apart)
+links-aside own apart n other k (x ∷ xs) = then-ends _ (store-aside own apart n other k (x .field) (x .from))
+    (λ o a. map-ends (λ g. aside-then a) (links-aside (owned-aside own a) (a .apart) n other k xs))
+
+module _ {lab : ℕ → ℕ} {f : Free} (own : Owned f lab) (apart : Apart f lab) where
+  store-links-aside : (n : ℕ) → n ≢ ownSession → (k count : ℕ) (xs : List Link) → Ends (P own apart) (freeStoreLinks f n k count xs)
+  unfolding freeStoreLinks
+  store-links-aside n other k count xs = row-session f n _ (row-check (isCount count) 10 (links-aside own apart n other k (take count xs)))
+
   -- every call that names neither the directory's session nor its global
-  others-aside : (c : Call) (fed : Fed) → others c ≡ true → P (cond (isSession c) (freeApply f c fed .store) f)
-  others-aside (Attach n share) fed e = settled f (attach-aside n (is-other n ownSession e)) (aside-none apart)
-  others-aside (Detach n) fed e = settled f (detach-aside n (is-other n ownSession e)) (aside-none apart)
+  others-aside : (c : Call) (fed : Fed) → others c ≡ true → P own apart (cond (isSession c) (freeApply f c fed .store) f)
+  others-aside (Attach n share) fed e = settled f (attach-aside own apart n (is-other n ownSession e)) (aside-none apart)
+  others-aside (Detach n) fed e = settled f (detach-aside own apart n (is-other n ownSession e)) (aside-none apart)
   others-aside (SafePoint n) fed e = aside-none apart
-  others-aside (Allocate n k r p) fed e = settled f (allocate-aside n (is-other n ownSession e) k r p fed) (aside-none apart)
-  others-aside (Load n to k i) fed e = settled f (load-aside n (is-other n ownSession e) to k i) (aside-none apart)
-  others-aside (StoreRef n k i from) fed e = settled f (store-aside n (is-other n ownSession e) k i from) (aside-none apart)
-  others-aside (Read n k i) fed e = settled f (read-aside n (is-other n ownSession e) k i) (aside-none apart)
-  others-aside (Write n k i a) fed e = settled f (write-aside n (is-other n ownSession e) k i a) (aside-none apart)
-  others-aside (Move n to from) fed e = settled f (move-aside n (is-other n ownSession e) to from) (aside-none apart)
-  others-aside (Clear n k) fed e = settled f (clear-aside n (is-other n ownSession e) k) (aside-none apart)
-  others-aside (SameAs n a b) fed e = settled f (same-aside n (is-other n ownSession e) a b) (aside-none apart)
-  others-aside (Get n to g) fed e = let z = is-others n g e in settled f (get-aside n (z .0) to g (z .1)) (aside-none apart)
-  others-aside (Put n g from) fed e = let z = is-others n g e in settled f (put-aside n (z .0) g from (z .1)) (aside-none apart)
+  others-aside (Allocate n k r p) fed e = settled f (allocate-aside own apart n (is-other n ownSession e) k r p fed) (aside-none apart)
+  others-aside (Load n to k i) fed e = settled f (load-aside own apart n (is-other n ownSession e) to k i) (aside-none apart)
+  others-aside (StoreRef n k i from) fed e = settled f (store-aside own apart n (is-other n ownSession e) k i from) (aside-none apart)
+  others-aside (StoreLinks n k count xs) fed e = settled f (store-links-aside n (is-other n ownSession e) k count xs) (aside-none apart)
+  others-aside (Read n k i) fed e = settled f (read-aside own apart n (is-other n ownSession e) k i) (aside-none apart)
+  others-aside (Write n k i a) fed e = settled f (write-aside own apart n (is-other n ownSession e) k i a) (aside-none apart)
+  others-aside (Move n to from) fed e = settled f (move-aside own apart n (is-other n ownSession e) to from) (aside-none apart)
+  others-aside (Clear n k) fed e = settled f (clear-aside own apart n (is-other n ownSession e) k) (aside-none apart)
+  others-aside (SameAs n a b) fed e = settled f (same-aside own apart n (is-other n ownSession e) a b) (aside-none apart)
+  others-aside (Get n to g) fed e = let z = is-others n g e in settled f (get-aside own apart n (z .0) to g (z .1)) (aside-none apart)
+  others-aside (Put n g from) fed e = let z = is-others n g e in settled f (put-aside own apart n (z .0) g from (z .1)) (aside-none apart)
   others-aside (Stretch n k) fed e = aside-none apart
   others-aside (Companion n k) fed e = aside-none apart
-  others-aside (Birth n k) fed e = settled f (birth-aside n (is-other n ownSession e) k) (aside-none apart)
+  others-aside (Birth n k) fed e = settled f (birth-aside own apart n (is-other n ownSession e) k) (aside-none apart)
   others-aside Step fed e = aside-none apart
 
 pub others-kept : {f : Free} {y : Layout} {t : Table} (c : Call) (fed : Fed) → others c ≡ true → Represents f y t

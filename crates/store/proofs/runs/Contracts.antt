@@ -10,9 +10,10 @@ use denote.Triple.Entry.{Args, Res}
 use denote.Triple.Clauses.{Ended, Lasts, AtExit, atExit}
 use Rattle.rules.specs.Refusals.{answer, words}
 use Rattle.rules.specs.Runs.{Attach, Detach, SafePoint, Allocate, Load, StoreRef, StoreLinks, Read, Write, Move, Clear, SameAs, Get, Put, Stretch, Companion, Birth, Step}
+use Rattle.rules.specs.declared.Link.{Link}
 use Rattle.rules.specs.declared.Answer.{Answer}
 use Rattle.rules.specs.declared.Answer.the-variants.{Done}
-use Rattle.store.specs.CodeRuns.{lent, CodeMade, by-make, Called, by-attach, by-detach, by-safe-point, by-allocate, by-load, by-store, by-read, by-write, by-move-register, by-clear, by-same, by-get, by-put, by-stretch, by-companion, by-birth, by-step}
+use Rattle.store.specs.CodeRuns.{lent, CodeMade, by-make, Called, by-attach, by-detach, by-safe-point, by-allocate, by-load, by-store, by-store-links, by-read, by-write, by-move-register, by-clear, by-same, by-get, by-put, by-stretch, by-companion, by-birth, by-step}
 use Rattle.store.specs.declared.Control.{Control}
 use Rattle.store.specs.declared.Reply.{Reply}
 use Rattle.store.proofs.Control.make as make
@@ -29,6 +30,8 @@ use Rattle.store.proofs.Control.load as load
 use Rattle.store.proofs.Control.load.Reads as load-reads
 use Rattle.store.proofs.Control.store as store
 use Rattle.store.proofs.Control.store.Reads as store-reads
+use Rattle.store.proofs.Control.store_links as store-links
+use Rattle.store.proofs.Control.store_links.Reads as store-links-reads
 use Rattle.store.proofs.Control.read as read
 use Rattle.store.proofs.Control.read.Reads as read-reads
 use Rattle.store.proofs.Control.birth as birth
@@ -104,6 +107,12 @@ pub store-called : (κs : Lfts 3) (self : Control) (h0 h1 list : Slice) (s regis
     (self, (h0, (h1, (list, (s, (register, (field, (from, tt)))))))) r (tt, (h0′, (h1′, (list′, (tt, (tt, (tt, (tt, tt))))))))
     (Called self (now h0) (now h1) (now list) (StoreRef s register field from) (answer (r .answer)) (lent (r .control) h0′ h1′ list′))
 store-called κs self h0 h1 list s register field from r h0′ h1′ list′ = (tt, by-store s register field from r h0′ h1′ list′)
+
+pub store-links-called : (κs : Lfts 3) (self : Control) (h0 h1 list : Slice) (s register count : ℕ) (links : List Link) (r : Reply) (h0′ h1′ list′ : List ℕ)
+    → Gives store-links.ended store-links-reads.Asked store-links-reads.Learnt κs
+    (self, (h0, (h1, (list, (s, (register, (count, (links, tt)))))))) r (tt, (h0′, (h1′, (list′, (tt, (tt, (tt, (tt, tt))))))))
+    (Called self (now h0) (now h1) (now list) (StoreLinks s register count links) (answer (r .answer)) (lent (r .control) h0′ h1′ list′))
+store-links-called κs self h0 h1 list s register count links r h0′ h1′ list′ = (tt, by-store-links s register count links r h0′ h1′ list′)
 
 pub read-called : (κs : Lfts 2) (self : Control) (h0 h1 list : Slice) (s register field : ℕ) (r : Reply)
     → Gives read.ended read-reads.Asked read-reads.Learnt κs

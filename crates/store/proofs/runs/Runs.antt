@@ -6,7 +6,7 @@ use Rattle.rules.specs.Refusals.{Reply, answer, words}
 use Rattle.rules.specs.Runs.{Call, apply, run, after}
 use Rattle.rules.specs.Claims.{Made}
 use Rattle.store.specs.View.{view}
-use Rattle.store.specs.CodeRuns.{Lent, viewed, CodeMade, by-make, Called, by-attach, by-detach, by-safe-point, by-allocate, by-load, by-store, by-read, by-write, by-move-register, by-clear, by-same, by-get, by-put, by-stretch, by-companion, by-birth, by-step, CodeRun, ended, next, CodeRuns}
+use Rattle.store.specs.CodeRuns.{Lent, viewed, CodeMade, by-make, Called, by-attach, by-detach, by-safe-point, by-allocate, by-load, by-store, by-store-links, by-read, by-write, by-move-register, by-clear, by-same, by-get, by-put, by-stretch, by-companion, by-birth, by-step, CodeRun, ended, next, CodeRuns}
 use Rattle.store.specs.declared.Control.{Control}
 
 -- a call leaves what the rules give: the store that the next call gets, and the reply
@@ -18,6 +18,7 @@ called-applies (by-safe-point s r e) = e
 called-applies (by-allocate s register r p a h0′ h1′ e) = e
 called-applies (by-load s to register field r e) = e
 called-applies (by-store s register field from r h0′ h1′ list′ e) = e
+called-applies (by-store-links s register count links r h0′ h1′ list′ e) = e
 called-applies (by-read s register field r e) = e
 called-applies (by-write s register field value r h0′ h1′ e) = e
 called-applies (by-move-register s to from r e) = e
