@@ -6,14 +6,14 @@ import random
 import funds
 from damage import TOP, edges, putting, ref
 from layout import HEADER, least_list, size
-from model import ATTACH, DETACH, SAFE, ALLOCATE, LOAD, STORE, READ, WRITE, MOVE, CLEAR, SAME, GET, PUT, STEP
+from model import ATTACH, DETACH, SAFE, ALLOCATE, LOAD, STORE, READ, WRITE, MOVE, CLEAR, SAME, GET, PUT, STEP, LINKS, MOST_LINKS
 from probe import COUNTS, MAKE, encode
 from replicas import changes, is_pair
 from sapphire import BIRTH, COMPANION, LEVELS, MOST_BIRTHS, STRETCH, Sapphire
 
 SHAPES = [(0, 0), (1, 0), (0, 1), (1, 1), (1, 1), (2, 1), (1, 2), (2, 2), (3, 2), (0, 4), (5, 5)]
-KINDS = ([STEP] * 16 + [STORE] * 8 + [ALLOCATE] * 5 + [BIRTH] * 4 + [WRITE, PUT, SAME, LOAD] * 3 + [READ, STRETCH, COMPANION] * 2
-         + [MOVE, CLEAR, GET, ATTACH, DETACH, SAFE, MAKE])
+KINDS = ([STEP] * 16 + [STORE] * 8 + [LINKS] * 6 + [ALLOCATE] * 5 + [BIRTH] * 4 + [WRITE, PUT, SAME, LOAD] * 3
+         + [READ, STRETCH, COMPANION] * 2 + [MOVE, CLEAR, GET, ATTACH, DETACH, SAFE, MAKE])
 EDGES = list(edges())
 
 
@@ -121,6 +121,9 @@ def arguments_for(rng, kind, store):
         args[2:] = rng.choice(SHAPES[:6])
     if kind == ATTACH:
         args[1] = funds.any_words(rng)
+    if kind == LINKS:
+        args[2] = rng.choice([0, 1, 1, 2, 2, 2, 3, 3, 4, 8, 9])
+        args += [number for _ in range(MOST_LINKS) for number in (rng.choice([0, 0, 0, 1, 1, 2]), rng.randrange(8))]
     attached = [s for s in range(16) if store.attached[s]]
     if args and attached and rng.random() < 0.9:
         args[0] = rng.choice(attached)

@@ -4,7 +4,7 @@ import itertools
 
 from funds import wide
 from layout import HEADER, NUMBER, least_list, size, size_of
-from model import ATTACH, DETACH, SAFE, ALLOCATE, LOAD, STORE, READ, WRITE, MOVE, CLEAR, SAME, GET, PUT, STEP
+from model import ATTACH, DETACH, SAFE, ALLOCATE, LOAD, STORE, READ, WRITE, MOVE, CLEAR, SAME, GET, PUT, STEP, LINKS
 from probe import MAKE, encode
 from sapphire import BIRTH, COMPANION, LEVELS, STRETCH, Sapphire
 
@@ -97,7 +97,7 @@ def small(change):
 
 CALLS = [(MAKE, []), (ATTACH, [1, 8]), (DETACH, [0]), (SAFE, [0]), (ALLOCATE, [0, 7, 1, 1]), (LOAD, [0, 7, 0, 1]), (STORE, [0, 0, 1, 2]),
          (READ, [0, 0, 1]), (WRITE, [0, 0, 1, 9]), (MOVE, [0, 7, 0]), (CLEAR, [0, 0]), (SAME, [0, 0, 1]), (GET, [0, 7, 0]),
-         (PUT, [0, 0, 2]), (STEP, []), (STRETCH, [0, 0]), (COMPANION, [0, 0]), (BIRTH, [0, 0])]
+         (PUT, [0, 0, 2]), (STEP, []), (STRETCH, [0, 0]), (COMPANION, [0, 0]), (BIRTH, [0, 0]), (LINKS, [0, 0, 2, 1, 2, 0, 4, 0, 3])]
 
 
 def arguments():
@@ -191,7 +191,8 @@ def session_calls():
     """Calls that follow references: level, phase, name, kind, arguments, and what is set before the call."""
     reading = [(LOAD, [0, 7, 0, 1]), (READ, [0, 1, 1]), (STRETCH, [0, 0]), (COMPANION, [0, 1]), (BIRTH, [0, 0]), (BIRTH, [0, 1])]
     by_level = [(SAME, [0, 2, 1]), (SAME, [0, 3, 4]), (SAME, [0, 4, 6]), (WRITE, [0, 0, 1, 7]), (WRITE, [0, 1, 1, 7]), (PUT, [0, 0, 2]),
-                (PUT, [0, 0, 3]), (PUT, [0, 0, 4]), *((STORE, [0, k, 1, source]) for k in (0, 1) for source in (2, 3, 4, 6))]
+                (PUT, [0, 0, 3]), (PUT, [0, 0, 4]), *((STORE, [0, k, 1, source]) for k in (0, 1) for source in (2, 3, 4, 6)),
+                (LINKS, [0, 0, 3, 0, 6, 1, 2, 0, 4]), (LINKS, [0, 1, 3, 1, 3, 0, 6, 1, 5])]
     for level, phase in LEVEL_PHASES:
         for kind, args in by_level + reading * (level in (0, 5)):
             yield level, phase, f"{kind} {args}", kind, args, lambda store: None

@@ -1,6 +1,6 @@
 """Where the store in Python follows a reference, and the test of its replica with the mistakes of tests/slips.py built in."""
 from layout import HEADER, NUMBER, size_of
-from model import BIRTH, COMPANION, LOAD, STORE, READ, WRITE, SAME, PUT, STEP, STRETCH
+from model import BIRTH, COMPANION, LINKS, LOAD, STORE, READ, WRITE, SAME, PUT, STEP, STRETCH
 from slips import (BACK_BY_PLACE, BACK_OR_NONE, BACK_SOMEWHERE, BACK_TO_ITSELF, BACK_UNTESTED, COLOUR_UNTESTED, COLOURS_COMPARED,
                    FIELDS_COMPARED, FRONTIER_OF_THIS, FRONTIER_UNTESTED, HALF_NOT_CURRENT, HALF_SAME, HALF_UNTESTED, HEADER_ALONE,
                    LEFT_BEFORE_5, LEFT_BELOW_3, LEFT_IN_12, LEFT_IN_FROMSPACE, LEFT_IN_TOSPACE, LINKS_ALONE, NONE_REFUSED,
@@ -19,6 +19,9 @@ def place(store, v):
         return place_in_step(store, v)
     if kind in (STORE, PUT):
         return place_in_barrier(store, kind, args, v)
+    if kind == LINKS:  # the arguments are those of a single store
+        found = place_in_barrier(store, STORE, args, v)
+        return found if found == REPLICA else f"several links: {found}"
     return {LOAD: "load", READ: "read", WRITE: "write", STRETCH: "stretch", COMPANION: "companion", BIRTH: "birth", SAME: "same"}[kind]
 
 

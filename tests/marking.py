@@ -7,19 +7,21 @@ import random
 from explained import need
 from judge import faults
 from layout import least_list, size
-from model import ATTACH, DETACH, SAFE, ALLOCATE, LOAD, STORE, READ, WRITE, MOVE, CLEAR, SAME, GET, PUT, STEP, MOST_BIRTHS
+from model import (ATTACH, DETACH, SAFE, ALLOCATE, LOAD, STORE, READ, WRITE, MOVE, CLEAR, SAME, GET, PUT, STEP, LINKS, MOST_BIRTHS,
+                   MOST_LINKS)
 from sapphire import LEVELS, WHITE, Sapphire
 
 MARKING, AFTER = 4, 5  # phases
 IMPORT = 15            # the session that loads and drops links; the other fifteen hold nothing
 BESIDE = 17            # steps that the bound has beside the used words: sixteen scans, and the one that leaves phase 4
+SCRIPT_LENGTH = 4096   # words of a half that the script program has
 
 
 class Run:
     """A run of the store in Python. `spent` counts the steps of this collection that began in phase 4; `worst` is the most that it was
     over the bound after any call."""
 
-    def __init__(self, length=4096, slip=None, most_births=MOST_BIRTHS):
+    def __init__(self, length=SCRIPT_LENGTH, slip=None, most_births=MOST_BIRTHS):
         self.store = Sapphire(length, least_list(length), slip, most_births)
         self.entries, self.lines, self.spent, self.worst = [], [], 0, -1 << 32
 
@@ -62,7 +64,7 @@ class Run:
         return self
 
 
-def attached(sessions, length=4096, slip=None, most_births=MOST_BIRTHS):
+def attached(sessions, length=SCRIPT_LENGTH, slip=None, most_births=MOST_BIRTHS):
     run = Run(length, slip, most_births)
     run.do(*[(ATTACH, [s]) for s in sessions])
     return run
@@ -95,6 +97,30 @@ def load_and_drop(run):
         run.do((CLEAR, [IMPORT, 1]))
 
 
+def all_links(register):
+    """The pairs of a call that stores a register in eight links."""
+    return [number for link in range(MOST_LINKS) for number in (link, register)]
+
+
+def chained_by_eight(length, slip=None):
+    """The same with records of eight links, all to the one made before."""
+    run = attached(range(16), length, slip)
+    for _ in range(length // size(MOST_LINKS, 0)):
+        run.do((ALLOCATE, [IMPORT, 1, MOST_LINKS, 0]), (LINKS, [IMPORT, 1, MOST_LINKS, *all_links(0)]), (MOVE, [IMPORT, 0, 1]))
+    run.do((CLEAR, [IMPORT, 1]))
+    return run.to(MARKING)
+
+
+def drop_eight(run):
+    """Between two steps: as above, with all eight links dropped by one call."""
+    held = run.store.registers[IMPORT][0]
+    if held:
+        run.do((LOAD, [IMPORT, 1, 0, 0]))
+        if run.store.at(held, 1) != WHITE:
+            run.do((LINKS, [IMPORT, 0, MOST_LINKS, *all_links(7)]), (MOVE, [IMPORT, 0, 1]))
+        run.do((CLEAR, [IMPORT, 1]))
+
+
 def come_and_go(run):
     """Between two steps: session 0 detaches and attaches."""
     run.do((DETACH, [0]), (ATTACH, [0]))
@@ -110,16 +136,29 @@ def marked(run, between, most=None):
 
 # ---- random runs
 
-WORK = [LOAD, STORE, GET, PUT, MOVE, CLEAR, ATTACH, DETACH, SAFE, READ, WRITE, SAME]
+# how often a session makes each call
+WORK = {LOAD: 24, STORE: 18, LINKS: 8, GET: 8, PUT: 8, MOVE: 6, CLEAR: 8, ATTACH: 5, DETACH: 2, SAFE: 3, READ: 1, WRITE: 1, SAME: 2}
+RESTLESS = {**WORK, ATTACH: 30, DETACH: 25}  # sessions that come and go
 
 
-def any_call(rng, sessions, makes):
+def several(rng, s):
+    """A call for several links, most often of fields that small records have, and of equal ones; now and then a pair that there is not."""
+    fields, count = rng.choice([1, 1, 2, 2, 3, 4]), rng.choice([0, 1, 2, 2, 2, 3, 4, 8, 8, 9])
+    pairs = [number for _ in range(MOST_LINKS) for number in (rng.randrange(fields), rng.choice([0, 1, 2, 3, 7]))]
+    if rng.random() < 0.06:
+        pairs[rng.randrange(len(pairs))] = rng.choice([4, 8, 255])
+    return LINKS, [s, rng.randrange(4), count, *pairs]
+
+
+def any_call(rng, sessions, makes, work=WORK):
     """A call of a session that works on links: it loads and overwrites many, comes and goes, and makes a record so often."""
     s, a, b, c = rng.randrange(sessions), rng.randrange(4), rng.randrange(4), rng.choice([0, 1, 2, 3, 7])
     i, g = rng.choice([0, 0, 0, 1, 1, 2, 3]), rng.choice([0, 1, 2, 31])
     if rng.random() < makes:
         return ALLOCATE, [s, a, rng.choice([0, 1, 1, 2, 3]), rng.choice([0, 0, 0, 1, 2])]
-    kind = rng.choices(WORK, [24, 24, 8, 8, 6, 8, 5, 2, 3, 1, 1, 2])[0]
+    kind = rng.choices(list(work), list(work.values()))[0]
+    if kind == LINKS:
+        return several(rng, s)
     return kind, {LOAD: [s, a, b, i], STORE: [s, a, i, c], GET: [s, a, g], PUT: [s, g, c], MOVE: [s, a, b], CLEAR: [s, a],
                   READ: [s, a, 0], WRITE: [s, a, 0, i], SAME: [s, a, b]}.get(kind, [s])
 
@@ -138,7 +177,7 @@ class Seen:
     """What the random runs have shown."""
 
     def __init__(self):
-        self.runs = self.calls = self.collections = self.within = 0
+        self.runs = self.calls = self.collections = self.within = self.links = 0
         self.nearest = -1 << 32  # the most steps over the bound, where phase 4 ended
         self.words = 0           # the most used words there
 
@@ -152,16 +191,19 @@ class Seen:
 def random_run(seed, seen, slip=None):
     """A run of many collections, most of its calls within phase 4. It stops where the bound is passed."""
     rng = random.Random(seed)
-    length = rng.choice([16, 17, 18, 24, 32, 48, 64, 120, 300, 1000, 4096])
+    length = rng.choice([16, 17, 18, 24, 32, 48, 64, 120, 300, 1000, SCRIPT_LENGTH])
     sessions, makes = rng.choice([1, 2, 3, 5, 10, 16]), rng.choice([0, 0.03, 0.1])
     busy, idle = rng.choice([0.5, 0.8, 0.95]), rng.choice([0, 0.1, 0.3])
+    work = {**(RESTLESS if seed % 3 == 1 else WORK), **({LINKS: 0} if length == SCRIPT_LENGTH else {})}  # no script has this one
     run = attached(range(sessions), length, slip)
     fill(rng, run, range(sessions), rng.choice([0, 0.3, 0.7, 1]) * length)
     while len(run.entries) < 6000 + length and run.worst <= 0:
         phase = run.store.phase
         if rng.random() < (busy if phase == MARKING else idle):
-            run.do(any_call(rng, sessions, makes))
+            entry = any_call(rng, sessions, makes, work)
+            done = run.do(entry) == (0, 0)
             seen.within += phase == MARKING
+            seen.links += done and phase == MARKING and entry[0] == LINKS
         else:
             lazy = [s for s in range(16) if run.store.attached[s] and run.store.level[s] != LEVELS[phase] and rng.random() < 0.7]
             run.do(*[(SAFE, [s]) for s in lazy], (STEP, []))

@@ -6,18 +6,25 @@ are attached, their registers, the globals and a list of records, but no shares;
 record's place in the list, from 1.
 
 An attach has a session and a share. In a script, and in the tests' entries of that form, it has the session alone, and its share is whole.
+A call for several links has a session, the register of the record, a count, and up to eight pairs of field number and register.
 """
 
 ATTACH, DETACH, SAFE, ALLOCATE, LOAD, STORE, READ, WRITE, MOVE, CLEAR, SAME, GET, PUT, STEP = range(1, 15)
-STRETCH, COMPANION, BIRTH = 15, 16, 17  # after the kinds of the script, which has none of them
+STRETCH, COMPANION, BIRTH, LINKS = 15, 16, 17, 18  # after the kinds of the script, which has none of them; the last stores several links
 MOST_BIRTHS = (1 << 32) - 1  # birth numbers that there are, from 1
 WHOLE_SHARE = (1 << 32) - 1  # the share, in words, of an attach that names none
 FITTED, NO_ROOM, OVER_SHARE = 0, 14, 17  # what is fed for an allocation
+MOST_LINKS = 8  # pairs that one call may store
 
 
 def share_in(args):
     """The share that an attach asks for, by its arguments without the session, or an open of the directory by all of its own."""
     return args[0] if args else WHOLE_SHARE
+
+
+def pairs_in(args):
+    """The pairs of a call for several links that its count takes, field number and register of each."""
+    return list(zip(args[3::2], args[4::2]))[:args[2]]
 
 
 def fed(kind, number):
@@ -74,6 +81,8 @@ class Model:
             return 0, 0
         if kind in (LOAD, STORE, READ, WRITE):
             return self._field(kind, regs, args)
+        if kind == LINKS:
+            return self._links(regs, args)
         if kind == BIRTH:
             return self._birth(regs, args[1])
         if kind == MOVE:
@@ -106,6 +115,20 @@ class Model:
         if g > 31:
             return 9, 0
         self.globals[g] = regs[source]
+        return 0, 0
+
+    def _links(self, regs, args):
+        """Single stores in list order. Where one is refused the record's links are put back."""
+        s, k, count = args[:3]
+        if count > MOST_LINKS:
+            return 10, 0
+        refs = self.records[regs[k] - 1][0] if k <= 7 and regs[k] else []
+        before = list(refs)
+        for i, source in pairs_in(args):
+            answer = self._field(STORE, regs, [s, k, i, source])
+            if answer[0]:
+                refs[:] = before
+                return answer
         return 0, 0
 
     def _birth(self, regs, k):

@@ -1,11 +1,11 @@
 """Cases for the probe program (crates/probe), or the program that the environment names as PROBE_PROGRAM: one call on a store of
 which every number and every word is given, and all that comes out.
 
-A case in 32-bit words, big-endian: kind and four arguments of the call, the three lent lengths, the control record, then the words
-of half 0, half 1 and the list. A reply: refusal number, value in two words, the control record, the words of both halves and the
-list, then a count and that many words of a stretch. A control record: current half; in two words each lengths, frontiers, phase,
-walk place, walk field, and the list's place and end; 32 globals; for each session its registers, level, share and charge, and whether it
-is attached and scanned; the birth numbers used.
+A case in 32-bit words, big-endian: kind and four arguments of the call, the three lent lengths, the control record, eight pairs of field
+number and register, which are 0 where the call stores no links, then the words of half 0, half 1 and the list. A reply: refusal number,
+value in two words, the control record, the words of both halves and the list, then a count and that many words of a stretch. A control
+record: current half; in two words each lengths, frontiers, phase, walk place, walk field, and the list's place and end; 32 globals; for
+each session its registers, level, share and charge, and whether it is attached and scanned; the birth numbers used.
 
 A call of the directory has 100 and the kind that it has in a directory script, and the arguments that it has there. Attach has its share
 for a second argument, and open for its only one. In the place of a stretch a directory call's reply has the words that a list was lent:
@@ -17,7 +17,7 @@ import subprocess
 
 import table
 from directory import Directory
-from model import ATTACH, share_in
+from model import ATTACH, LINKS, MOST_LINKS, share_in
 from sapphire import BIRTH, COMPANION, SESSIONS, STRETCH, Sapphire
 from scripts import ARGUMENTS
 
@@ -26,12 +26,14 @@ PROGRAM = os.environ.get("PROBE_PROGRAM", BUILT)
 MAKE = 0
 OPEN, ADD, REMOVE, MAKE_GROUP, JOIN, LEAVE, LIST = range(100 + table.OPEN, 100 + table.LIST + 1)
 MOST_LENT = 64  # words that a list may be lent
-COUNTS = {MAKE: 0, **ARGUMENTS, ATTACH: 2, STRETCH: 2, COMPANION: 2, BIRTH: 2,  # of arguments, for each kind
+COUNTS = {MAKE: 0, **ARGUMENTS, ATTACH: 2, STRETCH: 2, COMPANION: 2, BIRTH: 2, LINKS: 3,  # of arguments, for each kind, without pairs
           OPEN: 1, ADD: 1, REMOVE: 1, MAKE_GROUP: 1, JOIN: 2, LEAVE: 2, LIST: 2}
 BEFORE_SHARE = {ATTACH: 1, OPEN: 0}  # arguments before the share, which may be left out where it is the whole one
 CALL = struct.Struct(">8I")
 RECORD = struct.Struct(">I10Q32I208II")
 FIRST, EACH = 43, 13  # where the sessions begin among the numbers of a control record, and the words of each
+PAIRS = struct.Struct(f">{2 * MOST_LINKS}I")
+MEMORY = CALL.size + RECORD.size + PAIRS.size  # where the lent words of a case begin
 ANSWER = struct.Struct(">IQ")
 
 
@@ -39,19 +41,35 @@ def words(values):
     return struct.pack(f">{len(values)}I", *values)
 
 
-def given(store):
-    """The control record and the lent words of a store, as a case and a reply have them."""
+def record(store):
+    """The control record of a store."""
     sessions = [w for n in range(SESSIONS) for w in (*store.registers[n], store.level[n], store.share[n], store.charge[n],
                                                      store.attached[n], store.scanned[n])]
     return RECORD.pack(store.current, *store.length, store.capacity, *store.frontier, store.phase, store.place, store.field, store.head,
-                       store.tail, *store.globals, *sessions, store.births) + words(store.half[0] + store.half[1] + store.list)
+                       store.tail, *store.globals, *sessions, store.births)
+
+
+def memory(store):
+    """The lent words of a store."""
+    return words(store.half[0] + store.half[1] + store.list)
+
+
+def given(store):
+    """The control record and the lent words of a store, as a reply has them."""
+    return record(store) + memory(store)
+
+
+def unchanged(case):
+    """The same of a case."""
+    return case[CALL.size:CALL.size + RECORD.size] + case[MEMORY:]
 
 
 def encode(store, kind, args):
     if kind in BEFORE_SHARE:
         args = [*args[:BEFORE_SHARE[kind]], share_in(args[BEFORE_SHARE[kind]:])]
-    args = [*args, 0, 0, 0, 0][:4]
-    return CALL.pack(kind, *args, len(store.half[0]), len(store.half[1]), len(store.list)) + given(store)
+    pairs = PAIRS.pack(*[*args[COUNTS[kind]:], *[0] * 2 * MOST_LINKS][:2 * MOST_LINKS])
+    args = [*args[:COUNTS[kind]], 0, 0, 0, 0][:4]
+    return CALL.pack(kind, *args, len(store.half[0]), len(store.half[1]), len(store.list)) + record(store) + pairs + memory(store)
 
 
 def decode(case, slip=None):
@@ -59,7 +77,7 @@ def decode(case, slip=None):
     kind, *rest = CALL.unpack_from(case)
     lent = rest[4:]
     numbers = RECORD.unpack_from(case, CALL.size)
-    memory = struct.unpack_from(f">{sum(lent)}I", case, CALL.size + RECORD.size)
+    lent_words = struct.unpack_from(f">{sum(lent)}I", case, MEMORY)
     store = Sapphire(0, 0, slip)
     store.current, store.length, store.capacity, store.frontier = numbers[0], list(numbers[1:3]), numbers[3], list(numbers[4:6])
     store.phase, store.place, store.field, store.head, store.tail = numbers[6:11]
@@ -68,9 +86,16 @@ def decode(case, slip=None):
     store.registers = [list(sessions[at:at + 8]) for at in range(0, len(sessions), EACH)]
     store.level, store.share, store.charge = (list(sessions[at::EACH]) for at in (8, 9, 10))
     store.attached, store.scanned = ([bool(w) for w in sessions[at::EACH]] for at in (11, 12))
-    store.half = [list(memory[:lent[0]]), list(memory[lent[0]:lent[0] + lent[1]])]
-    store.list = list(memory[lent[0] + lent[1]:])
-    return store, kind, rest[:COUNTS.get(kind, 0)]
+    store.half = [list(lent_words[:lent[0]]), list(lent_words[lent[0]:lent[0] + lent[1]])]
+    store.list = list(lent_words[lent[0] + lent[1]:])
+    pairs = PAIRS.unpack_from(case, CALL.size + RECORD.size) if kind == LINKS else []
+    return store, kind, [*rest[:COUNTS.get(kind, 0)], *pairs]
+
+
+def after(case, reply):
+    """The store that a reply to a case leaves."""
+    left, end = reply[ANSWER.size:], RECORD.size
+    return decode(case[:CALL.size] + left[:end] + bytes(PAIRS.size) + left[end:])[0]
 
 
 def lent(kind, args):

@@ -6,7 +6,7 @@ from damage import LEVEL_PHASES, TOP, changed, putting, records, ref, set_item, 
 from following import place
 from funds import wide
 from layout import HEADER, NUMBER, size, size_of
-from model import LOAD, STORE, READ, WRITE, SAME, PUT, STEP
+from model import LOAD, STORE, READ, WRITE, SAME, PUT, STEP, LINKS
 from probe import MAKE, ask, decode, encode
 from sapphire import BIRTH, BLACK, COMPANION, GREY, LEVELS, STRETCH, WHITE, Refused, Sapphire
 
@@ -160,9 +160,10 @@ def changes(store, v):
 # ---- every call and step that follows
 
 WORKED_ON = [(LOAD, [0, NULL, AIMED, 1]), (READ, [0, AIMED, 0]), (WRITE, [0, AIMED, 0, 7]), (STRETCH, [0, AIMED]), (COMPANION, [0, AIMED]),
-             (BIRTH, [0, AIMED]), (STORE, [0, AIMED, 1, OTHER_FROM])]
-STORED = [(STORE, [0, HELD, 1, AIMED]), (STORE, [0, HELD_TO, 1, AIMED]), (PUT, [0, 3, AIMED])]
-OVERWRITTEN = [(STORE, [0, HELD, 0, LONE_FROM]), (PUT, [0, GLOBAL, LONE_FROM])]
+             (BIRTH, [0, AIMED]), (STORE, [0, AIMED, 1, OTHER_FROM]), (LINKS, [0, AIMED, 2, 0, NULL, 1, OTHER_FROM])]
+STORED = [(STORE, [0, HELD, 1, AIMED]), (STORE, [0, HELD_TO, 1, AIMED]), (PUT, [0, 3, AIMED]), (LINKS, [0, HELD, 2, 2, OTHER_TO, 1, AIMED]),
+          (LINKS, [0, HELD_TO, 3, 2, OTHER_FROM, 2, NULL, 1, AIMED])]
+OVERWRITTEN = [(STORE, [0, HELD, 0, LONE_FROM]), (PUT, [0, GLOBAL, LONE_FROM]), (LINKS, [0, HELD, 2, 2, OTHER_FROM, 0, LONE_FROM])]
 COMPARED = [(SAME, [0, AIMED, TWIN]), (SAME, [0, AIMED, OTHER_FROM]), (SAME, [0, OTHER_TO, AIMED]), (SAME, [0, NULL, AIMED])]
 
 

@@ -3,15 +3,17 @@
 It is the second opinion on what the script program must print, collector steps and allocations without room included, and on what
 a call does to any control record and any words: a store may be set up with numbers out of range, other lengths than those that are
 lent, and damaged memory. `slip` builds in a mistake of tests/slips.py, or several together, so that the tests can show that they would
-see it. `most_births` is how many birth numbers there are, which tests may lower. What a collector step does stands in tests/collector.py.
+see it. `most_births` is how many birth numbers there are, which tests may lower. What a collector step does stands in tests/collector.py,
+the call that stores several links in tests/links.py.
 """
 import accounts
+import links
 import numbering
 from collector import BLACK, GREY, LEVELS, SESSIONS, WHITE, Collector, Refused
 from following import passes
 from layout import HEADER, NUMBER, least_list, size
 from model import (ATTACH, DETACH, SAFE, ALLOCATE, LOAD, STORE, READ, WRITE, MOVE, CLEAR, SAME, GET, PUT, STEP, STRETCH, COMPANION, BIRTH,
-                   MOST_BIRTHS, share_in)
+                   LINKS, MOST_BIRTHS, share_in)
 from slips import (ATTACHED_SCANNED, ATTACHED_UNSCANNED, BLACK_EARLY, COLOUR_THREE, COMPANION_BLIND, COPY_UNNUMBERED,
                    COUNT_TESTED, DETACH_UNMARKS, FOLLOWING_SLIPS, FULL_LIST_SLIPS, LEVELS_ATTACHED, LIST_BY_3, LISTED_TWICE,
                    MAKING_COUNTS_ON, MARK_OF_BEFORE, MARKS_CLEARED, NUMBER_TESTED, OLD_AT_1, OLD_IN_4_ALONE, OLD_LEFT, OLD_LEFT_AT_3,
@@ -213,6 +215,8 @@ class Sapphire(Collector):
         s = args[0]
         if kind == ATTACH:
             return self._attach(s, share_in(args[1:]))
+        if kind == LINKS:
+            return links.store_links(self, args)
         self.session(s)
         regs, level = self.registers[s], self.level[s]
         if kind == DETACH:

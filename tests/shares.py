@@ -8,7 +8,7 @@ from damage import END, LEVEL_PHASES, TOP, USED, USUAL, X, Z, changed, pairs, pu
 from funds import wide
 from layout import COLOUR, least_list, size
 from model import ALLOCATE, ATTACH, DETACH, SAFE, STEP
-from probe import ANSWER, CALL, MAKE, decode, encode
+from probe import ANSWER, CALL, MAKE, after, decode, encode
 from sapphire import BLACK, LEVELS, SESSIONS, Sapphire
 
 RECLAIM = 12
@@ -149,22 +149,22 @@ def traits(case, reply):
     if kind not in (ALLOCATE, ATTACH, STEP):
         return []
     store, _, args = decode(case)
-    after = decode(case[:CALL.size] + reply[ANSWER.size:])[0]
+    left = after(case, reply)
     if kind == ALLOCATE:
-        return allocation_traits(store, after, number, *args) if number in (0, 17) else []
+        return allocation_traits(store, left, number, *args) if number in (0, 17) else []
     if kind == ATTACH:
         return [UNSET] if number == 7 else [SET] if number == 0 and store.charge[args[0]] else []
-    if store.phase == after.phase or not any(store.charge):
+    if store.phase == left.phase or not any(store.charge):
         return []
     absent = any(words for words, there in zip(store.charge, store.attached) if not there)
     return [CLEARED, *[ABSENT_CLEARED] * absent] if store.phase == RECLAIM else [LEFT]
 
 
-def allocation_traits(store, after, number, s, k, r, p):
+def allocation_traits(store, left, number, s, k, r, p):
     level, words = store.level[s], size(r, p)
     halves = [store.current] if level <= 2 else [0, 1]
     if number:
         full = any(store.frontier[h] + words > len(store.half[h]) for h in halves) or store.births == TOP
         return [(OVER, level)] + [(OVER_FIRST, level)] * full + [(PAST_ALL, level)] * (store.charge[s] + words > TOP)
-    once = len(halves) == 2 and after.charge[s] == store.charge[s] + words
-    return [(FILLED, level)] * (after.charge[s] == store.share[s]) + [(ONCE, level)] * once
+    once = len(halves) == 2 and left.charge[s] == store.charge[s] + words
+    return [(FILLED, level)] * (left.charge[s] == store.share[s]) + [(ONCE, level)] * once

@@ -71,11 +71,11 @@ WEAK_SLIPS = [REPLICAS_UNTESTED, LEFT_BEFORE_5, LEFT_IN_12, LEFT_IN_TOSPACE, LEF
               COLOUR_UNTESTED, FRONTIER_UNTESTED, HEADER_ALONE, SHAPE_UNTESTED, SHAPE_AT_LEAST, SHAPE_AT_MOST, SIZE_ALONE, LINKS_ALONE,
               PLAINS_ALONE, BACK_UNTESTED, BACK_SOMEWHERE, BACK_OR_NONE, BACK_BY_PLACE]
 # where a reference is followed, with the mistake to do it there by the old test
+STORING = ["store", "stored and shaded", "stored at level 4", "stored at level 5", "stored at level 6", "overwritten by store"]
 PLACES = {place: f"{place} by the old test" for place in [
-    "load", "read", "write", "stretch", "companion", "birth", "same", "store", "stored and shaded", "stored at level 4",
-    "stored at level 5", "stored at level 6", "put and shaded", "put at level 6", "overwritten by store", "overwritten by put",
-    "global shaded", "list entry", "field shaded", "register shaded", "walk in Allocate", "walk in Copy", "field copied",
-    "global flipped", "register flipped", "walk in Reclaim"]}
+    "load", "read", "write", "stretch", "companion", "birth", "same", *STORING, *(f"several links: {place}" for place in STORING),
+    "put and shaded", "put at level 6", "overwritten by put", "global shaded", "list entry", "field shaded", "register shaded",
+    "walk in Allocate", "walk in Copy", "field copied", "global flipped", "register flipped", "walk in Reclaim"]}
 FOLLOWING_SLIPS = {*STRICT_SLIPS, *WEAK_SLIPS, *PLACES.values(), NUMBERS_COMPARED}
 
 # ---- birth numbers, in what a session is answered: the runs of tests/test_birth.py
@@ -126,6 +126,34 @@ LINE_SHARE_SLIPS = [ATTACH_CLEARS, SHARE_KEPT, REFUSED_SHARES, DETACH_CLEARS, CH
 DETACH_UNSHARES = "detach sets the share to 0"  # which the next attach sets anew
 SHARE_MODULO, MAKING_KEEPS = "17 by words modulo 2^32", "making keeps shares and charges"
 SHARE_SLIPS = [*FREE_SHARE_SLIPS, *LINE_SHARE_SLIPS, DETACH_UNSHARES, SHARE_MODULO, MAKING_KEEPS]
+
+# ---- several links in one store, in a session's answer that the collector-free store does not give: the runs of tests/test_links.py
+REVERSED, EXCHANGED = "pairs from the last to the first", "field and register of a pair exchanged"
+LAST_PAIR_LEFT, BEYOND_COUNT = "the last pair left out", "pairs beyond the count stored too"
+REPEATED_FIRST, REPEATED_LAST = "of a repeated field the first pair alone", "of a repeated field the last pair alone"
+NINE_ALLOWED, EIGHT_REFUSED = "a count of nine done", "a count of eight refused with 10"
+COUNT_FIRST, COUNT_LAST = "10 before the session tests", "10 after all pairs"
+COUNT_AFTER = {number: f"10 after {number} of the record's register" for number in (8, 11)}
+NONE_FIRST = "a count of 0 done before the session tests"
+NONE_TESTED = {number: f"a count of 0 tested up to {number}" for number in (8, 11, 12)}
+ALL_REGISTERS_FIRST, RECORD_FIRST = "registers of all pairs tested first", "the record tested before the registers of pairs"
+FIELDS_FIRST = "fields of all pairs tested before the registers of later ones"
+STORES_STAY, PAIR_PASSED = "pairs before a refused one stay stored", "a refused pair passed over"
+LAST_REFUSAL = "the refusal of the last refused pair answered"
+END_STAYS = "the list's end stays moved by a refused call"  # with 12, when the list is full
+COLOURS_UNSEEN, SHADED_AGAIN = "colours not seen by later pairs", "a record shaded by an earlier pair shaded again"  # the same
+PLANNED_BLIND = "every pair planned on the words as they came in"  # the same
+FREE_LINK_SLIPS = [REVERSED, EXCHANGED, LAST_PAIR_LEFT, BEYOND_COUNT, REPEATED_FIRST, REPEATED_LAST, NINE_ALLOWED, EIGHT_REFUSED,
+                   COUNT_FIRST, COUNT_LAST, *COUNT_AFTER.values(), NONE_FIRST, *NONE_TESTED.values(), ALL_REGISTERS_FIRST, RECORD_FIRST,
+                   FIELDS_FIRST, STORES_STAY, PAIR_PASSED, LAST_REFUSAL, END_STAYS, COLOURS_UNSEEN, SHADED_AGAIN, PLANNED_BLIND]
+
+# ---- several links, in words alone, on damage and with a full list; these and all of the above show in the cases of tests/link_cases.py
+# and tests/link_damage.py
+LIST_STAYS, SHADING_STAYS = "list entries stay written by a refused call", "records stay shaded and listed by a refused call"
+END_UNSEEN = "room in the list counted from its end before the call"
+FIELDS_UNSEEN, COPIES_UNSEEN = "stored words not seen by later pairs", "words stored in the replica not seen by later pairs"
+OLD_OF_BEFORE, RECORD_ONCE = "old as it was before the call", "the record followed for the first pair alone"
+LINK_SLIPS = [*FREE_LINK_SLIPS, LIST_STAYS, SHADING_STAYS, END_UNSEEN, FIELDS_UNSEEN, COPIES_UNSEEN, OLD_OF_BEFORE, RECORD_ONCE]
 
 # ---- all in what is shaded and marked
 MARKING_SLIPS = MISSED_SLIPS + LINE_SLIPS + FULL_LIST_SLIPS + WORD_SLIPS

@@ -49,7 +49,7 @@ def check_bad_cases():
         if probe.run(case + probe.encode(probe.decode(case)[0], LIST, [1, lent]) + case) != want:
             sys.exit("test_directory_probe: a list that is lent too much is answered")
     for kind in (100, OPEN - 1, LIST + 1):
-        if probe.run(kind.to_bytes(4, "big") + case[4:]) != probe.ANSWER.pack(15, 0) + case[probe.CALL.size:] + probe.words([0]):
+        if probe.run(kind.to_bytes(4, "big") + case[4:]) != probe.ANSWER.pack(15, 0) + probe.unchanged(case) + probe.words([0]):
             sys.exit(f"test_directory_probe: kind {kind} is not answered with 15")
 
 
@@ -93,7 +93,7 @@ def beside_table(cases):
     for case, reply in probe.answered(cases):
         number = probe.ANSWER.unpack_from(reply)[0]
         before, kind, args = probe.decode(case)
-        after, plain = probe.decode(case[:probe.CALL.size] + reply[probe.ANSWER.size:])[0], plain_table(before)
+        after, plain = probe.after(case, reply), plain_table(before)
         told = plain.call(kind - 100, args, fed(number))[0]
         made = number == 0 and kind in (ADD, MAKE_GROUP, JOIN)
         held = plain.people, {group: plain.members(group) for group in plain.groups}

@@ -2,16 +2,17 @@
 """Marking comes to an end, by document 02: the collector steps of a collection that begin in phase 4 are never more than the current
 half's used words plus 17, after every call of a run.
 
-An import that loads and drops links, and a session that detaches and attaches between every two steps, end within that. By the rules of
-before they keep marking busy: the first for 18 steps a link, which larger halves make as many as one likes, the second without end. The
-script program gets both as scripts, and its lines are those of the store in Python. Then the extremes, of which one reaches the bound,
-and random runs in small and large halves."""
+An import that loads and drops links, one or eight at a time, and a session that detaches and attaches between every two steps, end within
+that. By the rules of before they keep marking busy: the first for 18 steps a link, which larger halves make as many as one likes, the
+last without end. The script program gets the first and the last as scripts, and its lines are those of the store in Python. Then the
+extremes, of which one reaches the bound, and random runs in small and large halves."""
 import time
 
 import program
 from explained import need
 from layout import HEADER, size
-from marking import AFTER, BESIDE, MARKING, Run, Seen, attached, chained, come_and_go, links_in, load_and_drop, marked, random_run
+from marking import (AFTER, BESIDE, MARKING, SCRIPT_LENGTH, Run, Seen, attached, chained, chained_by_eight, come_and_go, drop_eight,
+                     links_in, load_and_drop, marked, random_run)
 from model import ALLOCATE, LOAD, STORE, MOVE, PUT, SAFE, SAME, STEP
 from scripts import encode
 from slips import ATTACHED_UNSCANNED, BEFORE, COUNTED_TWICE, LISTED_TWICE, MARKS_CLEARED, PLACE_IN_HALF
@@ -43,6 +44,14 @@ def dropped_links(length):
     print(f"test_marking_ends: an import that loads and drops links, halves of {length} words: {now}; before {before.spent}")
 
 
+def eight_dropped(length):
+    """The import that drops eight links by one call."""
+    before = marked(chained_by_eight(length, BEFORE), drop_eight)
+    need(before.over() > 0, f"eight links in {length} words: {before.spent} steps by the rules of before, {before.allowed()} are allowed")
+    now = ended(f"eight links in {length} words", marked(chained_by_eight(length), drop_eight))
+    print(f"test_marking_ends: an import that drops eight links by one call, halves of {length} words: {now}; before {before.spent}")
+
+
 def long_links():
     run = marked(chained(8192, BEFORE), load_and_drop, ROUNDS)
     need(run.store.phase == MARKING and run.spent == ROUNDS, f"links: phase 4 ends after {run.spent} steps by the rules of before")
@@ -65,6 +74,8 @@ def comings():
 def held_up():
     for length in (16, 64, 1024, 4096):
         dropped_links(length)
+    for length in (48, 1024):
+        eight_dropped(length)
     print(f"test_marking_ends: the import by the rules of before: {long_links()}")
     comings()
 
@@ -204,14 +215,14 @@ def chance():
         run = random_run(seed, seen)
         need(run.worst <= 0, f"random run {seed}: {run.spent} steps, {run.used()} used words after entry {len(run.entries)}")
         run.judged(f"random run {seed}")
-        if run.store.length[0] == 4096:  # as the script program has them
+        if run.store.length[0] == SCRIPT_LENGTH:
             need(on_program(f"random run {seed}", run) == run.spent, f"random run {seed}: another number of steps on the program")
             shown += 1
     print(f"test_marking_ends: {seen.runs} random runs, {shown} on the program, {seen.calls} calls, {seen.collections} collections, "
-          f"{seen.within} calls other than steps within phase 4, at its end up to {seen.words} used words; {-seen.nearest} steps from the "
-          f"bound at the least")
-    need(shown > 10 and seen.collections > 2000 and seen.within > 300000 and seen.words > 4000 and seen.nearest >= -2,
-         "the runs do not show enough")
+          f"{seen.within} calls other than steps within phase 4, several links stored there {seen.links} times, at its end up to "
+          f"{seen.words} used words; {-seen.nearest} steps from the bound at the least")
+    need(shown > 10 and seen.collections > 2000 and seen.within > 300000 and seen.links > 1500 and seen.words > 4000
+         and seen.nearest >= -2, "the runs do not show enough")
     for slip in (MARKS_CLEARED, ATTACHED_UNSCANNED):
         passed = next((seed for seed in range(RUNS) if random_run(seed, Seen(), slip).worst > 0), None)
         need(passed is not None, f"no random run with '{slip}' passes the bound")

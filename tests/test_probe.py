@@ -3,7 +3,8 @@
 word, what documents 01 and 02 give, by the store in Python. Directed cases (edges of every range, every way to meet damage, both halves,
 both copies; every reference stored over every other, and all that shades or marks; right and wrong replicas wherever a reference is
 followed; the session scan over any registers; birth numbers asked for, given and used up; shares filled and passed, charges kept and
-cleared) and random ones, damaged stores and scans. Mistakes built into the store in Python are seen.
+cleared; several links stored at once, by pairs that see what those before them write) and random ones, damaged stores and scans. Mistakes
+built into the store in Python are seen.
 
     python3 tests/test_probe.py write    writes crates/probe/stdin and stdout anew, both from documents 01 and 02 alone
 """
@@ -20,29 +21,34 @@ import chance
 import damage
 import directory_cases
 import directory_shares
+import link_cases
+import link_chance
+import link_damage
+import link_traits
 import probe
 import replicas
 import scanning
 import shares
 import stretches
-from model import ATTACH, DETACH, SAFE, ALLOCATE, LOAD, STORE, READ, WRITE, MOVE, CLEAR, SAME, GET, PUT, STEP
+from model import ATTACH, DETACH, SAFE, ALLOCATE, LOAD, STORE, READ, WRITE, MOVE, CLEAR, SAME, GET, PUT, STEP, LINKS
 from sapphire import BIRTH, COMPANION, STRETCH
-from slips import DAMAGE_SLIPS, MARKING_SLIPS, NUMBER_SLIPS, PLACE_IN_HALF, PLACES, SCAN_SLIPS, SHARE_SLIPS, STRICT_SLIPS, WEAK_SLIPS
+from slips import (DAMAGE_SLIPS, LINK_SLIPS, MARKING_SLIPS, NUMBER_SLIPS, PLACE_IN_HALF, PLACES, SCAN_SLIPS, SHARE_SLIPS, STRICT_SLIPS,
+                   WEAK_SLIPS)
 
 CRATE = os.path.join(os.path.dirname(os.path.abspath(__file__)), "..", "crates", "probe")
-RANDOM, RANDOM_SCANS = 60000, 10000
-# the refusals that each call has, by document 01's table
+RANDOM, RANDOM_SCANS, RANDOM_LINKS = 70000, 10000, 20000
+# the refusals that each call has, by document 01's table and document 02
 SESSION = {4, 5, 6}
 RECORD = SESSION | {8, 11, 12}
 REFUSALS = {probe.MAKE: {1, 2, 3}, ATTACH: {4, 5, 7}, DETACH: SESSION, SAFE: SESSION, ALLOCATE: SESSION | {8, 10, 14, 16, 17},
             LOAD: RECORD | {13}, STORE: RECORD | {13}, READ: RECORD | {13}, WRITE: RECORD | {13}, MOVE: SESSION | {8}, CLEAR: SESSION | {8},
             SAME: SESSION | {8, 12}, GET: SESSION | {8, 9}, PUT: SESSION | {8, 9, 12}, STEP: {4, 12}, STRETCH: RECORD, COMPANION: RECORD,
-            BIRTH: RECORD}
+            BIRTH: RECORD, LINKS: RECORD | {10, 13}}
 
 
 def files():
     """What crates/probe/stdin and stdout must hold."""
-    cases = [case for _, case in [*stretches.few(), *births.few(), *directory_cases.few(), *shares.few(), *directory_shares.few()]]
+    cases = [case for some in (stretches, births, directory_cases, shares, directory_shares, link_cases) for _, case in some.few()]
     return b"".join(cases), b"".join(probe.expected(case) for case in cases)
 
 
@@ -53,15 +59,18 @@ def held(name):
 
 def compare(cases):
     """Runs the program on the cases; its whole output must be what documents 01 and 02 give. How often each kind had each number, and
-    how often each trait of birth numbers and of shares came."""
+    how often each trait of birth numbers, of shares and of several links came."""
     seen, traits = {}, Counter()
     for case, want in probe.answered(cases):
         kind, number = probe.CALL.unpack_from(case)[0], probe.ANSWER.unpack_from(want)[0]
+        if kind == LINKS and number and want[probe.ANSWER.size:] != probe.unchanged(case) + probe.words([0]):
+            sys.exit("test_probe: a refused call for several links has changed something")
         if kind == STRETCH:  # why it was refused only its companion says
             number, = probe.ANSWER.unpack_from(probe.expected(COMPANION.to_bytes(4, "big") + case[4:]))[:1]
         seen[kind, number] = seen.get((kind, number), 0) + 1
         traits.update(births.traits(case, want))
         traits.update(shares.traits(case, want))
+        traits.update(link_traits.traits(case, want))
     return seen, traits
 
 
@@ -76,7 +85,7 @@ def check_replicas(kind, cases, least):
         done.update((place, level) for place in set(passed) if number == 0 and place in PLACES)
     print(f"test_probe: the {kind} cases follow a record with a replica and are done {done.total()} times, are refused for a replica "
           f"{refused.total()} times; at each of {len(done)} places and levels {min(done.values())} and {min(refused.values())} at least")
-    if done.keys() != refused.keys() or len(done) < 75 or min(*done.values(), *refused.values()) < least:
+    if done.keys() != refused.keys() or len(done) < 90 or min(*done.values(), *refused.values()) < least:
         sys.exit(f"test_probe: the {kind} cases do not show enough of replicas: {sorted(done.items())}, {sorted(refused.items())}")
 
 
@@ -105,6 +114,23 @@ def check_shares(kind, traits, least):
         sys.exit(f"test_probe: the {kind} cases do not show enough of shares: {[(trait, traits[trait]) for trait in shares.TRAITS]}")
 
 
+def check_links(kind, traits, wanted, least, blind):
+    """That several links are stored and refused in all these ways, at least so often; and so often with another answer, or other words, by
+    pairs that are planned on the words as they came in."""
+    def times(of):
+        return sum(count for trait, count in traits.items() if isinstance(trait, tuple) and trait[0] == of)
+    done, full, shaded = (times(of) for of in (link_traits.DONE, link_traits.FULL, link_traits.SHADED))
+    ways = link_traits.PASSES, link_traits.REFUSED
+    words = [sum(traits[trait] for trait in link_traits.seen_words() if trait[3] == way) for way in ways]
+    print(f"test_probe: the {kind} cases store several links {done} times, {shaded} times a record that an earlier pair has shaded; "
+          f"refused by a full list {full} times; a pair is done {words[0]} times only because of one word that an earlier one wrote, "
+          f"refused {words[1]} times; planned on the words as they came in they have another answer {traits[link_traits.BLIND_ANSWER]} "
+          f"times, other words {traits[link_traits.BLIND_WORDS]} times")
+    lacking = [(trait, traits[trait]) for trait in wanted if traits[trait] < least]
+    if lacking or traits[link_traits.BLIND_ANSWER] < blind or traits[link_traits.BLIND_WORDS] < blind // 5:
+        sys.exit(f"test_probe: the {kind} cases do not show enough of several links: {lacking}")
+
+
 def check_scans(kind, cases):
     """Runs the program on cases of the session scan. And the model: it refuses none but with 12, and then changes nothing."""
     names, seen = {case: name for name, case in cases}, Counter()
@@ -112,7 +138,7 @@ def check_scans(kind, cases):
         number, _ = probe.ANSWER.unpack_from(reply)
         if number not in (0, 12):
             sys.exit(f"test_probe: refused with {number}: {names[case]}")
-        if number and reply[probe.ANSWER.size:] != case[probe.CALL.size:] + probe.words([0]):
+        if number and reply[probe.ANSWER.size:] != probe.unchanged(case) + probe.words([0]):
             sys.exit(f"test_probe: refused, and has changed something: {names[case]}")
         seen.update(scanning.traits(case, reply))
     print(f"test_probe: {len(cases)} {kind} cases of the session scan, {seen['beside']} of them other steps, {seen['refused']} scans "
@@ -127,17 +153,26 @@ def check_bad_cases():
     """A case that is cut short, or lends more than the program has, is not answered, and ends the program; an unknown kind is 15."""
     _, case = next(stretches.few())
     want = probe.expected(case)
-    memory = probe.CALL.size + probe.RECORD.size  # where the lent words begin
-    for n in (0, 1, probe.CALL.size - 1, probe.CALL.size, memory - 1, memory, len(case) - 1):
+    pairs, memory = probe.CALL.size + probe.RECORD.size, probe.MEMORY  # where the pairs and the lent words begin
+    for n in (0, 1, probe.CALL.size - 1, probe.CALL.size, pairs - 1, pairs, pairs + 1, memory - 1, memory, len(case) - 1):
         if probe.run(case + case[:n]) != want:
             sys.exit(f"test_probe: a case cut after {n} bytes is answered")
     for at in (20, 24, 28):
         if probe.run(case + case[:at] + (1025).to_bytes(4, "big") + case[at + 4:] + case * 9) != want:
             sys.exit("test_probe: a case that lends too much is answered")
-    for kind in (18, 255, 1 << 31):
+    for kind in (19, 99, 255, 1 << 31):
         unknown = kind.to_bytes(4, "big") + case[4:]
-        if probe.run(unknown) != probe.ANSWER.pack(15, 0) + case[probe.CALL.size:] + probe.words([0]):
+        if probe.run(unknown) != probe.ANSWER.pack(15, 0) + probe.unchanged(case) + probe.words([0]):
             sys.exit(f"test_probe: kind {kind} is not answered with 15")
+
+
+def check_pairs_unread():
+    """The words of the pairs are nothing to a call that stores no links."""
+    cases = [case for some in (stretches, births, directory_cases, shares, directory_shares) for _, case in some.few()]
+    junk = probe.words(link_cases.JUNK)
+    changed = [case[:probe.MEMORY - len(junk)] + junk + case[probe.MEMORY:] for case in cases]
+    if probe.run(b"".join(changed)) != b"".join(map(probe.expected, cases)):
+        sys.exit("test_probe: a call that stores no links is answered otherwise by the words of the pairs")
 
 
 def slipped(case, slip):
@@ -163,10 +198,13 @@ def main():
     if (held("stdin"), held("stdout")) != files():
         sys.exit("test_probe: crates/probe/stdin and stdout are not those that this test writes")
     check_bad_cases()
+    check_pairs_unread()
     directed, marking = [*stretches.directed(), *damage.directed()], list(barriers.directed())
-    by_chance = list(chance.random_cases(RANDOM))
+    by_chance = [*chance.random_cases(RANDOM), *link_chance.random_cases(RANDOM_LINKS)]
     paired, numbered, charged = list(replicas.directed()), list(births.directed()), list(shares.directed())
-    for name, cases, least in [("directed", directed + marking + paired + numbered + charged, 20), ("random", by_chance, 10)]:
+    linked = [*link_cases.directed(), *link_damage.directed()]
+    for name, cases, least, wanted in [("directed", directed + marking + paired + numbered + charged + linked, 20, link_traits.TRAITS),
+                                       ("random", by_chance, 10, [])]:
         seen, traits = compare(cases)
         numbers = {}
         for (_, number), count in seen.items():
@@ -177,6 +215,7 @@ def main():
             sys.exit(f"test_probe: the {name} cases of the kinds {lacking} do not have just the refusals of document 01's table")
         check_numbers(name, traits, least)
         check_shares(name, traits, least)
+        check_links(name, traits, wanted, 2, 1000)
     check_replicas("directed", paired, 10)
     check_replicas("random", by_chance, 1)
     scans = scanning.directed()
@@ -188,6 +227,7 @@ def main():
     check_slips(SCAN_SLIPS, scans)
     check_slips(NUMBER_SLIPS, numbered)
     check_slips(SHARE_SLIPS, charged)
+    check_slips(LINK_SLIPS, random.Random(1).sample(linked, len(linked)))
     print(f"test_probe: {time.time() - began:.0f} s")
 
 

@@ -1,5 +1,5 @@
 -- The starred examples, and runs computed by the checker: the script example of document 01, a whole collection, a record allocated
--- during one, the last birth number, shares and charges, and two runs in which marking takes as long as it can.
+-- during one, the last birth number, shares and charges, several links, and two runs in which marking takes as long as it can.
 use Prim.Native.Nat.{ℕ, zero, suc, _+_}
 use mathlib.Core.Path.{_≡_, refl}
 use mathlib.Core.List.{List, [], _∷_, _++_, map}
@@ -12,14 +12,15 @@ use Rattle.rules.specs.Phases.{levelOf, nextPhase, otherHalf, fromspace,
 use Rattle.rules.specs.Barriers.{toShade, listRoom, shading, shade, listing, shadingAll, shadesAt, shadesOldAt, copiesAt, barrierShades, shadeBoth, replicaFor, ownWord, replicaWord, storeWrites, putBoth, sameAt, roomIn, allocationRoom, placed, allocated, allocatedReference}
 use Rattle.rules.specs.Calls as calls
 use Rattle.rules.specs.Collector as collector
-use Rattle.rules.specs.Runs.{Call, Attach, Detach, SafePoint, Allocate, Load, StoreRef, Read, Write, Clear, Birth, Step, run, after, spent}
+use Rattle.rules.specs.Runs.{Call, Attach, Detach, SafePoint, Allocate, Load, StoreRef, StoreLinks, Read, Write, Clear, SameAs, Birth, Step, run, after, spent}
 use Rattle.rules.specs.Script.{scriptShare}
 use Rattle.rules.specs.Examples.{makingOf, small, replyNumber, replyValue, numbers, values, starred}
 use Rattle.rules.specs.Claims.{Starred}
+use Rattle.rules.specs.declared.Link.{Link}
 
 -- opens every definition that a closed run computes with
 unfoldable pub rules : Unit {0}
-unfolding small numbers values halfAllowed listAllowed lengthsAllowed sameLengths walkLimit inRange half frontier withHalf withFrontier reference halfOf wordOf inHalf shapeWord refsOf plainsOf newRecord word put colour replica birthNumber refs plains size append nextReference sound pointsBack followable followed copyOf otherCopy forward levelOf nextPhase otherHalf fromspace tospace sessionAt withSession register unmarked withoutCharges uncharged moveOn toShade listRoom shading shade listing shadingAll shadesAt shadesOldAt copiesAt barrierShades shadeBoth replicaFor ownWord replicaWord storeWrites putBoth roomIn allocationRoom placed allocated allocatedReference calls.sessionOf calls.operandsOf calls.recordOf calls.withRegister calls.attach calls.detach calls.safePoint calls.withinShare calls.numberLeft calls.charged calls.allocate calls.loadPlan calls.load calls.storePlan calls.storeCommit calls.store calls.read calls.birth calls.writePlan calls.writeCommit calls.write calls.clear collector.walked collector.below collector.pastRecord collector.haveLevel collector.rest collector.handshake collector.rootMark collector.scanRecord collector.scanSession collector.heapMark collector.needsShell collector.shellOf collector.withShell collector.allocateShells collector.copyRef collector.copyPlain collector.copyField collector.copy collector.rootFlip collector.stackFlip collector.reclaim collector.step calls.same making makingOf sameAt
+unfolding small numbers values halfAllowed listAllowed lengthsAllowed sameLengths walkLimit inRange half frontier withHalf withFrontier reference halfOf wordOf inHalf shapeWord refsOf plainsOf newRecord word put colour replica birthNumber refs plains size append nextReference sound pointsBack followable followed copyOf otherCopy forward levelOf nextPhase otherHalf fromspace tospace sessionAt withSession register unmarked withoutCharges uncharged moveOn toShade listRoom shading shade listing shadingAll shadesAt shadesOldAt copiesAt barrierShades shadeBoth replicaFor ownWord replicaWord storeWrites putBoth roomIn allocationRoom placed allocated allocatedReference calls.sessionOf calls.operandsOf calls.recordOf calls.withRegister calls.attach calls.detach calls.safePoint calls.withinShare calls.numberLeft calls.charged calls.allocate calls.loadPlan calls.load calls.storePlan calls.storeCommit calls.store calls.isCount calls.storeLinks calls.read calls.birth calls.writePlan calls.writeCommit calls.write calls.clear collector.walked collector.below collector.pastRecord collector.haveLevel collector.rest collector.handshake collector.rootMark collector.scanRecord collector.scanSession collector.heapMark collector.needsShell collector.shellOf collector.withShell collector.allocateShells collector.copyRef collector.copyPlain collector.copyField collector.copy collector.rootFlip collector.stackFlip collector.reclaim collector.step calls.same making makingOf sameAt
 rules = tt
 
 pub starred-hold : Starred
@@ -144,6 +145,37 @@ nearly = withSession small 0 (withCharge (sessionAt small 0) 4294967290)
 no-wrap : map replyNumber (run nearly (Attach 0 4294967295 ∷ Allocate 0 0 1 1 ∷ Allocate 0 0 1 0 ∷ Allocate 0 0 0 0 ∷ [])) ≡ 0 ∷ 17 ∷ 0 ∷ 17 ∷ []
 unfolding rules nearly
 no-wrap = refl
+
+-- ---- several links: a record of two reference fields in register 0, another record in register 1, the other registers null
+linked : List Call
+linked = Attach 0 scriptShare ∷ Allocate 0 0 2 0 ∷ Allocate 0 1 0 1 ∷ []
+
+link : ℕ → ℕ → Link
+link i from = record { field = i; from = from }
+
+-- nine links; none, of a record in register 99; field 2 for the second link; register 9 for the second; nothing stored by any of them
+refusedLinks : List Call
+refusedLinks =
+    StoreLinks 0 0 9 [] ∷ StoreLinks 0 99 0 [] ∷ StoreLinks 0 0 3 (link 0 1 ∷ link 2 1 ∷ link 0 9 ∷ [])
+    ∷ StoreLinks 0 0 3 (link 0 1 ∷ link 0 9 ∷ link 2 1 ∷ []) ∷ Load 0 2 0 0 ∷ SameAs 0 2 7 ∷ []
+
+links-refused : numbers (linked ++ refusedLinks) ≡ replicate 3 0 ++ (10 ∷ 0 ∷ 13 ∷ 8 ∷ 0 ∷ 0 ∷ [])
+unfolding rules linked link refusedLinks
+links-refused = refl
+
+links-left : values (linked ++ refusedLinks) ≡ replicate 8 0 ++ (1 ∷ [])
+unfolding rules linked link refusedLinks
+links-left = refl
+
+-- a repeated field: the last link stays
+repeated : List Call
+repeated =
+    StoreLinks 0 0 2 (link 0 1 ∷ link 0 7 ∷ []) ∷ Load 0 2 0 0 ∷ SameAs 0 2 7 ∷ StoreLinks 0 0 2 (link 0 7 ∷ link 0 1 ∷ [])
+    ∷ Load 0 2 0 0 ∷ SameAs 0 2 1 ∷ []
+
+links-repeated : values (linked ++ repeated) ≡ replicate 5 0 ++ (1 ∷ 0 ∷ 0 ∷ 1 ∷ [])
+unfolding rules linked link repeated
+links-repeated = refl
 
 -- ---- the bound on marking: 17 are a scan of each of sixteen sessions and the step that moves on
 

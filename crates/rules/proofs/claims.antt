@@ -8,3 +8,5 @@ pub mod TwoRuns
 pub mod Numbers
 -- of claim 8: what following tests
 pub mod Following
+-- claim 11: several links are single stores
+pub mod Links

@@ -1,20 +1,22 @@
--- The claims about the rules. Together with the contracts of the code they say points 1, 2 and 3, and requests [3], [5], [6] and [7].
+-- The claims about the rules. Together with the contracts of the code they say points 1, 2 and 3, and requests [3] and [5] to [8].
 use Prim.Native.Nat.{ℕ, suc, _+_, _-_, _≤_, _<_}
 use mathlib.Core.Path.{_≡_}
 use mathlib.Core.Logic.{_≢_, _⊎_}
-use mathlib.Core.Bool.{true}
+use mathlib.Core.Bool.{true, cond}
 use mathlib.Core.List.{List, [], _∷_, map, List·Memᴰ}
 use lib.ListN.{getD, length, take}
-use Rattle.rules.specs.Refusals.{passed, answer, doneOr}
+use Rattle.rules.specs.Refusals.{refused, passed, Reply, answer, isRefusal, doneOr}
 use Rattle.rules.specs.Memory.{Memory, frontier, null, reference, halfOf, shapeAt, word, replica, birthNumber, refs, plains, sizeOf, size, sound, followed}
 use Rattle.rules.specs.Cycle.{atRest, atHeapMark, atReclaim}
 use Rattle.rules.specs.Control.{Store, make, inRange, sessionCount}
 use Rattle.rules.specs.Phases.{otherHalf, sessionAt}
-use Rattle.rules.specs.Runs.{Call, Attach, SafePoint, Allocate, Step, apply, after, isSession, isAllocation, sessionCalls, sessionRun, fedBy, feeds, steps, spent}
+use Rattle.rules.specs.Calls.{sessionOf, mostLinks}
+use Rattle.rules.specs.Runs.{Call, Attach, SafePoint, Allocate, StoreRef, StoreLinks, Step, apply, run, after, isSession, isAllocation, sessionCalls, sessionRun, fedBy, feeds, steps, spent}
 use Rattle.rules.specs.Free.{Free, newFree, freeSession, freeRegister, freeSessionOf, freeApply, freeRun}
 use Rattle.rules.specs.Tracking.{Beside, newBeside, beside, Reached, recordsOf, wordsAt}
 use Rattle.rules.specs.Examples.{starred}
 use Rattle.rules.specs.declared.Session.{Session}
+use Rattle.rules.specs.declared.Link.{Link}
 use Rattle.rules.specs.declared.Answer.the-variants.{Refused, Done}
 
 -- a store from a making that wasn't refused, "whatever words halves and list then hold"
@@ -322,3 +324,40 @@ RoomForShares =
     → (ds : List Call) → SharesKept t ds
     → ((i : ℕ) → after t (take i ds) .phase ≡ atReclaim → after t (take (suc i) ds) .phase ≢ atRest)
     → (n k r p : ℕ) → apply (after t ds) (Allocate n k r p) .reply ≢ answer (Refused 14)
+
+-- ---- 11. Several links
+-- "single stores in list order": as calls
+abbrev pub singleStores : ℕ → ℕ → List Link → List Call
+singleStores n k xs = map (λ x. StoreRef n k (x .field) (x .from)) xs
+
+-- the first refusal among replies, or that all is done
+abbrev pub firstRefusal : List Reply → Reply
+firstRefusal [] = answer Done
+firstRefusal (r ∷ rs) = cond (isRefusal r) r (firstRefusal rs)
+
+-- Request [8]: "A count above eight is refused with 10 right after the session tests; a count of 0 succeeds there, storing nothing". On every
+-- store, whatever the register of the record and the links are.
+unfoldable pub LinksCounted : Type 0
+LinksCounted =
+    (s : Store) (n k count : ℕ) (xs : List Link)
+    → ((r : ℕ) → sessionOf s n ≡ refused r → apply s (StoreLinks n k count xs) .reply ≡ answer (Refused r))
+    × (sessionOf s n ≡ passed (sessionAt s n) → mostLinks < count → apply s (StoreLinks n k count xs) .reply ≡ answer (Refused 10))
+    × (sessionOf s n ≡ passed (sessionAt s n) → apply s (StoreLinks n k 0 xs) ≡ record { store = s; reply = answer Done })
+
+-- "Otherwise the refusal is the first that a single store, in list order, would meet, the pairs before it done": on every store the answer is that of
+-- the single stores made one after another, each on what those before it left, up to the first refusal
+unfoldable pub LinksAnswer : Type 0
+LinksAnswer =
+    (s : Store) (n k count : ℕ) (xs : List Link) → sessionOf s n ≡ passed (sessionAt s n) → count ≤ mostLinks
+    → apply s (StoreLinks n k count xs) .reply ≡ firstRefusal (run s (singleStores n k (take count xs)))
+
+-- "stores all or none; the result is that of single stores in list order, a repeated field included": on every store, where the call is done. Where
+-- it is refused, the store is as it came (`RefusalsKeep`).
+unfoldable pub LinksStored : Type 0
+LinksStored =
+    (s : Store) (n k count : ℕ) (xs : List Link) → apply s (StoreLinks n k count xs) .reply ≡ answer Done
+    → apply s (StoreLinks n k count xs) .store ≡ after s (singleStores n k (take count xs))
+
+-- so one link is a single store: on every store, with the same answer and the same words
+unfoldable pub OneLink : Type 0
+OneLink = (s : Store) (n k : ℕ) (x : Link) (xs : List Link) → apply s (StoreLinks n k 1 (x ∷ xs)) ≡ apply s (StoreRef n k (x .field) (x .from))

@@ -36,6 +36,15 @@ pub data Reply : Type 0 where
   answer : Answer → Reply
   words : List ℕ → Reply
 
+-- whether it is a refusal
+abbrev pub isRefusal : Reply → Bool
+isRefusal (answer (Refused n)) = true
+isRefusal (answer Done) = false
+isRefusal (answer (Word w)) = false
+isRefusal (answer (Same b)) = false
+isRefusal (answer (Phase p)) = false
+isRefusal (words ws) = false
+
 -- all that a call leaves: the store, and the reply
 pub record Outcome (S : Type 0) : Type 0 where
   pub store : S

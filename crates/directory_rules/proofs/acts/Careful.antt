@@ -2,11 +2,10 @@
 use Prim.Native.Nat.{ℕ, zero, suc, _+_, _≤_}
 use mathlib.Core.Path.{_≡_, refl}
 use mathlib.Core.Bool.{Bool, true, false, cond, true≢false}
-use Rattle.rules.specs.Refusals.{refusalOf, Reply, answer}
+use Rattle.rules.specs.Refusals.{refusalOf, Reply, answer, isRefusal}
 use Rattle.rules.specs.Control.{Store}
 use Rattle.rules.specs.Runs.{apply}
 use Rattle.rules.specs.declared.Answer.the-variants.{Refused}
-use Rattle.rules.proofs.relation.Replies.{isRefusal}
 use Rattle.directory_rules.specs.Acts.{Ask, allocate, clear, callOf, Act, stop, give, ask, _>>=_, demand, orStop, clearing, ending, Performed, perform}
 use Rattle.directory_rules.specs.Claims.{byTests, mostFields}
 use Rattle.directory_rules.proofs.acts.First.{ask-keeps}

@@ -2,11 +2,10 @@
 use Prim.Native.Nat.{ℕ, suc, _+_, _≤_}
 use mathlib.Core.Path.{_≡_, refl}
 use mathlib.Core.Bool.{true, false}
-use Rattle.rules.specs.Refusals.{Reply, answer}
+use Rattle.rules.specs.Refusals.{Reply, answer, isRefusal}
 use Rattle.rules.specs.Control.{Store}
 use Rattle.rules.specs.Runs.{isAllocation, apply}
 use Rattle.rules.specs.declared.Answer.the-variants.{Refused}
-use Rattle.rules.proofs.relation.Replies.{isRefusal}
 use Rattle.directory_rules.specs.Table.{Request, Open, Add, Remove, Make, Join, Leave, Members}
 use Rattle.directory_rules.specs.Acts.{Ask, allocate, callOf, Act, stop, give, ask}
 use Rattle.directory_rules.specs.Directory.{firstAsk, inner, program}

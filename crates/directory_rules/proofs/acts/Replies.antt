@@ -6,14 +6,13 @@ use mathlib.Core.Bool.{Bool, true, false, cond, not, _&&_, _||_, true≢false, a
 use mathlib.Core.List.{List, [], _∷_, List·Memᴰ, List·Memᴰ·head, List·Memᴰ·tail}
 use lib.Dec.{eqb}
 use borrow.Author.Tests.{eqb-true}
-use Rattle.rules.specs.Refusals.{Reply, answer, words}
+use Rattle.rules.specs.Refusals.{Reply, answer, words, isRefusal}
 use Rattle.rules.specs.Control.{Store}
 use Rattle.rules.specs.Runs.{Call, isAllocation, apply}
 use Rattle.rules.specs.Claims.{storeNumbers, allocationNumbers, Numbers}
 use Rattle.rules.specs.declared.Answer.the-variants.{Refused, Done, Word, Same, Phase}
 use Rattle.rules.proofs.Ranges.{both}
 use Rattle.rules.proofs.memory.Cases.{bool-or}
-use Rattle.rules.proofs.relation.Replies.{isRefusal}
 use Rattle.rules.proofs.relation.Rows.{listed}
 use Rattle.rules.proofs.claims.Numbers.{member, numbers}
 use Rattle.directory_rules.specs.Acts.{Act, stop, give, _>>=_, orStop, Found, ended, failed, word, foundIn, atNull}

@@ -2,17 +2,9 @@
 use Prim.Native.Nat.{ℕ}
 use mathlib.Core.Path.{_≡_, sym, _∙_, ap}
 use mathlib.Core.Logic.{_≢_}
-use mathlib.Core.Bool.{Bool, true, false, true≢false}
-use Rattle.rules.specs.Refusals.{Reply, answer, words, numberOf}
-use Rattle.rules.specs.declared.Answer.the-variants.{Refused, Done, Word, Same, Phase}
-
-abbrev pub isRefusal : Reply → Bool
-isRefusal (answer (Refused n)) = true
-isRefusal (answer Done) = false
-isRefusal (answer (Word w)) = false
-isRefusal (answer (Same b)) = false
-isRefusal (answer (Phase p)) = false
-isRefusal (words ws) = false
+use mathlib.Core.Bool.{false, true≢false}
+use Rattle.rules.specs.Refusals.{Reply, answer, words, isRefusal, numberOf}
+use Rattle.rules.specs.declared.Answer.the-variants.{Refused}
 
 -- refusals differ where their numbers do
 abbrev pub numberIn : Reply → ℕ

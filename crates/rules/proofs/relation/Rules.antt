@@ -9,7 +9,7 @@ use lib.ListN.{getD, take}
 use native.Mathlib.Nat.{le-refl}
 use native.Mathlib.Omega.{arith}
 use borrow.Author.Tests.{eq-eqb}
-use Rattle.rules.specs.Refusals.{Tested, check, _>>_, answer, Outcome, settle, done, doneOr}
+use Rattle.rules.specs.Refusals.{Tested, check, _>>_, answer, isRefusal, Outcome, settle, done, doneOr}
 use Rattle.rules.specs.Cycle.{atHeapMark, atReclaim}
 use Rattle.rules.specs.Control.{Store, inRange, lastSession}
 use Rattle.rules.specs.Phases.{sessionAt, withSession, moveOn}
@@ -19,7 +19,6 @@ use Rattle.rules.specs.Runs.{Call, Attach, Detach, SafePoint, Allocate, 
 use Rattle.rules.specs.declared.Session.{Session}
 use Rattle.rules.specs.declared.Link.{Link}
 use Rattle.rules.specs.declared.Answer.the-variants.{Refused}
-use Rattle.rules.proofs.relation.Replies.{isRefusal}
 use Rattle.rules.proofs.relation.Units.{each-unit}
 use Rattle.rules.proofs.relation.Rows.{Ends, refuses, passes, then-row, after-row, map-row, row, one-test, Allowed, allowed, Row, followed-row, forward-row, shading-row, shading-all-row, replica-row, store-writes-row, put-writes-row, same-at-row, forward-all-row, of-session, record-row}
 use Rattle.rules.proofs.relation.Stays.{NoAttach, NoAllocation, Stays, Kept, held, shade-both-held, unwritten, uncharged-stays, stays}
