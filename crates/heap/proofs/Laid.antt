@@ -1,5 +1,5 @@
 -- Halves with pending words written: their lengths, each word, and one pending word after another.
-use Prim.Native.Nat.{ℕ, zero, suc, _+_, _-_, _*_, _/_, _%_, _≤_, _<_}
+use Prim.Native.Nat.{ℕ, zero, suc, _+_, _*_, _%_, _≤_, _<_}
 use mathlib.Core.Path.{_≡_, refl, _∙_}
 use mathlib.Core.Bool.{Bool, true, false, cond, not, _&&_, _||_, and-false}
 use mathlib.Core.List.{List, [], _∷_, _++_}
@@ -105,13 +105,16 @@ module _ (xs h0 h1 : List ℕ) (f0 f1 v : ℕ) (s : sound (memoryWith xs h0 h1 f
 
 -- ---- one pending word after another
 
-pub seen-on : (h : ℕ) (xs : List ℕ) (i k w : ℕ) → i + 2 ≤ length xs
-    → seen h (drop i xs) k w ≡ seen h (drop (i + 2) xs) k (cond (inHalf h (getD xs i 0) && eqb (wordOf (getD xs i 0)) k) (getD xs (i + 1) 0) w)
-unfolding seen
-seen-on h xs i k w l =
+two-dropped : (xs : List ℕ) (i : ℕ) → i + 2 ≤ length xs → drop i xs ≡ getD xs i 0 ∷ getD xs (i + 1) 0 ∷ drop (i + 2) xs
+two-dropped xs i l =
     let e : i + 1 ≡ suc i = omega arith in
     let d : i + 2 ≡ suc (suc i) = omega arith in
     rw (drop-cons xs i 0 (omega arith), drop-cons xs (suc i) 0 (omega arith), e, d)
+
+pub seen-on : (h : ℕ) (xs : List ℕ) (i k w : ℕ) → i + 2 ≤ length xs
+    → seen h (drop i xs) k w ≡ seen h (drop (i + 2) xs) k (cond (inHalf h (getD xs i 0) && eqb (wordOf (getD xs i 0)) k) (getD xs (i + 1) 0) w)
+unfolding seen
+seen-on h xs i k w l = rw (two-dropped xs i l)
 
 seen-short : (h : ℕ) (ys : List ℕ) (k w : ℕ) → length ys < 2 → seen h ys k w ≡ w
 unfolding seen
@@ -125,10 +128,7 @@ seen-last h xs i k w l = seen-short h (drop i xs) k w (omega (arith, length-drop
 pub laid-on : (h : ℕ) (xs : List ℕ) (i : ℕ) (ws : List ℕ) → i + 2 ≤ length xs
     → laid h (drop i xs) ws ≡ laid h (drop (i + 2) xs) (cond (inHalf h (getD xs i 0)) (set ws (wordOf (getD xs i 0)) (getD xs (i + 1) 0)) ws)
 unfolding laid
-laid-on h xs i ws l =
-    let e : i + 1 ≡ suc i = omega arith in
-    let d : i + 2 ≡ suc (suc i) = omega arith in
-    rw (drop-cons xs i 0 (omega arith), drop-cons xs (suc i) 0 (omega arith), e, d)
+laid-on h xs i ws l = rw (two-dropped xs i l)
 
 laid-short : (h : ℕ) (ys ws : List ℕ) → length ys < 2 → laid h ys ws ≡ ws
 unfolding laid

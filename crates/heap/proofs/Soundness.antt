@@ -8,7 +8,7 @@ use lib.Dec.{leb}
 use lib.ListN.{length}
 use borrow.Author.Tests.{le-leb, lt-leb, leb-true}
 use Rattle.rules.specs.Refusals.{refused, passed}
-use Rattle.rules.specs.Memory.{Memory, half, frontier, halfOf, wordOf, header, shapeAt, black, refsOf, plainsOf, word, colour, refs, plains, size, sound, followable, follow, followed, mostCount, mostShape}
+use Rattle.rules.specs.Memory.{Memory, frontier, halfOf, wordOf, header, shapeAt, black, refsOf, plainsOf, word, colour, refs, plains, size, sound, followable, follow, followed, mostCount, mostShape}
 use Rattle.rules.specs.declared.Followed.{Followed}
 use Rattle.rules.specs.declared.Followed.the-variants.{Sound, Damage}
 use Rattle.rules.proofs.Ranges.{both}

@@ -4,7 +4,7 @@ use mathlib.Core.Path.{_≡_}
 use mathlib.Core.Bool.{cond}
 use mathlib.Core.List.{List, [], _∷_}
 use lib.Dec.{eqb}
-use lib.ListN.{length, take}
+use lib.ListN.{take}
 use lib.Seq.{sets}
 use Rattle.rules.specs.Refusals.{Tested, refused, done, Outcome}
 use Rattle.rules.specs.Memory.{null, colourAt, grey, refField}
@@ -12,7 +12,6 @@ use Rattle.rules.specs.Control.{Store, withMemory, withList}
 use Rattle.rules.specs.declared.Writes.{Writes}
 use Rattle.heap.specs.Pending.{memoryWith}
 use Rattle.store.specs.declared.Control.{Control}
-use Rattle.store.specs.declared.Cursor.{Cursor}
 use Rattle.store.specs.declared.links.Linked.{Linked}
 use Rattle.store.specs.declared.links.Linked.the-variants.{Refusal, End}
 
@@ -30,16 +29,23 @@ linkWords v i w =
 abbrev pub linkNumbers : ℕ
 linkNumbers = 8
 
--- the references of those words are numbers of 32 bits
-pub record Placeable (v i : ℕ) (w : Writes) : Type 0 where
-  pub first : w .first + 2 * colourAt ≤ 4294967295
-  pub second : w .second + 2 * colourAt ≤ 4294967295
-  pub own : v + 2 * refField i ≤ 4294967295
-  pub replica : w .replica + 2 * refField i ≤ 4294967295
+-- the greatest number of 32 bits
+abbrev pub mostWord : ℕ
+mostWord = 4294967295
 
--- the list entry of a record that is shaded, none for null
+-- the references of those words are such numbers
+pub record Placeable (v i : ℕ) (w : Writes) : Type 0 where
+  pub first : w .first + 2 * colourAt ≤ mostWord
+  pub second : w .second + 2 * colourAt ≤ mostWord
+  pub own : v + 2 * refField i ≤ mostWord
+  pub replica : w .replica + 2 * refField i ≤ mostWord
+
+-- the list entry of a record that is shaded, none for null; a link has two at most
 abbrev pub entryOf : ℕ → List ℕ
 entryOf v = cond (eqb v null) [] (v ∷ [])
+
+abbrev pub linkEntries : ℕ
+linkEntries = 2
 
 -- the store with pending words written, and entries at the list's end
 abbrev pub withPending : Store → List ℕ → List ℕ → ℕ → Store

@@ -2,14 +2,14 @@
 // those words, and the list entries.
 ghost use mathlib.Core.Path.{_≡_};
 ghost use mathlib.Core.List.{[], _∷_};
-ghost use Prim.Native.Nat.{ℕ, _+_, _-_, _*_, _≤_, _<_};
-ghost use lib.ListN.{length, take, set};
+ghost use Prim.Native.Nat.{_+_, _-_, _*_, _≤_, _<_};
+ghost use lib.ListN.{length, take};
 ghost use lib.Seq.{sets};
-ghost use Rattle.rules.specs.Calls.{store, storeEach, storeLinks};
+ghost use Rattle.rules.specs.Calls.{mostLinks, store, storeEach, storeLinks};
 ghost use Rattle.rules.specs.Runs.{apply, StoreLinks};
 ghost use Rattle.heap.specs.Pending.{laid};
 ghost use Rattle.store.specs.View.{view, outcome};
-ghost use Rattle.store.specs.Links.{placeOf, linkWords, linkNumbers, Placeable, entryOf, withPending, linked, Ends};
+ghost use Rattle.store.specs.Links.{placeOf, linkWords, linkNumbers, linkEntries, mostWord, Placeable, entryOf, withPending, linked, Ends};
 use crate::Control;
 use crate::Reply;
 use crate::stores::Storing;
@@ -37,7 +37,7 @@ pub enum Linked {
 
 // The reference of word j of the record that v names, or null where v is.
 fn place(v: u32, j: u32) -> u32
-    requires { ⌜ v + 2 * j ≤ 4294967295 ⌝ }
+    requires { ⌜ v + 2 * j ≤ mostWord ⌝ }
     ensures { λ r. ⌜ r ≡ placeOf v j ⌝ }
 {
     if v == 0 {
@@ -48,7 +48,7 @@ fn place(v: u32, j: u32) -> u32
 
 // One pending word, at place `at` of the row: word j of the record that v names gets x.
 fn put_pending(pending: &mut [u32], at: usize, v: u32, j: u32, x: u32)
-    requires { ⌜ (at + 2 ≤ length (now pending)) × (v + 2 * j ≤ 4294967295) ⌝ }
+    requires { ⌜ (at + 2 ≤ length (now pending)) × (v + 2 * j ≤ mostWord) ⌝ }
     ensures { λ _. ⌜ now (pending .exit) ≡ sets (now (pending .entry)) at (placeOf v j ∷ x ∷ []) ⌝ }
 {
     pending[at] = place(v, j);
@@ -130,11 +130,11 @@ impl Control {
         entries: &mut [u32],
     ) -> Linked
         requires { ⌜ (linkNumbers * i + linkNumbers ≤ length (now pending)) × (self .cursor .tail ≤ tail)
-            × (tail - self .cursor .tail + 2 ≤ length (now entries)) ⌝ }
+            × (tail - self .cursor .tail + linkEntries ≤ length (now entries)) ⌝ }
         ensures { λ r. ⌜ (linked r (view self (now (h0 .entry)) (now (h1 .entry)) (now (list .entry))) (now (pending .exit)) (now (entries .exit)) (i + 1)
             ≡ store (withPending (view self (now (h0 .entry)) (now (h1 .entry)) (now (list .entry))) (take (linkNumbers * i) (now (pending .entry)))
             (take (tail - self .cursor .tail) (now (entries .entry))) tail) s register (link .field) (link .from))
-            × Ends r tail (tail + 2) (length (now (list .entry))) ⌝ }
+            × Ends r tail (tail + linkEntries) (length (now (list .entry))) ⌝ }
     {
         let begin = self.cursor.tail;
         self.cursor.tail = tail;
@@ -165,10 +165,10 @@ impl Control {
         pending: &mut [u32],
         entries: &mut [u32],
     ) -> Linked
-        requires { ⌜ (count ≤ 8) × (linkNumbers * 8 ≤ length (now pending)) × (16 ≤ length (now entries)) × (self .cursor .tail ≤ length (now list)) ⌝ }
+        requires { ⌜ (count ≤ mostLinks) × (linkNumbers * mostLinks ≤ length (now pending)) × (linkEntries * mostLinks ≤ length (now entries)) × (self .cursor .tail ≤ length (now list)) ⌝ }
         ensures { λ r. ⌜ (linked r (view self (now (h0 .entry)) (now (h1 .entry)) (now (list .entry))) (now (pending .exit)) (now (entries .exit)) count
             ≡ storeEach (view self (now (h0 .entry)) (now (h1 .entry)) (now (list .entry))) s register (take count links))
-            × Ends r (self .cursor .tail) (self .cursor .tail + 2 * count) (length (now (list .entry))) ⌝ }
+            × Ends r (self .cursor .tail) (self .cursor .tail + linkEntries * count) (length (now (list .entry))) ⌝ }
     {
         let mut tail = self.cursor.tail;
         let mut i: usize = 0;
@@ -198,10 +198,10 @@ impl Control {
         pending: &mut [u32],
         entries: &mut [u32],
     ) -> Linked
-        requires { ⌜ (linkNumbers * 8 ≤ length (now pending)) × (16 ≤ length (now entries)) ⌝ }
+        requires { ⌜ (linkNumbers * mostLinks ≤ length (now pending)) × (linkEntries * mostLinks ≤ length (now entries)) ⌝ }
         ensures { λ r. ⌜ (linked r (view self (now (h0 .entry)) (now (h1 .entry)) (now (list .entry))) (now (pending .exit)) (now (entries .exit)) count
             ≡ storeLinks (view self (now (h0 .entry)) (now (h1 .entry)) (now (list .entry))) s register count links)
-            × Ends r (self .cursor .tail) (self .cursor .tail + 2 * count) (length (now (list .entry))) ⌝ }
+            × Ends r (self .cursor .tail) (self .cursor .tail + linkEntries * count) (length (now (list .entry))) ⌝ }
     {
         let refusal = self.session_tests(h0, h1, list, s);
         if refusal != 0 {

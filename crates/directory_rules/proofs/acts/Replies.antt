@@ -1,11 +1,9 @@
 -- Which refusals may come before and after something is written: a store call that is no allocation is refused by none of the tests' numbers.
 use Prim.Native.Nat.{ℕ}
 use mathlib.Core.Path.{_≡_, refl, sym, _∙_}
-use mathlib.Core.Logic.{_≢_}
 use mathlib.Core.Bool.{Bool, true, false, cond, not, _&&_, _||_, true≢false, and-false}
 use mathlib.Core.List.{List, [], _∷_, List·Memᴰ, List·Memᴰ·head, List·Memᴰ·tail}
 use lib.Dec.{eqb}
-use borrow.Author.Tests.{eqb-true}
 use Rattle.rules.specs.Refusals.{Reply, answer, words, isRefusal}
 use Rattle.rules.specs.Control.{Store}
 use Rattle.rules.specs.Runs.{Call, isAllocation, apply}

@@ -26,7 +26,7 @@ use Rattle.heap.proofs.Passed.{bind-passed}
 use Rattle.heap.proofs.Halves.{half-any}
 use Rattle.heap.proofs.Laid.{laid-none, laid-append, laid-put}
 use Rattle.store.specs.View.{view, viewWith}
-use Rattle.store.specs.Links.{placeOf, linkWords, linkNumbers, Placeable, entryOf, withPending, linked, Ends, tailed}
+use Rattle.store.specs.Links.{placeOf, linkWords, linkNumbers, linkEntries, mostWord, Placeable, entryOf, withPending, linked, Ends, tailed}
 use Rattle.store.specs.Plans.{storing}
 use Rattle.store.specs.declared.Control.{Control}
 use Rattle.store.specs.declared.links.Linked.{Linked}
@@ -130,13 +130,13 @@ commit-pending s xs es end m i v w even at k =
 
 -- ---- the references of a link's words, in halves of the lengths that are allowed
 
-place-small : {s : Store} → InRange s → (v j : ℕ) → Inside (s .memory .half0) (s .memory .half1) v j → v + 2 * j ≤ 4294967295
+place-small : {s : Store} → InRange s → (v j : ℕ) → Inside (s .memory .half0) (s .memory .half1) v j → v + 2 * j ≤ mostWord
 unfolding wordOf
 place-small {s} k v j i =
     let e = ap length (half-any (s .memory .half0) (s .memory .half1) (s .memory .frontier0) (s .memory .frontier1) (halfOf v)) in
     omega (arith, i .below, half-small k (halfOf v), e)
 
-place-or : {s : Store} → InRange s → (v j : ℕ) → 2 * j ≤ 4294967295 → ((v ≡ 0 → ⊥) → Inside (s .memory .half0) (s .memory .half1) v j) → v + 2 * j ≤ 4294967295
+place-or : {s : Store} → InRange s → (v j : ℕ) → 2 * j ≤ mostWord → ((v ≡ 0 → ⊥) → Inside (s .memory .half0) (s .memory .half1) v j) → v + 2 * j ≤ mostWord
 place-or k v j l i = eq-or v 0 (λ e. omega arith) (λ n. place-small k v j (i n))
 
 placeable : {s : Store} {i v : ℕ} {w : Writes} → Storable s i v w → Placeable v i w
@@ -185,7 +185,7 @@ entry-none : (v : ℕ) → v ≡ null → length (entryOf v) ≡ 0
 entry-none v e = rw (eq-eqb v null e)
 
 module _ (y : Storing) (c : Control) (P E h0 h1 l : List ℕ) (j end n k i from : ℕ) {v : ℕ} {w : Writes} {P′ A B : List ℕ} {a b : ℕ}
-    (late : c .cursor .tail ≤ end) (room : linkNumbers * j + linkNumbers ≤ length P) (wide : end - c .cursor .tail + 2 ≤ length E)
+    (late : c .cursor .tail ≤ end) (room : linkNumbers * j + linkNumbers ≤ length P) (wide : end - c .cursor .tail + linkEntries ≤ length E)
     (e : storing y ≡ storePlan (viewWith (tailed c end) (take (linkNumbers * j) P) h0 h1 l) n k i from) (d : y ≡ Into v w)
     (row : P′ ≡ sets P (linkNumbers * j) (linkWords v i w)) (first : A ≡ sets E (end - c .cursor .tail) (entryOf (w .first)))
     (one : a ≡ end - c .cursor .tail + length (entryOf (w .first))) (second : B ≡ sets A a (entryOf (w .second))) (two : b ≡ a + length (entryOf (w .second))) where
@@ -218,7 +218,7 @@ module _ (y : Storing) (c : Control) (P E h0 h1 l : List ℕ) (j end n k i from 
       rw (rows, entries, z) (sym (link-stored y c xs es h0 h1 l end n k i from e d
       ∙ ap done (commit-pending (view c h0 h1 l) xs es end (4 * j) i v w even at (link-known y c xs es h0 h1 l end n k i from e d))))
 
-  pub link-after : (end ≤ tail + b) × (tail + b ≤ end + 2) × (tail + b ≤ length l)
+  pub link-after : (end ≤ tail + b) × (tail + b ≤ end + linkEntries) × (tail + b ≤ length l)
   link-after =
       let f = entry-few (w .first) in
       let g = entry-few (w .second) in

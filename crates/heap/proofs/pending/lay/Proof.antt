@@ -4,7 +4,7 @@ use mathlib.Core.Path.{_≡_, refl, _∙_}
 use native.Mathlib.Omega.{arith}
 use lib.ListN.{length, drop}
 use Rattle.heap.specs.Pending.{laid}
-use Rattle.heap.proofs.Laid.{laid-on, laid-last, laid-length}
+use Rattle.heap.proofs.Laid.{laid-on, laid-last}
 use borrow.Author.Needs.{needs}
 use Rattle.heap.proofs.pending.lay.Statement.{statement}
 use Rattle.heap.proofs.pending.lay.Tie as tie

@@ -1,5 +1,5 @@
 -- Another half or none: nothing. A word past the half's end: `set` changes nothing either.
-use mathlib.Core.Path.{_≡_, sym}
+use mathlib.Core.Path.{sym}
 use lib.Seq.{set-out}
 use Rattle.heap.proofs.Laid.{elsewhere, here}
 use borrow.Author.Needs.{needs}

@@ -8,7 +8,7 @@ use Rattle.rules.specs.Calls.{storePlan}
 use Rattle.rules.specs.declared.Writes.{Writes}
 use Rattle.store.specs.View.{viewWith}
 use Rattle.store.specs.Plans.{storing}
-use Rattle.store.specs.Links.{linkNumbers, Placeable, entryOf, tailed}
+use Rattle.store.specs.Links.{linkNumbers, linkEntries, Placeable, entryOf, tailed}
 use Rattle.store.proofs.calls.Links.{link-away, link-placeable, link-made, link-after, entry-few, ends-at, ends-refused}
 use borrow.Author.Needs.{needs}
 use Rattle.store.proofs.Control.plan_link.Statement.{statement}
@@ -65,7 +65,7 @@ enter-requires-2 c κs =
     omega (arith, e .enter .ensures .1, entry-few (writes p .first), start p .pre .2, ap length (e .enter .ensures .0), length-sets (start p .args .entries .now) (start p .args .tail - start p .args .self .cursor .tail) (entryOf (writes p .first)))
 
 grown : (c : tie.After-slice-known5) → let a = start (planned c) .args in let end = a .self .cursor .tail + c .before .before .enter2 .result in
-    (a .tail ≤ end) × (end ≤ a .tail + 2) × (end ≤ length (a .list .now))
+    (a .tail ≤ end) × (end ≤ a .tail + linkEntries) × (end ≤ length (a .list .now))
 grown c =
     let p = planned c in
     let a = start p .args in

@@ -1,13 +1,12 @@
 -- Invariant: the first i links are planned, and the rest of the call is single stores on the store with what they write pending.
-use Prim.Native.Nat.{suc, _+_, _-_, _*_, _≤_, _<_}
+use Prim.Native.Nat.{_+_, _-_, _*_, _≤_}
 use mathlib.Core.Path.{_≡_, refl, sym, ap, _∙_}
 use native.Mathlib.Omega.{arith}
 use lib.ListN.{length, take, drop, length-take}
-use lib.Seq.{getD-take, length-take-le}
 use Rattle.rules.specs.Refusals.{done}
 use Rattle.rules.specs.Calls.{mostLinks, storeEach}
 use Rattle.store.specs.View.{view}
-use Rattle.store.specs.Links.{linkNumbers, withPending, linked}
+use Rattle.store.specs.Links.{linkNumbers, linkEntries, withPending}
 use Rattle.rules.specs.declared.Link.{Link}
 use Rattle.store.proofs.shading.Phases.{unmapped}
 use Rattle.store.proofs.calls.Links.{pending-none, link-next, link-refused, each-on, each-refused, each-ended, ends-at, ends-refused}
@@ -20,7 +19,7 @@ abbrev none : Link
 none = record { field = 0; from = 0 }
 
 abbrev Inv-loop : tie.InvT-loop
-Inv-loop self h0 h1 list s register count pending₀ entries₀ links tail₀ i₀ pending entries tail i = (i ≤ count) × (length pending ≡ length pending₀) × (length entries ≡ length entries₀) × (self .cursor .tail ≤ tail) × (tail ≤ self .cursor .tail + 2 * i) × (tail ≤ length list)
+Inv-loop self h0 h1 list s register count pending₀ entries₀ links tail₀ i₀ pending entries tail i = (i ≤ count) × (length pending ≡ length pending₀) × (length entries ≡ length entries₀) × (self .cursor .tail ≤ tail) × (tail ≤ self .cursor .tail + linkEntries * i) × (tail ≤ length list)
     × (storeEach (view self h0 h1 list) s register (take count links)
     ≡ storeEach (withPending (view self h0 h1 list) (take (linkNumbers * i) pending) (take (tail - self .cursor .tail) entries) tail) s register (drop i (take count links)))
 

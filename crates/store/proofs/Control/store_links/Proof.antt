@@ -1,8 +1,7 @@
 -- The plan's refusal, or what the plans say written.
-use Prim.Native.Nat.{ℕ, _+_, _*_, _≤_}
-use mathlib.Core.Path.{_≡_}
+use Prim.Native.Nat.{ℕ, _≤_}
 use native.Mathlib.Omega.{arith}
-use lib.ListN.{length, length-replicate}
+use lib.ListN.{length-replicate}
 use Rattle.rules.specs.Calls.{mostLinks}
 use Rattle.store.specs.View.{view}
 use Rattle.store.proofs.calls.Links.{links-away, links-few, links-done}
