@@ -1,7 +1,9 @@
 // The other copy of a record.
 ghost use mathlib.Core.Path.{_≡_};
 ghost use lib.ListN.{take};
-ghost use Rattle.rules.specs.Memory.{inHalf, otherCopy, forward};
+ghost use mathlib.Core.Bool.{_||_};
+ghost use lib.Dec.{eqb};
+ghost use Rattle.rules.specs.Memory.{null, inHalf, otherCopy, forward};
 ghost use Rattle.rules.specs.Phases.{otherHalf};
 ghost use Rattle.rules.specs.Barriers.{to};
 ghost use Rattle.heap.specs.View.{heap, checked, Within};
@@ -58,6 +60,15 @@ pub(crate) fn other_copy<'a>(
     }
 }
 
+// Whether a reference is forwarded to itself, where `from` is fromspace: null, and one into tospace.
+fn stays(from: u32, v: u32) -> bool
+    ensures { λ r. ⌜ r ≡ (eqb v null || inHalf (otherHalf from) v) ⌝ }
+{
+    let tospace = other_half(from);
+    let kept = in_half(tospace, v);
+    (v == 0) | kept
+}
+
 // A reference forwarded to tospace, with the pending words written.
 pub(crate) fn forward_pending<'a>(
     pending: &[u32],
@@ -71,18 +82,19 @@ pub(crate) fn forward_pending<'a>(
     ensures { λ r. ⌜ checked r ≡ forward (heapWith b (take filled (now (pending .entry))) (now (h0 .entry)) (now (h1 .entry)) .memory)
         (to (heapWith b (take filled (now (pending .entry))) (now (h0 .entry)) (now (h1 .entry)))) v ⌝ }
 {
-    let tospace = other_half(b.from);
-    let kept = in_half(tospace, v);
-    if (v == 0) | kept {
+    if stays(b.from, v) {
         return Checked::Word(v);
     }
     other_copy(pending, filled, b, h0, h1, v)
 }
 
-// The same with the words as they are.
+// The same with the words as they are. It doesn't call the one above: the bounds would be copied once more.
 pub fn forward<'a>(b: Bounds, h0: &'a [u32], h1: &'a [u32], v: u32) -> Checked
     requires { ⌜ Within b (now h0) (now h1) ⌝ }
     ensures { λ r. ⌜ checked r ≡ forward (heap b (now (h0 .entry)) (now (h1 .entry)) .memory) (to (heap b (now (h0 .entry)) (now (h1 .entry)))) v ⌝ }
 {
-    forward_pending(h0, 0, b, h0, h1, v)
+    if stays(b.from, v) {
+        return Checked::Word(v);
+    }
+    other_copy(h0, 0, b, h0, h1, v)
 }
