@@ -18,7 +18,7 @@ import subprocess
 import table
 from directory import Directory
 from model import ATTACH, LINKS, MOST_LINKS, share_in
-from sapphire import BIRTH, COMPANION, SESSIONS, STRETCH, Sapphire
+from sapphire import BIRTH, COMPANION, STRETCH, Sapphire
 from scripts import ARGUMENTS
 
 BUILT = os.path.join(os.path.dirname(os.path.abspath(__file__)), "..", "target", "bin", "probe")
@@ -43,10 +43,12 @@ def words(values):
 
 def record(store):
     """The control record of a store."""
-    sessions = [w for n in range(SESSIONS) for w in (*store.registers[n], store.level[n], store.share[n], store.charge[n],
-                                                     store.attached[n], store.scanned[n])]
-    return RECORD.pack(store.current, *store.length, store.capacity, *store.frontier, store.phase, store.place, store.field, store.head,
-                       store.tail, *store.globals, *sessions, store.births)
+    numbers = [store.current, *store.length, store.capacity, *store.frontier, store.phase, store.place, store.field, store.head, store.tail,
+               *store.globals]
+    for registers, *others in zip(store.registers, store.level, store.share, store.charge, store.attached, store.scanned):
+        numbers += registers
+        numbers += others
+    return RECORD.pack(*numbers, store.births)
 
 
 def memory(store):

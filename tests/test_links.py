@@ -60,7 +60,8 @@ def check_singles():
     pairs = [probe.answered(cases) for cases in (taken, [(f"as one link, {name}", as_single(case)) for name, case in taken])]
     seen = Counter()
     for (name, _), (_, single), (_, linked) in zip(taken, *pairs, strict=True):
-        need(single == linked, f"{name}: one link is answered {probe.told(linked)}, a single store {probe.told(single)}")
+        if single != linked:
+            need(False, f"{name}: one link is answered {probe.told(linked)}, a single store {probe.told(single)}")
         seen[probe.ANSWER.unpack_from(single)[0]] += 1
     print(f"test_links: {len(taken)} single stores as calls with one pair, answers {dict(sorted(seen.items()))}")
     need(set(seen) == {0, 4, 5, 6, 8, 11, 12, 13} and seen[0] > 1000, f"the single stores do not show enough: {seen}")
@@ -85,7 +86,9 @@ def check_plans():
     cases, seen = [*link_cases.directed(), *link_damage.directed(), *link_chance.random_cases(PLANNED, 2)], Counter()
     for name, case in cases:
         reply, store, number = planned_reply(case)
-        need(reply == probe.expected(case), f"{name}: planned {probe.told(reply)}, stored in turn {probe.told(probe.expected(case))}")
+        want = probe.expected(case)
+        if reply != want:  # told only then: a reply is long
+            need(False, f"{name}: planned {probe.told(reply)}, stored in turn {probe.told(want)}")
         seen[number] += 1
         first, _, args = probe.decode(case)
         seen.update(blind_traits(first, number, store, args) if number in (0, 8, 11, 12, 13) else [])
