@@ -15,9 +15,9 @@ import sys
 from run import ROOT, instructions, missing, run
 
 sys.path.insert(0, os.path.join(ROOT, "tests"))
-from directory import Directory  # noqa: E402
-from directory_scripts import encode  # noqa: E402
-from table import OPEN, ADD, REMOVE, MAKE, JOIN, LEAVE, LIST, LAST  # noqa: E402
+from models.directory_model import Directory  # noqa: E402
+from programs.directory_scripts import encode  # noqa: E402
+from models.table_model import OPEN, ADD, REMOVE, MAKE, JOIN, LEAVE, LIST, LAST  # noqa: E402
 
 OURS = os.path.join(ROOT, "target", "bin", "directory_main")
 PLAIN = os.path.join(ROOT, "target", "bench", "plain_directory")

@@ -6,9 +6,9 @@ import random
 import sys
 
 sys.path.insert(0, os.path.join(os.path.dirname(os.path.abspath(__file__)), "..", "tests"))
-from model import ATTACH, SAFE, ALLOCATE, LOAD, STORE, READ, WRITE, MOVE, CLEAR, SAME, GET, PUT, STEP  # noqa: E402
-from sapphire import Sapphire  # noqa: E402
-from scripts import encode  # noqa: E402,F401
+from models.free_store import ATTACH, SAFE, ALLOCATE, LOAD, STORE, READ, WRITE, MOVE, CLEAR, SAME, GET, PUT, STEP  # noqa: E402
+from models.store_model import Sapphire  # noqa: E402
+from programs.store_scripts import encode  # noqa: E402,F401
 
 
 def chain(live):

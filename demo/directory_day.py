@@ -11,11 +11,11 @@ import sys
 
 HERE = os.path.dirname(os.path.abspath(__file__))
 sys.path.insert(0, os.path.join(HERE, "..", "tests"))
-from directory import ROOT  # noqa: E402
-from directory_scripts import Played, encode  # noqa: E402
-from layout import size  # noqa: E402
-from model import ATTACH, DETACH, SAFE, ALLOCATE, LOAD, STORE, READ, WRITE, MOVE, CLEAR, GET, PUT, STEP  # noqa: E402
-from table import OPEN, ADD, REMOVE, MAKE, JOIN, LEAVE, LIST, LAST  # noqa: E402
+from models.directory_model import ROOT  # noqa: E402
+from programs.directory_scripts import Played, encode  # noqa: E402
+from models.record_layout import size  # noqa: E402
+from models.free_store import ATTACH, DETACH, SAFE, ALLOCATE, LOAD, STORE, READ, WRITE, MOVE, CLEAR, GET, PUT, STEP  # noqa: E402
+from models.table_model import OPEN, ADD, REMOVE, MAKE, JOIN, LEAVE, LIST, LAST  # noqa: E402
 
 IMPORT, CATALOGUE = 1, 0  # the import's session, and the global that names its newest record
 ANNA, BEN, CARA, DAN, EVE = range(20260001, 20260006)

@@ -9,9 +9,9 @@ import sys
 
 HERE = os.path.dirname(os.path.abspath(__file__))
 sys.path.insert(0, os.path.join(HERE, "..", "tests"))
-from model import ATTACH, DETACH, SAFE, ALLOCATE, LOAD, STORE, READ, WRITE, CLEAR, SAME, GET, PUT, STEP  # noqa: E402
-from sapphire import WORDS_COMPARED, Sapphire  # noqa: E402
-from scripts import encode  # noqa: E402
+from models.free_store import ATTACH, DETACH, SAFE, ALLOCATE, LOAD, STORE, READ, WRITE, CLEAR, SAME, GET, PUT, STEP  # noqa: E402
+from models.store_model import WORDS_COMPARED, Sapphire  # noqa: E402
+from programs.store_scripts import encode  # noqa: E402
 
 OFFICE, IMPORT = 0, 1            # the secretary's session and the import's
 PUPILS, CLASS, LEAVER = 0, 1, 2  # globals: the newest pupil, the class, the pupil who leaves

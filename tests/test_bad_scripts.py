@@ -5,10 +5,10 @@ first bad entry, and nothing after it."""
 import random
 import sys
 
-import program
-import sapphire
-from model import ALLOCATE, ATTACH, READ, SAFE, STEP, WRITE
-from scripts import ARGUMENTS, encode, random_script
+from programs import built_programs
+from models import store_model
+from models.free_store import ALLOCATE, ATTACH, READ, SAFE, STEP, WRITE
+from programs.store_scripts import ARGUMENTS, encode, random_script
 
 SIZES = {kind: 1 + n + (3 if kind == WRITE else 0) for kind, n in ARGUMENTS.items()}
 
@@ -17,7 +17,7 @@ def expected(data):
     """The text that documents 01 and 02 give for these bytes."""
     if not data or data[0] != 1:
         return b"0 15 0\n"
-    store, out, at, n = sapphire.Sapphire(), [], 1, 1
+    store, out, at, n = store_model.Sapphire(), [], 1, 1
     while at < len(data):
         body = data[at + 1:at + 1 + data[at]]
         if len(body) < data[at] or not body or SIZES.get(body[0]) != len(body):
@@ -75,7 +75,7 @@ def inputs():
 def main():
     count = refused = 0
     for name, data in inputs():
-        got, want = program.output(data), expected(data)
+        got, want = built_programs.output(data), expected(data)
         if got != want:
             sys.exit(f"test_bad_scripts: {name}: wrote {got[-80:]!r}, documents 01 and 02 give {want[-80:]!r}")
         count, refused = count + 1, refused + want.rstrip().endswith(b" 15 0")

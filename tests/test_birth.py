@@ -11,17 +11,17 @@ import sys
 import time
 from collections import Counter
 
-import births
-import lifetime
-import lives
-import probe
-from collector import PHASES
-from explained import need
-from judge import faults
-from lifetime import FROM, TO
-from model import BIRTH, MOST_BIRTHS
-from replaying import played, seen_in
-from slips import COUNT_RECLAIMED, COUNTED_BOTH, LINE_NUMBER_SLIPS, RUN_NUMBER_SLIPS, SHELL_RENUMBERED, SHELL_UNNUMBERED, UNCOUNTED
+from cases import birth_cases
+from stories import record_life_story
+from runs import birth_runs
+from programs import probe_program
+from models.collector_model import PHASES
+from programs.explain_tool import need
+from programs.line_checks import faults
+from stories.record_life_story import FROM, TO
+from models.free_store import BIRTH, MOST_BIRTHS
+from mistakes.replay import played, seen_in
+from mistakes.mistake_names import COUNT_RECLAIMED, COUNTED_BOTH, LINE_NUMBER_SLIPS, RUN_NUMBER_SLIPS, SHELL_RENUMBERED, SHELL_UNNUMBERED, UNCOUNTED
 
 RUNS, CALLS = 120, 3000
 AGED, AGED_CALLS = 100, 1200
@@ -34,7 +34,7 @@ def said(replies, case):
     """What the program answered to a case: a number, or the refusal."""
     if case is None:
         return "-"
-    number, value = probe.ANSWER.unpack_from(replies[case])
+    number, value = probe_program.ANSWER.unpack_from(replies[case])
     return f"refused {number}" if number else str(value)
 
 
@@ -54,9 +54,9 @@ def table(story, replies):
 
 
 def check_story(show):
-    story, last, places = lifetime.whole_story()
-    replies = [reply for _, reply in probe.answered(story.cases)]
-    asked = [case for _, case in story.cases if probe.CALL.unpack_from(case)[0] == BIRTH]
+    story, last, places = record_life_story.whole_story()
+    replies = [reply for _, reply in probe_program.answered(story.cases)]
+    asked = [case for _, case in story.cases if probe_program.CALL.unpack_from(case)[0] == BIRTH]
     told = Counter(said(replies, row[name]) for _, _, _, row in story.rows for name in ("office", "import", FROM, TO) if name in row)
     need(told.keys() == {str(story.ours)}, f"the record of number {story.ours} is told as {told}")
     new = [int(said(replies, row["new"])) for _, _, _, row in story.rows]
@@ -74,9 +74,9 @@ def check_story(show):
 
 def check_examples():
     """Document 02's examples: what is starred there, and the steps of an empty store."""
-    wanted = list(lifetime.examples())
-    for (name, _, number), (_, reply) in zip(wanted, probe.answered([(name, case) for name, case, _ in wanted]), strict=True):
-        need(probe.ANSWER.unpack_from(reply)[0] == number, f"{name}: answered {probe.ANSWER.unpack_from(reply)}")
+    wanted = list(record_life_story.examples())
+    for (name, _, number), (_, reply) in zip(wanted, probe_program.answered([(name, case) for name, case, _ in wanted]), strict=True):
+        need(probe_program.ANSWER.unpack_from(reply)[0] == number, f"{name}: answered {probe_program.ANSWER.unpack_from(reply)}")
     print(f"test_birth: {len(wanted)} calls of document 02's examples")
 
 
@@ -87,11 +87,11 @@ def check_runs():
     seen, runs = Counter(), []
     for seed in range(RUNS):
         try:
-            runs.append(lives.random_run(seed, CALLS))
-        except lives.Wrong as wrong:
+            runs.append(birth_runs.random_run(seed, CALLS))
+        except birth_runs.Wrong as wrong:
             sys.exit(f"test_birth: random run {seed}: {wrong}")
         seen += runs[-1].seen
-    left, first = [[seen[number, level] for level in range(7)] for number in (lives.LEFT, lives.ROOM)]
+    left, first = [[seen[number, level] for level in range(7)] for number in (birth_runs.LEFT, birth_runs.ROOM)]
     phases = [seen["phase", phase] for phase in range(13)]
     refused = {number: seen["birth", number] for number in (5, 6, 8, 11)}
     print(f"test_birth: {RUNS} random runs, {seen['calls']} calls, {seen['collections']} collections; {seen['birth', 0]} numbers told, in "
@@ -105,15 +105,15 @@ def check_runs():
 def check_aged():
     """Runs at the end of the numbers, which the probe program can be shown: its replies to their calls, and their answers beside the
     collector-free store."""
-    runs, seen = [lives.Aged(seed, AGED_CALLS) for seed in range(AGED)], Counter()
+    runs, seen = [birth_runs.Aged(seed, AGED_CALLS) for seed in range(AGED)], Counter()
     for seed, run in enumerate(runs):
         fault = next(faults(run.entries, run.lines, most_births=run.left), None)
         need(not fault, f"aged run {seed}: {fault}")
-    for case, reply in probe.answered([case for run in runs for case in run.cases]):
-        seen.update(births.traits(case, reply))
+    for case, reply in probe_program.answered([case for run in runs for case in run.cases]):
+        seen.update(birth_cases.traits(case, reply))
         seen["cases"] += 1
     told, last, left, first = [[seen[trait, level] for level in range(7)] for trait in
-                               ("birth", births.LAST_GIVEN, births.NONE_LEFT, births.ROOM_FIRST)]
+                               ("birth", birth_cases.LAST_GIVEN, birth_cases.NONE_LEFT, birth_cases.ROOM_FIRST)]
     print(f"test_birth: {AGED} runs at the end of the numbers, {seen['cases']} of their calls by the probe program: {sum(told)} numbers "
           f"told, the last one given {sum(last)} times, then 16 {sum(left)} times, 14 {sum(first)} times")
     need(min(told) > 20 and sum(last) > 50 and min(left) > 10 and sum(first) > 20, f"the runs at the end do not show enough: {seen}")
@@ -122,13 +122,13 @@ def check_aged():
 def check_pairs():
     seen = Counter()
     for seed in range(PAIRS):
-        wrong = lives.pair(seed, PAIR_CALLS, seen)
+        wrong = birth_runs.pair(seed, PAIR_CALLS, seen)
         need(not wrong, f"pair {seed}: {wrong}")
     print(f"test_birth: {PAIRS} pairs of runs, {seen['calls']} session calls with the same answer, {seen['births']} of them numbers, "
           f"{seen['left']} 16, {seen['room']} 14; {seen['whole']} agree to the end, {seen['parted']} part where one has no room")
     need(seen["births"] > 4000 and seen["left"] > 500 and min(seen["whole"], seen["parted"]) > 20, f"the pairs do not show enough: {seen}")
     for slip in (SHELL_RENUMBERED, COUNT_RECLAIMED, UNCOUNTED, COUNTED_BOTH, SHELL_UNNUMBERED):
-        parted = next((f"pair {seed}, {wrong}" for seed in range(PAIRS) if (wrong := lives.pair(seed, PAIR_CALLS, Counter(), slip))), None)
+        parted = next((f"pair {seed}, {wrong}" for seed in range(PAIRS) if (wrong := birth_runs.pair(seed, PAIR_CALLS, Counter(), slip))), None)
         need(parted, f"no pair of runs with '{slip}' parts")
         print(f"test_birth: '{slip}' is seen: {parted}")
 

@@ -6,12 +6,12 @@ import sys
 import time
 from collections import Counter
 
-import program
-from directory_scripts import all_removed, crowd, encode, random_script
-from judge import faults
-from model import STEP
-from sapphire import LEVELS
-from table import OPEN, ADD, MAKE, JOIN, NO_ROOM, Table
+from programs import built_programs
+from programs.directory_scripts import all_removed, crowd, encode, random_script
+from programs.line_checks import faults
+from models.free_store import STEP
+from models.store_model import LEVELS
+from models.table_model import OPEN, ADD, MAKE, JOIN, NO_ROOM, Table
 
 SCRIPTS = 60
 
@@ -26,7 +26,7 @@ def scripts():
 
 def check(name, played):
     """Compares the lines of the program with all that is known of them."""
-    answers = program.lines(encode(played.entries), program.DIRECTORY)
+    answers = built_programs.lines(encode(played.entries), built_programs.DIRECTORY)
     if [line[0] for line in answers] != list(range(1, len(played.entries) + 1)):
         sys.exit(f"test_directory: {name}: entries are not numbered from 1 to {len(played.entries)}")
     lines = [line[1:] for line in answers]

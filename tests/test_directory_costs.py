@@ -4,9 +4,9 @@ table of bench/README.md says by people, groups and members; and on damaged memo
 import random
 import sys
 
-from chance import numbers, world
-from directory import MINE, ROOT, Directory
-from table import OPEN, ADD, REMOVE, MAKE, JOIN, LEAVE, LIST, LAST, UNKNOWN, ALREADY, Table, fed
+from cases.random_damage import numbers, world
+from models.directory_model import MINE, ROOT, Directory
+from models.table_model import OPEN, ADD, REMOVE, MAKE, JOIN, LEAVE, LIST, LAST, UNKNOWN, ALREADY, Table, fed
 
 
 def passed(table, person):

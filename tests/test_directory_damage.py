@@ -8,11 +8,11 @@ import sys
 import time
 from collections import Counter
 
-import program
-from directory import MARK, MINE, ROOT, TOO_LONG
-from directory_scripts import Played, encode
-from model import ATTACH, DETACH, ALLOCATE, STORE, WRITE, CLEAR, GET, PUT, STEP
-from table import OPEN, ADD, REMOVE, MAKE, JOIN, LEAVE, LIST, LAST
+from programs import built_programs
+from models.directory_model import MARK, MINE, ROOT, TOO_LONG
+from programs.directory_scripts import Played, encode
+from models.free_store import ATTACH, DETACH, ALLOCATE, STORE, WRITE, CLEAR, GET, PUT, STEP
+from models.table_model import OPEN, ADD, REMOVE, MAKE, JOIN, LEAVE, LIST, LAST
 
 PERSON, GROUP, MEMBER = (1, 1), (2, 1), (1, 1)  # links and words of a record
 NO_FIELD = 13
@@ -87,7 +87,7 @@ def random_chains(seed):
 
 def answers(name, played):
     """The numbers that the directory calls of a script are answered with; every line must be that of the directory in Python."""
-    lines = [line[1:] for line in program.lines(encode(played.entries), program.DIRECTORY)]
+    lines = [line[1:] for line in built_programs.lines(encode(played.entries), built_programs.DIRECTORY)]
     if lines != played.lines:
         n = next((n for n, (line, want) in enumerate(zip(lines, played.lines)) if line != want), len(lines) - 1)
         sys.exit(f"test_directory_damage: {name}: entry {n + 1}: {lines[n]}, the directory in Python answers {played.lines[n]}")

@@ -6,10 +6,10 @@ import hashlib
 import random
 import sys
 
-import program
-from directory_scripts import SIZES, encode, expected, random_script
-from model import ATTACH, SAFE, ALLOCATE, CLEAR, STEP
-from table import OPEN, ADD, REMOVE, MAKE, JOIN, LEAVE, LIST, LAST
+from programs import built_programs
+from programs.directory_scripts import SIZES, encode, expected, random_script
+from models.free_store import ATTACH, SAFE, ALLOCATE, CLEAR, STEP
+from models.table_model import OPEN, ADD, REMOVE, MAKE, JOIN, LEAVE, LIST, LAST
 
 # a call and what follows the entry number on its line
 FIRST = [
@@ -45,7 +45,7 @@ def need(holds, words):
 
 
 def output(data):
-    return program.output(data, program.DIRECTORY)
+    return built_programs.output(data, built_programs.DIRECTORY)
 
 
 def numbered(lines):

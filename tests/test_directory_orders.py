@@ -6,11 +6,11 @@ import itertools
 import sys
 import time
 
-import program
-from directory_scripts import Played, encode
-from judge import faults
-from model import ATTACH, SAFE, ALLOCATE, LOAD, STORE, READ, WRITE, CLEAR, GET, PUT, STEP
-from table import OPEN, ADD, REMOVE, MAKE, JOIN, LEAVE, LIST, LAST, Table
+from programs import built_programs
+from programs.directory_scripts import Played, encode
+from programs.line_checks import faults
+from models.free_store import ATTACH, SAFE, ALLOCATE, LOAD, STORE, READ, WRITE, CLEAR, GET, PUT, STEP
+from models.table_model import OPEN, ADD, REMOVE, MAKE, JOIN, LEAVE, LIST, LAST, Table
 
 # a record that is dropped at once, so that all others move; groups 1 and 2 of people 1 to 3; a record of another session
 SETUP = [
@@ -72,7 +72,7 @@ def main():
     began = time.time()
     count = entries = 0
     for name, played in orders():
-        lines = [line[1:] for line in program.lines(encode(played.entries), program.DIRECTORY)]
+        lines = [line[1:] for line in built_programs.lines(encode(played.entries), built_programs.DIRECTORY)]
         fault = next(faults(played.entries, lines, Table()), None)
         if fault:
             sys.exit(f"test_directory_orders: {name}: {fault}")

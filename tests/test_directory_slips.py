@@ -3,10 +3,10 @@
 it is seen, by the plain table or, where it only wastes memory, by a line that differs."""
 import sys
 
-from directory import REGISTERS_KEPT, SLIPS, Directory
-from directory_scripts import all_removed, random_script
-from judge import faults
-from table import Table
+from models.directory_model import REGISTERS_KEPT, SLIPS, Directory
+from programs.directory_scripts import all_removed, random_script
+from programs.line_checks import faults
+from models.table_model import Table
 
 
 def scripts():

@@ -4,10 +4,10 @@ demo/school-day.txt has, whole and in parts."""
 import re
 import sys
 
-from explained import DAY, DEMO, check_day, need, printed, ran
-from model import ATTACH, ALLOCATE, STEP
-from reading import REASONS, read_back, refused_in
-from scripts import encode, random_script
+from programs.explain_tool import DAY, DEMO, check_day, need, printed, ran
+from models.free_store import ATTACH, ALLOCATE, STEP
+from programs.explain_words import REASONS, read_back, refused_in
+from programs.store_scripts import encode, random_script
 
 sys.path.insert(0, DEMO)
 import school_day  # noqa: E402

@@ -7,9 +7,9 @@ import signal
 import subprocess
 import tempfile
 
-from explained import DAY, EXPLAIN, TOP, Programs, need, printed, ran
-from model import ALLOCATE, ATTACH, SAFE, STEP
-from scripts import encode, random_script
+from programs.explain_tool import DAY, EXPLAIN, TOP, Programs, need, printed, ran
+from models.free_store import ALLOCATE, ATTACH, SAFE, STEP
+from programs.store_scripts import encode, random_script
 
 GOOD = encode([(ATTACH, [0]), (STEP, [])])
 BAD_SCRIPTS = [

@@ -12,23 +12,23 @@ import sys
 import time
 from collections import Counter
 
-import barriers
-import chance
-import link_cases
-import link_chance
-import link_damage
-import link_runs
-import lives
-import probe
-import timetable
-from collector import PHASES, Refused
-from explained import need
-from link_traits import BLIND_ANSWER, BLIND_WORDS, blind_traits
-from model import LINKS, STORE
-from planning import store_planned
-from replaying import seen_in
-from slips import FREE_LINK_SLIPS, OLD_LEFT, OLD_LEFT_IN_4, STORED_LEFT, STORES_STAY
-from timetable import BOARD, OFFICE
+from cases import shading_cases
+from cases import random_damage
+from cases import link_cases
+from cases import link_random_damage
+from cases import link_overlap_cases
+from runs import link_runs
+from runs import birth_runs
+from programs import probe_program
+from stories import timetable_story
+from models.collector_model import PHASES, Refused
+from programs.explain_tool import need
+from cases.link_case_coverage import BLIND_ANSWER, BLIND_WORDS, blind_traits
+from models.free_store import LINKS, STORE
+from models.planned_links_model import store_planned
+from mistakes.replay import seen_in
+from mistakes.mistake_names import FREE_LINK_SLIPS, OLD_LEFT, OLD_LEFT_IN_4, STORED_LEFT, STORES_STAY
+from stories.timetable_story import BOARD, OFFICE
 
 RUNS, CALLS, SHOWN = 120, 2000, 12
 PLANNED = 24000  # random calls that are planned
@@ -39,30 +39,30 @@ STORES = 20000   # random cases, of which the single stores are taken
 
 def check_examples():
     wanted = list(link_cases.examples())
-    for (name, _, number, held), (case, reply) in zip(wanted, probe.answered([(name, case) for name, case, _, _ in wanted]), strict=True):
-        before, after = probe.decode(case)[0], probe.after(case, reply)
+    for (name, _, number, held), (case, reply) in zip(wanted, probe_program.answered([(name, case) for name, case, _, _ in wanted]), strict=True):
+        before, after = probe_program.decode(case)[0], probe_program.after(case, reply)
         word = before.registers[link_cases.S][1] if held else 0
-        need(probe.ANSWER.unpack_from(reply) == (number, 0) and after.half[0][4] == word, f"{name}: answered {probe.told(reply)}")
-        need(number == 0 or probe.unchanged(case) == probe.given(after), f"{name}: refused, and has changed something")
+        need(probe_program.ANSWER.unpack_from(reply) == (number, 0) and after.half[0][4] == word, f"{name}: answered {probe_program.told(reply)}")
+        need(number == 0 or probe_program.unchanged(case) == probe_program.given(after), f"{name}: refused, and has changed something")
     print(f"test_links: {len(wanted)} calls of examples worked out in words")
 
 
 def as_single(case):
     """A single store as a call for several links, of which it has one."""
-    store, _, (s, k, i, source) = probe.decode(case)
-    return probe.encode(store, LINKS, link_cases.call([(i, source)], k, s))
+    store, _, (s, k, i, source) = probe_program.decode(case)
+    return probe_program.encode(store, LINKS, link_cases.call([(i, source)], k, s))
 
 
 def check_singles():
     """One pair is the single store: the same reply to both, on random and on sound stores."""
-    taken = [*chance.random_cases(STORES, 2), *list(barriers.directed())[::4]]
-    taken = [(name, case) for name, case in taken if probe.CALL.unpack_from(case)[0] == STORE]
-    pairs = [probe.answered(cases) for cases in (taken, [(f"as one link, {name}", as_single(case)) for name, case in taken])]
+    taken = [*random_damage.random_cases(STORES, 2), *list(shading_cases.directed())[::4]]
+    taken = [(name, case) for name, case in taken if probe_program.CALL.unpack_from(case)[0] == STORE]
+    pairs = [probe_program.answered(cases) for cases in (taken, [(f"as one link, {name}", as_single(case)) for name, case in taken])]
     seen = Counter()
     for (name, _), (_, single), (_, linked) in zip(taken, *pairs, strict=True):
         if single != linked:
-            need(False, f"{name}: one link is answered {probe.told(linked)}, a single store {probe.told(single)}")
-        seen[probe.ANSWER.unpack_from(single)[0]] += 1
+            need(False, f"{name}: one link is answered {probe_program.told(linked)}, a single store {probe_program.told(single)}")
+        seen[probe_program.ANSWER.unpack_from(single)[0]] += 1
     print(f"test_links: {len(taken)} single stores as calls with one pair, answers {dict(sorted(seen.items()))}")
     need(set(seen) == {0, 4, 5, 6, 8, 11, 12, 13} and seen[0] > 1000, f"the single stores do not show enough: {seen}")
 
@@ -71,26 +71,26 @@ def check_singles():
 
 def planned_reply(case):
     """The reply to a case where every pair is planned before anything is written."""
-    store, _, args = probe.decode(case)
+    store, _, args = probe_program.decode(case)
     number = 0 if store.in_range() else 4
     try:
         if not number:
             store_planned(store, args)
     except Refused as refusal:
         number = refusal.args[0]
-    return probe.ANSWER.pack(number, 0) + probe.given(store) + probe.words([0]), store, number
+    return probe_program.ANSWER.pack(number, 0) + probe_program.given(store) + probe_program.words([0]), store, number
 
 
 def check_plans():
     """Both ways agree to the last word; and a way on which no pair sees those before it does not."""
-    cases, seen = [*link_cases.directed(), *link_damage.directed(), *link_chance.random_cases(PLANNED, 2)], Counter()
+    cases, seen = [*link_cases.directed(), *link_overlap_cases.directed(), *link_random_damage.random_cases(PLANNED, 2)], Counter()
     for name, case in cases:
         reply, store, number = planned_reply(case)
-        want = probe.expected(case)
+        want = probe_program.expected(case)
         if reply != want:  # told only then: a reply is long
-            need(False, f"{name}: planned {probe.told(reply)}, stored in turn {probe.told(want)}")
+            need(False, f"{name}: planned {probe_program.told(reply)}, stored in turn {probe_program.told(want)}")
         seen[number] += 1
-        first, _, args = probe.decode(case)
+        first, _, args = probe_program.decode(case)
         seen.update(blind_traits(first, number, store, args) if number in (0, 8, 11, 12, 13) else [])
     answers = {number: seen[number] for number in range(14) if seen[number]}
     print(f"test_links: {len(cases)} calls, planned and stored in turn, answers {answers}; {seen[BLIND_ANSWER]} are answered otherwise by "
@@ -101,7 +101,7 @@ def check_plans():
 # ---- the timetable
 
 def said(replies, case):
-    number = probe.ANSWER.unpack_from(replies[case])[0]
+    number = probe_program.ANSWER.unpack_from(replies[case])[0]
     return f"refused {number}" if number else "done"
 
 
@@ -119,8 +119,8 @@ def table(school, replies):
 
 def check_story(show):
     """The story by the probe program, in which each change is done and each wrong one refused."""
-    school, kept = timetable.whole_story()
-    replies = [reply for _, reply in probe.answered(school.cases)]
+    school, kept = timetable_story.whole_story()
+    replies = [reply for _, reply in probe_program.answered(school.cases)]
     if show:
         print("\n".join(table(school, replies)))
         print(f"* the current half; after the collection {kept} lessons are still there that nothing names, after the next one none")
@@ -137,19 +137,19 @@ def check_steps():
     """Changes after every number of steps, with the office at its level and behind; and all links dropped, with one lesson loaded."""
     having, cases, garbage = Counter(), [], Counter()
     for behind in (False, True):
-        for n, (school, at, kept) in enumerate(timetable.every_change(behind)):
+        for n, (school, at, kept) in enumerate(timetable_story.every_change(behind)):
             having[at] += 1
             garbage[kept] += 1
             cases += [(f"change after {n} steps, behind {behind}, {name}", case) for name, case in school.cases]
-    drops = [one for link in (0, 6) for one in timetable.every_drop(link)]
+    drops = [one for link in (0, 6) for one in timetable_story.every_drop(link)]
     cases += [(f"drop in phase {phase}, {name}", case) for school, phase in drops for name, case in school.cases]
-    replies = Counter(probe.ANSWER.unpack_from(reply)[0] for _, reply in probe.answered(cases))
+    replies = Counter(probe_program.ANSWER.unpack_from(reply)[0] for _, reply in probe_program.answered(cases))
     print(f"test_links: a timetable changed after every number of steps of a collection, {having.total()} times, in {len(having)} phases "
           f"and levels, all links dropped {len(drops)} times; old lessons gone at the end of the collection {garbage[0]} times, else of "
           f"the next one; {len(cases)} of these calls by the probe program, answers {dict(sorted(replies.items()))}")
-    need(sorted(having) == link_cases.HAVING and garbage[0] and garbage[timetable.LESSONS], f"the changes do not show enough: {having}")
-    for slip, every, first in ((STORED_LEFT, timetable.every_change, False), (STORES_STAY, timetable.every_change, True),
-                               (OLD_LEFT, timetable.every_drop, 0), (OLD_LEFT_IN_4, timetable.every_drop, 6)):
+    need(sorted(having) == link_cases.HAVING and garbage[0] and garbage[timetable_story.LESSONS], f"the changes do not show enough: {having}")
+    for slip, every, first in ((STORED_LEFT, timetable_story.every_change, False), (STORES_STAY, timetable_story.every_change, True),
+                               (OLD_LEFT, timetable_story.every_drop, 0), (OLD_LEFT_IN_4, timetable_story.every_drop, 6)):
         print(f"test_links: '{slip}' is seen: {broken(every(first, slip))}")
 
 
@@ -171,7 +171,7 @@ def check_runs():
     for seed in range(RUNS):
         try:
             runs.append(link_runs.random_run(seed, CALLS, seed < SHOWN))
-        except lives.Wrong as wrong:
+        except birth_runs.Wrong as wrong:
             sys.exit(f"test_links: random run {seed}: {wrong}")
         seen += runs[-1].seen
     done = {having: seen["done", *having] for having in link_cases.HAVING}
@@ -184,7 +184,7 @@ def check_runs():
     need(min(done.values()) > 20 and min(refused.values()) > 100 and seen["repeated"] > 5000 and seen["collections"] > 500
          and seen["reached"] > 1000, f"the runs do not show enough: {seen}")
     cases = [(f"random run {n}, {name}", case) for n, run in enumerate(runs[:SHOWN]) for name, case in run.cases]
-    told = Counter(probe.ANSWER.unpack_from(reply)[0] for _, reply in probe.answered(cases))
+    told = Counter(probe_program.ANSWER.unpack_from(reply)[0] for _, reply in probe_program.answered(cases))
     print(f"test_links: {len(cases)} of these calls by the probe program, answers {dict(sorted(told.items()))}")
     need(told[0] > 1000, f"the calls shown do not show enough: {told}")
     return runs

@@ -10,9 +10,9 @@ import subprocess
 import tempfile
 import zlib
 
-import program
-from explained import TOP, Programs, need
-from load import MOST, WORD, Workload
+from programs import built_programs
+from programs.explain_tool import TOP, Programs, need
+from models.load_model import MOST, WORD, Workload
 from test_bad_scripts import expected
 from test_workload import VECTORS
 
@@ -44,7 +44,7 @@ class Boxes:
     def __init__(self, folder):
         self.folder, self.count = folder, 0
 
-    def tool(self, workload=program.WORKLOAD, script=program.PROGRAM):
+    def tool(self, workload=built_programs.WORKLOAD, script=built_programs.PROGRAM):
         self.count += 1
         top = os.path.join(self.folder, f"box{self.count}")
         built = os.path.join(top, "target", "bin")

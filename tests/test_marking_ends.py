@@ -8,14 +8,14 @@ last without end. The script program gets the first and the last as scripts, and
 extremes, of which one reaches the bound, and random runs in small and large halves."""
 import time
 
-import program
-from explained import need
-from layout import HEADER, size
-from marking import (AFTER, BESIDE, MARKING, SCRIPT_LENGTH, Run, Seen, attached, chained, chained_by_eight, come_and_go, drop_eight,
+from programs import built_programs
+from programs.explain_tool import need
+from models.record_layout import HEADER, size
+from runs.marking_runs import (AFTER, BESIDE, MARKING, SCRIPT_LENGTH, Run, Seen, attached, chained, chained_by_eight, come_and_go, drop_eight,
                      links_in, load_and_drop, marked, random_run)
-from model import ALLOCATE, LOAD, STORE, MOVE, PUT, SAFE, SAME, STEP
-from scripts import encode
-from slips import ATTACHED_UNSCANNED, BEFORE, COUNTED_TWICE, LISTED_TWICE, MARKS_CLEARED, PLACE_IN_HALF
+from models.free_store import ALLOCATE, LOAD, STORE, MOVE, PUT, SAFE, SAME, STEP
+from programs.store_scripts import encode
+from mistakes.mistake_names import ATTACHED_UNSCANNED, BEFORE, COUNTED_TWICE, LISTED_TWICE, MARKS_CLEARED, PLACE_IN_HALF
 
 ROUNDS = 20000  # steps that the rules of before are watched for
 RUNS = 200      # by chance
@@ -85,7 +85,7 @@ def held_up():
 def on_program(name, run):
     """The lines of the script program on the entries of this run are the run's; by them alone, how many steps of the last collection began
     in phase 4."""
-    answers = program.lines(encode(run.entries))
+    answers = built_programs.lines(encode(run.entries))
     need([n for n, _, _ in answers] == list(range(1, len(run.entries) + 1)), f"{name}: entries are not numbered from 1")
     phase = spent = 0
     for (kind, _), want, (n, *line) in zip(run.entries, run.lines, answers):

@@ -15,24 +15,24 @@ import sys
 import time
 from collections import Counter
 
-import barriers
-import births
-import chance
-import damage
-import directory_cases
-import directory_shares
-import link_cases
-import link_chance
-import link_damage
-import link_traits
-import probe
-import replicas
-import scanning
-import shares
-import stretches
-from model import ATTACH, DETACH, SAFE, ALLOCATE, LOAD, STORE, READ, WRITE, MOVE, CLEAR, SAME, GET, PUT, STEP, LINKS
-from sapphire import BIRTH, COMPANION, STRETCH
-from slips import (DAMAGE_SLIPS, LINK_SLIPS, MARKING_SLIPS, NUMBER_SLIPS, PLACE_IN_HALF, PLACES, SCAN_SLIPS, SHARE_SLIPS, STRICT_SLIPS,
+from cases import shading_cases
+from cases import birth_cases
+from cases import random_damage
+from cases import limit_cases
+from cases import directory_cases
+from cases import directory_share_cases
+from cases import link_cases
+from cases import link_random_damage
+from cases import link_overlap_cases
+from cases import link_case_coverage
+from programs import probe_program
+from cases import replica_cases
+from cases import scan_cases
+from cases import share_cases
+from cases import stretch_cases
+from models.free_store import ATTACH, DETACH, SAFE, ALLOCATE, LOAD, STORE, READ, WRITE, MOVE, CLEAR, SAME, GET, PUT, STEP, LINKS
+from models.store_model import BIRTH, COMPANION, STRETCH
+from mistakes.mistake_names import (DAMAGE_SLIPS, LINK_SLIPS, MARKING_SLIPS, NUMBER_SLIPS, PLACE_IN_HALF, PLACES, SCAN_SLIPS, SHARE_SLIPS, STRICT_SLIPS,
                    WEAK_SLIPS)
 
 CRATE = os.path.join(os.path.dirname(os.path.abspath(__file__)), "..", "crates", "probe")
@@ -40,7 +40,7 @@ RANDOM, RANDOM_SCANS, RANDOM_LINKS = 70000, 10000, 20000
 # the refusals that each call has, by document 01's table and document 02
 SESSION = {4, 5, 6}
 RECORD = SESSION | {8, 11, 12}
-REFUSALS = {probe.MAKE: {1, 2, 3}, ATTACH: {4, 5, 7}, DETACH: SESSION, SAFE: SESSION, ALLOCATE: SESSION | {8, 10, 14, 16, 17},
+REFUSALS = {probe_program.MAKE: {1, 2, 3}, ATTACH: {4, 5, 7}, DETACH: SESSION, SAFE: SESSION, ALLOCATE: SESSION | {8, 10, 14, 16, 17},
             LOAD: RECORD | {13}, STORE: RECORD | {13}, READ: RECORD | {13}, WRITE: RECORD | {13}, MOVE: SESSION | {8}, CLEAR: SESSION | {8},
             SAME: SESSION | {8, 12}, GET: SESSION | {8, 9}, PUT: SESSION | {8, 9, 12}, STEP: {4, 12}, STRETCH: RECORD, COMPANION: RECORD,
             BIRTH: RECORD, LINKS: RECORD | {10, 13}}
@@ -48,8 +48,8 @@ REFUSALS = {probe.MAKE: {1, 2, 3}, ATTACH: {4, 5, 7}, DETACH: SESSION, SAFE: SES
 
 def files():
     """What crates/probe/stdin and stdout must hold."""
-    cases = [case for some in (stretches, births, directory_cases, shares, directory_shares, link_cases) for _, case in some.few()]
-    return b"".join(cases), b"".join(probe.expected(case) for case in cases)
+    cases = [case for some in (stretch_cases, birth_cases, directory_cases, share_cases, directory_share_cases, link_cases) for _, case in some.few()]
+    return b"".join(cases), b"".join(probe_program.expected(case) for case in cases)
 
 
 def held(name):
@@ -61,16 +61,16 @@ def compare(cases):
     """Runs the program on the cases; its whole output must be what documents 01 and 02 give. How often each kind had each number, and
     how often each trait of birth numbers, of shares and of several links came."""
     seen, traits = {}, Counter()
-    for case, want in probe.answered(cases):
-        kind, number = probe.CALL.unpack_from(case)[0], probe.ANSWER.unpack_from(want)[0]
-        if kind == LINKS and number and want[probe.ANSWER.size:] != probe.unchanged(case) + probe.words([0]):
+    for case, want in probe_program.answered(cases):
+        kind, number = probe_program.CALL.unpack_from(case)[0], probe_program.ANSWER.unpack_from(want)[0]
+        if kind == LINKS and number and want[probe_program.ANSWER.size:] != probe_program.unchanged(case) + probe_program.words([0]):
             sys.exit("test_probe: a refused call for several links has changed something")
         if kind == STRETCH:  # why it was refused only its companion says
-            number, = probe.ANSWER.unpack_from(probe.expected(COMPANION.to_bytes(4, "big") + case[4:]))[:1]
+            number, = probe_program.ANSWER.unpack_from(probe_program.expected(COMPANION.to_bytes(4, "big") + case[4:]))[:1]
         seen[kind, number] = seen.get((kind, number), 0) + 1
-        traits.update(births.traits(case, want))
-        traits.update(shares.traits(case, want))
-        traits.update(link_traits.traits(case, want))
+        traits.update(birth_cases.traits(case, want))
+        traits.update(share_cases.traits(case, want))
+        traits.update(link_case_coverage.traits(case, want))
     return seen, traits
 
 
@@ -79,8 +79,8 @@ def check_replicas(kind, cases, least):
     for a replica, and so many that follow a record with a replica there and are done."""
     done, refused = Counter(), Counter()
     for _, case in cases:
-        number, passed, wrong = replicas.shown(case)
-        level = replicas.level_of(case) if passed or wrong else None
+        number, passed, wrong = replica_cases.shown(case)
+        level = replica_cases.level_of(case) if passed or wrong else None
         refused.update((place, level) for place in wrong)
         done.update((place, level) for place in set(passed) if number == 0 and place in PLACES)
     print(f"test_probe: the {kind} cases follow a record with a replica and are done {done.total()} times, are refused for a replica "
@@ -93,11 +93,11 @@ def check_numbers(kind, traits, least):
     """That birth is answered at every level and refused in every way, the last number given at every level, and an allocation without a
     number refused there, with 16 where it has room and with 14 where it hasn't; at least so often."""
     def times(wanted):
-        return [traits[trait] for trait in births.TRAITS if trait[0] == wanted]
+        return [traits[trait] for trait in birth_cases.TRAITS if trait[0] == wanted]
     print(f"test_probe: the {kind} cases have birth answered {sum(times('birth'))} times, refused {sum(times(BIRTH))} times, the last "
-          f"number given {sum(times(births.LAST_GIVEN))} times; without a number 16 {sum(times(births.NONE_LEFT))} times, 14 "
-          f"{sum(times(births.ROOM_FIRST))} times; of each refusal and level at least {min(traits[trait] for trait in births.TRAITS)}")
-    if any(traits[trait] < least for trait in births.TRAITS):
+          f"number given {sum(times(birth_cases.LAST_GIVEN))} times; without a number 16 {sum(times(birth_cases.NONE_LEFT))} times, 14 "
+          f"{sum(times(birth_cases.ROOM_FIRST))} times; of each refusal and level at least {min(traits[trait] for trait in birth_cases.TRAITS)}")
+    if any(traits[trait] < least for trait in birth_cases.TRAITS):
         sys.exit(f"test_probe: the {kind} cases do not show enough of birth numbers: {traits}")
 
 
@@ -105,13 +105,13 @@ def check_shares(kind, traits, least):
     """That 17 comes at every level, where there is no room or no number too, and where the sum is past the highest word; that a share is
     filled at every level, records of two copies are charged once, and charges cleared; at least so often."""
     def times(wanted):
-        return sum(traits[trait] for trait in shares.TRAITS if trait == wanted or trait[0] == wanted)
-    print(f"test_probe: the {kind} cases have 17 {times(shares.OVER)} times, {times(shares.OVER_FIRST)} without room or number, "
-          f"{times(shares.PAST_ALL)} past the highest word; shares filled {times(shares.FILLED)} times, {times(shares.ONCE)} records of "
-          f"two copies charged once, charges cleared {times(shares.CLEARED)} times, {times(shares.ABSENT_CLEARED)} of absent sessions; of "
-          f"each and level at least {min(traits[trait] for trait in shares.TRAITS)}")
-    if any(traits[trait] < least for trait in shares.TRAITS):
-        sys.exit(f"test_probe: the {kind} cases do not show enough of shares: {[(trait, traits[trait]) for trait in shares.TRAITS]}")
+        return sum(traits[trait] for trait in share_cases.TRAITS if trait == wanted or trait[0] == wanted)
+    print(f"test_probe: the {kind} cases have 17 {times(share_cases.OVER)} times, {times(share_cases.OVER_FIRST)} without room or number, "
+          f"{times(share_cases.PAST_ALL)} past the highest word; shares filled {times(share_cases.FILLED)} times, {times(share_cases.ONCE)} records of "
+          f"two copies charged once, charges cleared {times(share_cases.CLEARED)} times, {times(share_cases.ABSENT_CLEARED)} of absent sessions; of "
+          f"each and level at least {min(traits[trait] for trait in share_cases.TRAITS)}")
+    if any(traits[trait] < least for trait in share_cases.TRAITS):
+        sys.exit(f"test_probe: the {kind} cases do not show enough of shares: {[(trait, traits[trait]) for trait in share_cases.TRAITS]}")
 
 
 def check_links(kind, traits, wanted, least, blind):
@@ -119,73 +119,73 @@ def check_links(kind, traits, wanted, least, blind):
     pairs that are planned on the words as they came in."""
     def times(of):
         return sum(count for trait, count in traits.items() if isinstance(trait, tuple) and trait[0] == of)
-    done, full, shaded = (times(of) for of in (link_traits.DONE, link_traits.FULL, link_traits.SHADED))
-    ways = link_traits.PASSES, link_traits.REFUSED
-    words = [sum(traits[trait] for trait in link_traits.seen_words() if trait[3] == way) for way in ways]
+    done, full, shaded = (times(of) for of in (link_case_coverage.DONE, link_case_coverage.FULL, link_case_coverage.SHADED))
+    ways = link_case_coverage.PASSES, link_case_coverage.REFUSED
+    words = [sum(traits[trait] for trait in link_case_coverage.seen_words() if trait[3] == way) for way in ways]
     print(f"test_probe: the {kind} cases store several links {done} times, {shaded} times a record that an earlier pair has shaded; "
           f"refused by a full list {full} times; a pair is done {words[0]} times only because of one word that an earlier one wrote, "
-          f"refused {words[1]} times; planned on the words as they came in they have another answer {traits[link_traits.BLIND_ANSWER]} "
-          f"times, other words {traits[link_traits.BLIND_WORDS]} times")
+          f"refused {words[1]} times; planned on the words as they came in they have another answer {traits[link_case_coverage.BLIND_ANSWER]} "
+          f"times, other words {traits[link_case_coverage.BLIND_WORDS]} times")
     lacking = [(trait, traits[trait]) for trait in wanted if traits[trait] < least]
-    if lacking or traits[link_traits.BLIND_ANSWER] < blind or traits[link_traits.BLIND_WORDS] < blind // 5:
+    if lacking or traits[link_case_coverage.BLIND_ANSWER] < blind or traits[link_case_coverage.BLIND_WORDS] < blind // 5:
         sys.exit(f"test_probe: the {kind} cases do not show enough of several links: {lacking}")
 
 
 def check_scans(kind, cases):
     """Runs the program on cases of the session scan. And the model: it refuses none but with 12, and then changes nothing."""
     names, seen = {case: name for name, case in cases}, Counter()
-    for case, reply in probe.answered(cases):
-        number, _ = probe.ANSWER.unpack_from(reply)
+    for case, reply in probe_program.answered(cases):
+        number, _ = probe_program.ANSWER.unpack_from(reply)
         if number not in (0, 12):
             sys.exit(f"test_probe: refused with {number}: {names[case]}")
-        if number and reply[probe.ANSWER.size:] != probe.unchanged(case) + probe.words([0]):
+        if number and reply[probe_program.ANSWER.size:] != probe_program.unchanged(case) + probe_program.words([0]):
             sys.exit(f"test_probe: refused, and has changed something: {names[case]}")
-        seen.update(scanning.traits(case, reply))
+        seen.update(scan_cases.traits(case, reply))
     print(f"test_probe: {len(cases)} {kind} cases of the session scan, {seen['beside']} of them other steps, {seen['refused']} scans "
           f"refused, {seen['scanned']} done: {seen['equal']} with equal white registers, {seen['paired']} with replicas, {seen['shared']} "
           f"with records that share words, {seen['crossed']} of them with a replica, {seen['written']} with a colour written in another "
           f"one's record")
-    if any(seen[trait] < least for trait, least in scanning.LEAST.items()):
+    if any(seen[trait] < least for trait, least in scan_cases.LEAST.items()):
         sys.exit(f"test_probe: the {kind} cases of the session scan do not show enough")
 
 
 def check_bad_cases():
     """A case that is cut short, or lends more than the program has, is not answered, and ends the program; an unknown kind is 15."""
-    _, case = next(stretches.few())
-    want = probe.expected(case)
-    pairs, memory = probe.CALL.size + probe.RECORD.size, probe.MEMORY  # where the pairs and the lent words begin
-    for n in (0, 1, probe.CALL.size - 1, probe.CALL.size, pairs - 1, pairs, pairs + 1, memory - 1, memory, len(case) - 1):
-        if probe.run(case + case[:n]) != want:
+    _, case = next(stretch_cases.few())
+    want = probe_program.expected(case)
+    pairs, memory = probe_program.CALL.size + probe_program.RECORD.size, probe_program.MEMORY  # where the pairs and the lent words begin
+    for n in (0, 1, probe_program.CALL.size - 1, probe_program.CALL.size, pairs - 1, pairs, pairs + 1, memory - 1, memory, len(case) - 1):
+        if probe_program.run(case + case[:n]) != want:
             sys.exit(f"test_probe: a case cut after {n} bytes is answered")
     for at in (20, 24, 28):
-        if probe.run(case + case[:at] + (1025).to_bytes(4, "big") + case[at + 4:] + case * 9) != want:
+        if probe_program.run(case + case[:at] + (1025).to_bytes(4, "big") + case[at + 4:] + case * 9) != want:
             sys.exit("test_probe: a case that lends too much is answered")
     for kind in (19, 99, 255, 1 << 31):
         unknown = kind.to_bytes(4, "big") + case[4:]
-        if probe.run(unknown) != probe.ANSWER.pack(15, 0) + probe.unchanged(case) + probe.words([0]):
+        if probe_program.run(unknown) != probe_program.ANSWER.pack(15, 0) + probe_program.unchanged(case) + probe_program.words([0]):
             sys.exit(f"test_probe: kind {kind} is not answered with 15")
 
 
 def check_pairs_unread():
     """The words of the pairs are nothing to a call that stores no links."""
-    cases = [case for some in (stretches, births, directory_cases, shares, directory_shares) for _, case in some.few()]
-    junk = probe.words(link_cases.JUNK)
-    changed = [case[:probe.MEMORY - len(junk)] + junk + case[probe.MEMORY:] for case in cases]
-    if probe.run(b"".join(changed)) != b"".join(map(probe.expected, cases)):
+    cases = [case for some in (stretch_cases, birth_cases, directory_cases, share_cases, directory_share_cases) for _, case in some.few()]
+    junk = probe_program.words(link_cases.JUNK)
+    changed = [case[:probe_program.MEMORY - len(junk)] + junk + case[probe_program.MEMORY:] for case in cases]
+    if probe_program.run(b"".join(changed)) != b"".join(map(probe_program.expected, cases)):
         sys.exit("test_probe: a call that stores no links is answered otherwise by the words of the pairs")
 
 
 def slipped(case, slip):
     """What a store with this mistake answers; nothing where it is led out of its halves."""
     try:
-        return probe.expected(case, slip)
+        return probe_program.expected(case, slip)
     except IndexError:
         return None
 
 
 def check_slips(slips, cases):
     """Each of these mistakes built into the store in Python must show in some case."""
-    right = functools.cache(probe.expected)
+    right = functools.cache(probe_program.expected)
     for slip in slips:
         seen = next((name for name, case in cases if slipped(case, slip) != right(case)), None)
         if seen is None:
@@ -199,11 +199,11 @@ def main():
         sys.exit("test_probe: crates/probe/stdin and stdout are not those that this test writes")
     check_bad_cases()
     check_pairs_unread()
-    directed, marking = [*stretches.directed(), *damage.directed()], list(barriers.directed())
-    by_chance = [*chance.random_cases(RANDOM), *link_chance.random_cases(RANDOM_LINKS)]
-    paired, numbered, charged = list(replicas.directed()), list(births.directed()), list(shares.directed())
-    linked = [*link_cases.directed(), *link_damage.directed()]
-    for name, cases, least, wanted in [("directed", directed + marking + paired + numbered + charged + linked, 20, link_traits.TRAITS),
+    directed, marking = [*stretch_cases.directed(), *limit_cases.directed()], list(shading_cases.directed())
+    by_chance = [*random_damage.random_cases(RANDOM), *link_random_damage.random_cases(RANDOM_LINKS)]
+    paired, numbered, charged = list(replica_cases.directed()), list(birth_cases.directed()), list(share_cases.directed())
+    linked = [*link_cases.directed(), *link_overlap_cases.directed()]
+    for name, cases, least, wanted in [("directed", directed + marking + paired + numbered + charged + linked, 20, link_case_coverage.TRAITS),
                                        ("random", by_chance, 10, [])]:
         seen, traits = compare(cases)
         numbers = {}
@@ -218,9 +218,9 @@ def main():
         check_links(name, traits, wanted, 2, 1000)
     check_replicas("directed", paired, 10)
     check_replicas("random", by_chance, 1)
-    scans = scanning.directed()
+    scans = scan_cases.directed()
     check_scans("directed", scans)
-    check_scans("random", list(scanning.random_cases(RANDOM_SCANS)))
+    check_scans("random", list(scan_cases.random_cases(RANDOM_SCANS)))
     check_slips([PLACE_IN_HALF, *DAMAGE_SLIPS], by_chance[:4000] + directed)
     check_slips(MARKING_SLIPS, marking)
     check_slips([*WEAK_SLIPS, *PLACES.values(), *STRICT_SLIPS], random.Random(1).sample(paired, len(paired)))

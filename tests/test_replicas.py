@@ -7,11 +7,11 @@ import sys
 import time
 from collections import Counter
 
-from damage import records, ref
-from judge import faults
-from marking import Run, any_call, attached, fill
-from model import ALLOCATE, ATTACH, SAFE, STEP
-from sapphire import LEVELS, Refused
+from cases.limit_cases import records, ref
+from programs.line_checks import faults
+from runs.marking_runs import Run, any_call, attached, fill
+from models.free_store import ALLOCATE, ATTACH, SAFE, STEP
+from models.store_model import LEVELS, Refused
 
 RUNS, CALLS = 120, 3000
 COPYING, RECLAIM = 7, 12  # phases

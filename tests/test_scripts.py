@@ -5,11 +5,11 @@ import itertools
 import sys
 import time
 
-import program
-import sapphire
-from judge import faults
-from model import STEP
-from scripts import all_scripts, encode, long_scripts
+from programs import built_programs
+from models import store_model
+from programs.line_checks import faults
+from models.free_store import STEP
+from programs.store_scripts import all_scripts, encode, long_scripts
 
 
 def main():
@@ -19,14 +19,14 @@ def main():
     for name, script in itertools.chain(all_scripts(), long_scripts()):
         data = encode(script)
         longest = max(longest, len(data))
-        answers = program.lines(data)
+        answers = built_programs.lines(data)
         if [n for n, _, _ in answers] != list(range(1, len(script) + 1)):
             sys.exit(f"test_scripts: {name}: entries are not numbered from 1 to {len(script)}")
         pairs = [(number, value) for _, number, value in answers]
         fault = next(faults(script, pairs), None)
         if fault:
             sys.exit(f"test_scripts: {name}: {fault}")
-        store = sapphire.Sapphire()
+        store = store_model.Sapphire()
         for n, (kind, args) in enumerate(script):
             want = store.call(kind, args)
             if pairs[n] != want:

@@ -13,20 +13,20 @@ import sys
 import time
 from collections import Counter
 
-import budgets
-import importing
-import lives
-import probe
-import share_examples
-import shares
-from collector import PHASES
-from explained import need
-from importing import IMPORT, LENGTH, LARGE, LETTER, SECRETARY, SHARES
-from judge import faults
-from layout import size
-from model import FITTED, NO_ROOM, OVER_SHARE, fed
-from replaying import seen_in
-from slips import FED_AS_ROOM, FREE_SHARE_SLIPS, LINE_SHARE_SLIPS, UNFED
+from runs import share_runs
+from stories import import_story
+from runs import birth_runs
+from programs import probe_program
+from stories import share_examples
+from cases import share_cases
+from models.collector_model import PHASES
+from programs.explain_tool import need
+from stories.import_story import IMPORT, LENGTH, LARGE, LETTER, SECRETARY, SHARES
+from programs.line_checks import faults
+from models.record_layout import size
+from models.free_store import FITTED, NO_ROOM, OVER_SHARE, fed
+from mistakes.replay import seen_in
+from mistakes.mistake_names import FED_AS_ROOM, FREE_SHARE_SLIPS, LINE_SHARE_SLIPS, UNFED
 
 RUNS, CALLS = 240, 3000
 SHOWN = 30  # runs whose calls the probe program gets
@@ -37,20 +37,20 @@ PAIRS, PAIR_CALLS = 200, 800
 
 def check_examples():
     cases = [(f"{example.__name__}, {name}", case) for example in share_examples.EXAMPLES for name, case in example().cases]
-    replies = Counter(probe.ANSWER.unpack_from(reply)[0] for _, reply in probe.answered(cases))
+    replies = Counter(probe_program.ANSWER.unpack_from(reply)[0] for _, reply in probe_program.answered(cases))
     print(f"test_shares: {len(share_examples.EXAMPLES)} examples, {len(cases)} calls of the probe program, answers "
           f"{dict(sorted(replies.items()))}")
 
 
 def said(replies, case):
-    number = probe.ANSWER.unpack_from(replies[case])[0]
+    number = probe_program.ANSWER.unpack_from(replies[case])[0]
     return f"refused {number}" if number else "done"
 
 
 def table(day, replies):
     """The rows of the day in words: at the start of each phase the levels, what both were answered, what is charged to each, and the words
     used of both halves."""
-    yield f"a half of {LENGTH} words; shares: secretary {SHARES[SECRETARY]}, import {SHARES[IMPORT]}; kept from before: {importing.USED}"
+    yield f"a half of {LENGTH} words; shares: secretary {SHARES[SECRETARY]}, import {SHARES[IMPORT]}; kept from before: {import_story.USED}"
     yield (f"phase         secretary level  makes {size(*LETTER)} words  charged  import level  makes {size(*LARGE)} words  charged  "
            f"current half  other half  free")
     for phase, levels, imported, written, charges, ends, current, free in day.rows:
@@ -61,13 +61,13 @@ def table(day, replies):
 
 def check_days(show):
     """The day through all phases, and the days on which all is taken in one."""
-    day = importing.whole_day()
-    replies = [reply for _, reply in probe.answered(day.cases)]
+    day = import_story.whole_day()
+    replies = [reply for _, reply in probe_program.answered(day.cases)]
     if show:
         print("\n".join(table(day, replies)))
-    days = list(importing.days())
+    days = list(import_story.days())
     cases = [(f"{name}, {about}", case) for name, one, _ in days for about, case in one.cases]
-    answers = Counter(probe.ANSWER.unpack_from(reply)[0] for _, reply in probe.answered(cases))
+    answers = Counter(probe_program.ANSWER.unpack_from(reply)[0] for _, reply in probe_program.answered(cases))
     levels = {level for _, _, levels in days for level in levels}
     print(f"test_shares: an import and a secretary in {LENGTH} words through a collection, {len(replies)} calls of the probe program; "
           f"{len(days)} days in one phase each, {len(cases)} calls: {answers[OVER_SHARE]} times 17, the half full to the last word "
@@ -82,34 +82,34 @@ def check_runs():
     seen, runs = Counter(), []
     for seed in range(RUNS):
         try:
-            runs.append(budgets.random_run(seed, CALLS, showing=seed < SHOWN))
-        except lives.Wrong as wrong:
+            runs.append(share_runs.random_run(seed, CALLS, showing=seed < SHOWN))
+        except birth_runs.Wrong as wrong:
             sys.exit(f"test_shares: random run {seed}: {wrong}")
         seen += runs[-1].seen
-    full = [seen[budgets.STRONGER, "full", phase] for phase in range(13)]
+    full = [seen[share_runs.STRONGER, "full", phase] for phase in range(13)]
     print(f"test_shares: {RUNS} random runs, {sum(len(run.entries) for run in runs)} calls, {seen['collections']} collections, "
           f"{seen['cleared']} with charges to clear; allocations done {seen[FITTED]}, {seen['both']} in both halves, refused with 17 "
-          f"{seen[OVER_SHARE]}, with 14 {seen[NO_ROOM]}, with 16 {seen[lives.LEFT]}; attached again with the share of before and a charge "
+          f"{seen[OVER_SHARE]}, with 14 {seen[NO_ROOM]}, with 16 {seen[birth_runs.LEFT]}; attached again with the share of before and a charge "
           f"{seen['attached again']} times")
-    for claim in (budgets.CLAIM, budgets.STRONGER):
+    for claim in (share_runs.CLAIM, share_runs.STRONGER):
         print(f"test_shares: {claim} covers {seen[claim, FITTED]} allocations done, {seen[claim, OVER_SHARE]} refused with 17, none with "
               f"14; {seen[claim, 'just']} times shares and used words are just the half, which is filled to the last word "
               f"{seen[claim, 'full']} times")
-    claimed = [seen[budgets.CLAIM, about] for about in ("full", "just")]
+    claimed = [seen[share_runs.CLAIM, about] for about in ("full", "just")]
     need(min(full[:8]) > 3 and min(claimed) > 200 and seen[NO_ROOM] > 1000 and seen["both"] > 1000
-         and seen[lives.LEFT] > 20 and seen["attached again"] > 500 and seen["collections"] > 2000, f"the runs do not show enough: {seen}")
+         and seen[birth_runs.LEFT] > 20 and seen["attached again"] > 500 and seen["collections"] > 2000, f"the runs do not show enough: {seen}")
     return runs
 
 
 def check_shown(runs):
     """Calls of the first runs, by the probe program."""
     cases, seen = [(f"random run {n}, {name}", case) for n, run in enumerate(runs[:SHOWN]) for name, case in run.cases], Counter()
-    for case, reply in probe.answered(cases):
-        seen.update(shares.traits(case, reply))
-    over, once = [[seen[trait, level] for level in range(7)] for trait in (shares.OVER, shares.ONCE)]
+    for case, reply in probe_program.answered(cases):
+        seen.update(share_cases.traits(case, reply))
+    over, once = [[seen[trait, level] for level in range(7)] for trait in (share_cases.OVER, share_cases.ONCE)]
     print(f"test_shares: {len(cases)} calls of {SHOWN} of these runs by the probe program: 17 {sum(over)} times, {sum(once)} records of "
-          f"two copies charged once, charges cleared {seen[shares.CLEARED]} times, of absent sessions {seen[shares.ABSENT_CLEARED]} times")
-    need(min(over) > 10 and sum(once) > 50 and seen[shares.ABSENT_CLEARED] > 10, f"the calls shown do not show enough: {seen}")
+          f"two copies charged once, charges cleared {seen[share_cases.CLEARED]} times, of absent sessions {seen[share_cases.ABSENT_CLEARED]} times")
+    need(min(over) > 10 and sum(once) > 50 and seen[share_cases.ABSENT_CLEARED] > 10, f"the calls shown do not show enough: {seen}")
 
 
 def check_false_claims():
@@ -117,8 +117,8 @@ def check_false_claims():
     for about, false in [("that asks for a word less", {"lacking": 1}), ("that counts attached sessions alone", {"attached_alone": True})]:
         def refuted(seed):
             try:
-                budgets.random_run(seed, CALLS, **false)
-            except lives.Wrong as wrong:
+                share_runs.random_run(seed, CALLS, **false)
+            except birth_runs.Wrong as wrong:
                 return f"random run {seed}, {wrong}"
         found = next(filter(None, map(refuted, range(RUNS))), None)
         need(found, f"a claim {about} is not seen to be false")
@@ -140,7 +140,7 @@ def check_slips(runs):
 def check_pairs():
     seen = Counter()
     for seed in range(PAIRS):
-        wrong = lives.pair(seed, PAIR_CALLS, seen, chosen=budgets.shared_call, shared=budgets.first_share)
+        wrong = birth_runs.pair(seed, PAIR_CALLS, seen, chosen=share_runs.shared_call, shared=share_runs.first_share)
         need(not wrong, f"pair {seed}: {wrong}")
     reasons = {pair: seen["parted", *pair] for pair in itertools.combinations((FITTED, NO_ROOM, OVER_SHARE), 2)}
     print(f"test_shares: {PAIRS} pairs of runs, {seen['calls']} session calls with the same answer, {seen['share']} of them 17, "

@@ -1,13 +1,13 @@
 #!/usr/bin/env python3
 """A test of the tests: the store in Python agrees with the collector-free store on every script, and each slip built into it is seen: by
 the collector-free store, such as those that document 01 warns of and a test of replicas that is too strict, or where no session is
-answered otherwise by a line that differs. Those that no script shows are left to the tests that tests/slips.py names."""
+answered otherwise by a line that differs. Those that no script shows are left to the tests that tests/mistakes/mistake_names.py names."""
 import sys
 
-from judge import faults
-from sapphire import Sapphire
-from scripts import all_scripts
-from slips import ANSWER_SLIPS, LINE_SLIPS, STRICT_SLIPS
+from programs.line_checks import faults
+from models.store_model import Sapphire
+from programs.store_scripts import all_scripts
+from mistakes.mistake_names import ANSWER_SLIPS, LINE_SLIPS, STRICT_SLIPS
 
 
 def lines_of(entries, slip=None):

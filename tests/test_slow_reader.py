@@ -12,11 +12,11 @@ import tempfile
 import time
 from collections import namedtuple
 
-import directory_scripts
-import program
-from model import ALLOCATE, ATTACH, READ, STEP, WRITE
-from scripts import encode
-from table import OPEN, ADD, MAKE, JOIN, LIST, LAST
+from programs import directory_scripts
+from programs import built_programs
+from models.free_store import ALLOCATE, ATTACH, READ, STEP, WRITE
+from programs.store_scripts import encode
+from models.table_model import OPEN, ADD, MAKE, JOIN, LIST, LAST
 
 WHO = os.path.basename(sys.argv[0])  # this test, or one that shares its checks
 # far more lines than a pipe holds
@@ -41,8 +41,8 @@ def directory_script():
 
 
 def sources(folder):
-    for name, path, entries, written in (("script program", program.PROGRAM, script(), encode),
-                                         ("directory program", program.DIRECTORY, directory_script(), directory_scripts.encode)):
+    for name, path, entries, written in (("script program", built_programs.PROGRAM, script(), encode),
+                                         ("directory program", built_programs.DIRECTORY, directory_script(), directory_scripts.encode)):
         file = open(os.path.join(folder, name), "w+b")
         file.write(written(entries))
         file.flush()

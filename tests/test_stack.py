@@ -5,12 +5,12 @@ and 02 give for long random scripts with every kind of call and for one that fil
 no more stack than their arrays take they must fail, which shows that the limit is kept."""
 import sys
 
-import directory_scripts
-import load
-import program
-from layout import size
-from model import ALLOCATE, ATTACH, CLEAR, GET, PUT, STORE
-from scripts import ARGUMENTS, encode, finish, kept, long_scripts, look
+from programs import directory_scripts
+from models import load_model
+from programs import built_programs
+from models.record_layout import size
+from models.free_store import ALLOCATE, ATTACH, CLEAR, GET, PUT, STORE
+from programs.store_scripts import ARGUMENTS, encode, finish, kept, long_scripts, look
 from test_bad_scripts import expected
 
 STACK, DIRECTORY_STACK, LOAD_STACK = 96 * 1024, 120 * 1024, 32 * 1024
@@ -34,7 +34,7 @@ def filling_script():
 
 def check(name, data, want, stack, path):
     """That the program writes this on these bytes, with so much stack."""
-    done = program.run(data, stack, path)
+    done = built_programs.run(data, stack, path)
     if done.returncode != 0 or done.stderr:
         sys.exit(f"test_stack: {name}: with {stack // 1024} KB of stack the program ended with status {done.returncode}")
     if done.stdout != want:
@@ -47,7 +47,7 @@ def script_program():
     for name, script in [*long_scripts(), ("full store", filling_script())]:
         data = encode(script)
         want = expected(data)
-        check(name, data, want, STACK, program.PROGRAM)
+        check(name, data, want, STACK, built_programs.PROGRAM)
         longest, entries, kinds = max(longest, len(want)), entries + len(script), kinds | {kind for kind, _ in script}
         no_room = want.count(b" 14 0\n")  # in the end those of the last script, the full store
     print(f"test_stack: {entries} entries with {STACK // 1024} KB of stack, the longest output {longest} bytes, {no_room} allocations "
@@ -60,7 +60,7 @@ def directory_program():
     entries, kinds = 0, set()
     for name, played in [("crowd", directory_scripts.crowd(0))] + [(f"random {n}", directory_scripts.random_script(n)) for n in range(6)]:
         want = "".join(directory_scripts.text(n, line) for n, line in enumerate(played.lines, 1)).encode()
-        check(name, directory_scripts.encode(played.entries), want, DIRECTORY_STACK, program.DIRECTORY)
+        check(name, directory_scripts.encode(played.entries), want, DIRECTORY_STACK, built_programs.DIRECTORY)
         entries, kinds = entries + len(played.entries), kinds | {kind for kind, _ in played.entries}
     print(f"test_stack: {entries} entries of the directory program with {DIRECTORY_STACK // 1024} KB of stack")
     if kinds != set(directory_scripts.SIZES):
@@ -69,9 +69,9 @@ def directory_program():
 
 def load_program():
     entries = 0
-    for seed in (1, 2, load.WORD):
-        check(f"load of seed {seed}", load.asked(seed, load.MOST), load.Workload().script(seed, load.MOST), LOAD_STACK, program.WORKLOAD)
-        entries += load.MOST
+    for seed in (1, 2, load_model.WORD):
+        check(f"load of seed {seed}", load_model.asked(seed, load_model.MOST), load_model.Workload().script(seed, load_model.MOST), LOAD_STACK, built_programs.WORKLOAD)
+        entries += load_model.MOST
     print(f"test_stack: {entries} entries of the load program with {LOAD_STACK // 1024} KB of stack")
 
 
@@ -79,9 +79,9 @@ def main():
     script_program()
     directory_program()
     load_program()
-    for data, path, least in ((b"\x01", program.PROGRAM, HALVES), (b"\x02", program.DIRECTORY, HALVES),
-                              (load.asked(1, 5), program.WORKLOAD, BUFFERS)):
-        if program.run(data, least, path).returncode == 0:
+    for data, path, least in ((b"\x01", built_programs.PROGRAM, HALVES), (b"\x02", built_programs.DIRECTORY, HALVES),
+                              (load_model.asked(1, 5), built_programs.WORKLOAD, BUFFERS)):
+        if built_programs.run(data, least, path).returncode == 0:
             sys.exit(f"test_stack: {path} runs with {least // 1024} KB of stack, so the limit is not kept")
 
 

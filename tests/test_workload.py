@@ -6,10 +6,10 @@ import hashlib
 import random
 from collections import Counter, namedtuple
 
-import program
-from explained import need
-from load import MOST, WORD, Workload, asked
-from scripts import encode
+from programs import built_programs
+from programs.explain_tool import need
+from models.load_model import MOST, WORD, Workload, asked
+from programs.store_scripts import encode
 from test_bad_scripts import expected
 
 # bytes and SHA-256 of the load, bytes and SHA-256 of the script program's lines on it
@@ -31,7 +31,7 @@ PIECE, LONGEST = 4096, 9  # bytes that are written at once at most, and of an en
 
 
 def load(data):
-    return program.output(data, program.WORKLOAD)
+    return built_programs.output(data, built_programs.WORKLOAD)
 
 
 # ---- inputs, each with its name
@@ -100,7 +100,7 @@ def vectors():
         for whose, script in (("the program's", load(asked(seed, count))), ("Python's", Workload().output(asked(seed, count)))):
             got = len(script), hashlib.sha256(script).hexdigest()
             need(got == (size, load_hash), f"{whose} load of seed {seed}, count {count}: {got}")
-        lines = program.output(script)
+        lines = built_programs.output(script)
         got = lines.count(b"\n"), len(lines), hashlib.sha256(lines).hexdigest()
         need(got == (count, text, lines_hash), f"lines of seed {seed}, count {count}: {got}")
     for given, want in WORKED:
@@ -111,7 +111,7 @@ def vectors():
 def check_lines(name, script, count):
     """That the script program takes every entry of this load: lines numbered from 1 to the count, no 15, each as documents 01 and 02
     have it. How often each refusal number comes."""
-    text = program.output(script)
+    text = built_programs.output(script)
     lines = [line.split(b" ") for line in text.split(b"\n")[:-1]]
     need([line[0] for line in lines] == [b"%d" % n for n in range(1, count + 1)], f"{name}: the lines are not 1 to {count}")
     refusals = Counter(int(line[1]) for line in lines)
@@ -140,7 +140,7 @@ def main():
         tried, loads, size = tried + 1, loads + bool(got), size + len(got)
         if got:
             refusals += check_lines(name, got, int.from_bytes(data[4:], "big"))
-    need(program.output(load(b"")) == b"0 15 0\n", "an empty load is not refused with 15")
+    need(built_programs.output(load(b"")) == b"0 15 0\n", "an empty load is not refused with 15")
     print(f"test_workload: {len(VECTORS)} vectors, {len(WORKED)} worked inputs, {tried} others: {loads} loads of {size} bytes, "
           f"{again_and_again()} runs again")
     print(f"test_workload: {refusals.total()} lines of the script program, refusals {dict(sorted(refusals.items()))}")

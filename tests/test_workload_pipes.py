@@ -9,9 +9,9 @@ import subprocess
 import tempfile
 import time
 
-import program
-from explained import need
-from load import Workload, asked
+from programs import built_programs
+from programs.explain_tool import need
+from models.load_model import Workload, asked
 from test_slow_reader import LIMIT, PAGE, Source, begin, check, end, in_file, read_some, read_when_full
 from test_workload import VECTORS
 
@@ -22,7 +22,7 @@ SOON = 10  # seconds within which a program has ended that can't write
 # ---- input
 
 def started():
-    return subprocess.Popen([program.WORKLOAD], stdin=subprocess.PIPE, stdout=subprocess.PIPE, stderr=subprocess.PIPE, bufsize=0)
+    return subprocess.Popen([built_programs.WORKLOAD], stdin=subprocess.PIPE, stdout=subprocess.PIPE, stderr=subprocess.PIPE, bufsize=0)
 
 
 def ended(child, name, want):
@@ -84,10 +84,10 @@ def other_inputs(folder):
     path = os.path.join(folder, "asked")
     with open(path, "wb") as file:
         file.write(asked(7, 900))
-    for name, want in ((path, Workload().output(asked(7, 900))), (program.PROGRAM, b""), ("/dev/zero", b""), (folder, b""),
+    for name, want in ((path, Workload().output(asked(7, 900))), (built_programs.PROGRAM, b""), ("/dev/zero", b""), (folder, b""),
                        (os.devnull, b"")):
         source = os.open(name, os.O_RDONLY)
-        done = subprocess.run([program.WORKLOAD], stdin=source, stdout=subprocess.PIPE, stderr=subprocess.PIPE, timeout=60)
+        done = subprocess.run([built_programs.WORKLOAD], stdin=source, stdout=subprocess.PIPE, stderr=subprocess.PIPE, timeout=60)
         os.close(source)
         need((done.returncode, done.stdout, done.stderr) == (0, want, b""), f"input {name}: {done.returncode}, {len(done.stdout)} bytes")
 
@@ -136,7 +136,7 @@ def source_of(folder, seed, count):
     file = open(os.path.join(folder, f"{seed} {count}"), "w+b")
     file.write(asked(seed, count))
     file.flush()
-    return Source(program.WORKLOAD, file, count)
+    return Source(built_programs.WORKLOAD, file, count)
 
 
 def outputs(folder):

@@ -4,9 +4,9 @@ gives other bytes on some of them."""
 import itertools
 import sys
 
-import program
-from load import MOST, WHOLE, WORD, Workload
-from model import ALLOCATE, STEP, WRITE
+from programs import built_programs
+from models.load_model import MOST, WHOLE, WORD, Workload
+from models.free_store import ALLOCATE, STEP, WRITE
 from test_workload import edge_seeds, lengths, limits, random_seeds
 
 RIGHT = Workload()
@@ -146,7 +146,7 @@ def argument_slips():
 
 def written(inputs):
     """What the program writes on these inputs, which is the load in Python."""
-    tried = [(name, data, program.output(data, program.WORKLOAD)) for name, data in inputs]
+    tried = [(name, data, built_programs.output(data, built_programs.WORKLOAD)) for name, data in inputs]
     if unlike(RIGHT, tried):
         sys.exit(f"test_workload_slips: the program's load is not that in Python: {unlike(RIGHT, tried)[0]}")
     return tried

@@ -2,7 +2,7 @@
 // writes all that comes out. Its input is a row of cases, each in 32-bit words, big-endian: CASE words (kind and arguments
 // of the call, lent lengths, control record, eight links), then the words of half 0, half 1 and the list as far as they are lent. For
 // each case it writes REPLY words (refusal number, value, control record), the lent words, and a count with the words of
-// a stretch, or with those that a list of the directory was lent. tests/probe.py has both layouts. A case that is cut
+// a stretch, or with those that a list of the directory was lent. tests/programs/probe_program.py has both layouts. A case that is cut
 // short or lends too much ends the program.
 mod words; // words.rt: words read from the input and written to the output
 mod records; // records.rt: the control record out of the words of a case, and into those of a reply
