@@ -32,7 +32,7 @@ from cases import share_cases
 from cases import stretch_cases
 from models.free_store import ATTACH, DETACH, SAFE, ALLOCATE, LOAD, STORE, READ, WRITE, MOVE, CLEAR, SAME, GET, PUT, STEP, LINKS
 from models.store_model import BIRTH, COMPANION, STRETCH
-from mistakes.mistake_names import (DAMAGE_SLIPS, LINK_SLIPS, MARKING_SLIPS, NUMBER_SLIPS, PLACE_IN_HALF, PLACES, SCAN_SLIPS, SHARE_SLIPS, STRICT_SLIPS,
+from mistakes.mistake_names import (DAMAGE_SLIPS, LEVEL_SLIPS, LINK_SLIPS, MARKING_SLIPS, NUMBER_SLIPS, PLACE_IN_HALF, PLACES, SCAN_SLIPS, SHARE_SLIPS, STRICT_SLIPS,
                    WEAK_SLIPS)
 
 CRATE = os.path.join(os.path.dirname(os.path.abspath(__file__)), "..", "crates", "probe")
@@ -223,7 +223,7 @@ def main():
     check_scans("random", list(scan_cases.random_cases(RANDOM_SCANS)))
     check_slips([PLACE_IN_HALF, *DAMAGE_SLIPS], by_chance[:4000] + directed)
     check_slips(MARKING_SLIPS, marking)
-    check_slips([*WEAK_SLIPS, *PLACES.values(), *STRICT_SLIPS], random.Random(1).sample(paired, len(paired)))
+    check_slips([*WEAK_SLIPS, *PLACES.values(), *STRICT_SLIPS, *LEVEL_SLIPS], random.Random(1).sample(paired, len(paired)))
     check_slips(SCAN_SLIPS, scans)
     check_slips(NUMBER_SLIPS, numbered)
     check_slips(SHARE_SLIPS, charged)

@@ -9,7 +9,12 @@ WARNED_SLIPS = [BLACK_EARLY, WORDS_COMPARED, ALLOCATE_ENDS_EARLY]  # document 01
 OLD_LEFT, OLD_LEFT_IN_4 = "old not shaded at level 2", "old not shaded at level 2 in phase 4"
 OLD_READ_LATE, STORED_LEFT = "old read after the write", "stored not shaded at level 2"
 MISSED_SLIPS = [OLD_LEFT, OLD_LEFT_IN_4, OLD_READ_LATE, STORED_LEFT]  # marking misses a record that a session can come to
-ANSWER_SLIPS = WARNED_SLIPS + MISSED_SLIPS
+# a store or a put that acts as at another level: the session's level and the other one, with the mistake
+STORED_AS = {levels: "a store at level {} acts as at level {}".format(*levels) for levels in ((5, 4), (6, 4), (5, 6), (6, 5))}
+PUT_AS = {levels: "a put at level {} acts as at level {}".format(*levels) for levels in ((5, 6), (6, 5))}
+LEVEL_SLIPS = [*STORED_AS.values(), *PUT_AS.values()]
+FROMSPACE_SLIP = STORED_AS[6, 5]  # in words alone: a fromspace copy names the other copy of the same record, and every session knows both
+ANSWER_SLIPS = WARNED_SLIPS + MISSED_SLIPS + [slip for slip in LEVEL_SLIPS if slip != FROMSPACE_SLIP]
 
 # ---- another phase after a step, or a lack of room: tests/test_slips.py
 MARKS_CLEARED, ATTACHED_UNSCANNED = "marks cleared by shading", "attached in phase 4 unscanned"
