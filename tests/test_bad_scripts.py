@@ -5,9 +5,9 @@ first bad entry, and nothing after it."""
 import random
 import sys
 
-from programs import built_programs
 from models import store_model
 from models.free_store import ALLOCATE, ATTACH, READ, SAFE, STEP, WRITE
+from programs import built_programs
 from programs.store_scripts import ARGUMENTS, encode, random_script
 
 SIZES = {kind: 1 + n + (3 if kind == WRITE else 0) for kind, n in ARGUMENTS.items()}

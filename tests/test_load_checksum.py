@@ -10,9 +10,9 @@ import subprocess
 import tempfile
 import zlib
 
+from models.load_model import MOST, WORD, Workload
 from programs import built_programs
 from programs.explain_tool import TOP, Programs, need
-from models.load_model import MOST, WORD, Workload
 from test_bad_scripts import expected
 from test_workload import VECTORS
 

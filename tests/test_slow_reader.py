@@ -12,11 +12,10 @@ import tempfile
 import time
 from collections import namedtuple
 
-from programs import directory_scripts
-from programs import built_programs
 from models.free_store import ALLOCATE, ATTACH, READ, STEP, WRITE
-from programs.store_scripts import encode
 from models.table_model import OPEN, ADD, MAKE, JOIN, LIST, LAST
+from programs import built_programs, directory_scripts
+from programs.store_scripts import encode
 
 WHO = os.path.basename(sys.argv[0])  # this test, or one that shares its checks
 # far more lines than a pipe holds

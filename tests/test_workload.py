@@ -6,9 +6,9 @@ import hashlib
 import random
 from collections import Counter, namedtuple
 
+from models.load_model import MOST, WORD, Workload, asked
 from programs import built_programs
 from programs.explain_tool import need
-from models.load_model import MOST, WORD, Workload, asked
 from programs.store_scripts import encode
 from test_bad_scripts import expected
 

@@ -9,9 +9,9 @@ import subprocess
 import tempfile
 import time
 
+from models.load_model import Workload, asked
 from programs import built_programs
 from programs.explain_tool import need
-from models.load_model import Workload, asked
 from test_slow_reader import LIMIT, PAGE, Source, begin, check, end, in_file, read_some, read_when_full
 from test_workload import VECTORS
 

@@ -4,9 +4,9 @@ gives other bytes on some of them."""
 import itertools
 import sys
 
-from programs import built_programs
-from models.load_model import MOST, WHOLE, WORD, Workload
 from models.free_store import ALLOCATE, STEP, WRITE
+from models.load_model import MOST, WHOLE, WORD, Workload
+from programs import built_programs
 from test_workload import edge_seeds, lengths, limits, random_seeds
 
 RIGHT = Workload()

@@ -1,7 +1,7 @@
-"""Mistakes that can be built into the store in Python (tests/models/store_model.py), so that the tests can show that they would see them. Each is a
-name. They stand by what shows them, with the test that must see it; all but those that document 01 warns of tests/test_probe.py must see
-in the words too. "Old" is the reference that a store or a put overwrites, "the scan" the step that shades a session's registers, "the old
-test" the one that a reference had to pass before its replica was tested."""
+"""Mistakes that can be built into the store in Python (tests/models/store_model.py), so that the tests can show that they would see them.
+Each is a name. They stand by what shows them, with the test that must see it; all but those that document 01 warns of
+tests/test_probe.py must see in the words too. "Old" is the reference that a store or a put overwrites, "the scan" the step that shades a
+session's registers, "the old test" the one that a reference had to pass before its replica was tested."""
 
 # ---- what a session is answered: tests/test_slips.py
 BLACK_EARLY, WORDS_COMPARED, ALLOCATE_ENDS_EARLY = "black early", "words compared", "allocate ends early"
@@ -152,8 +152,8 @@ FREE_LINK_SLIPS = [REVERSED, EXCHANGED, LAST_PAIR_LEFT, BEYOND_COUNT, REPEATED_F
                    COUNT_FIRST, COUNT_LAST, *COUNT_AFTER.values(), NONE_FIRST, *NONE_TESTED.values(), ALL_REGISTERS_FIRST, RECORD_FIRST,
                    FIELDS_FIRST, STORES_STAY, PAIR_PASSED, LAST_REFUSAL, END_STAYS, COLOURS_UNSEEN, SHADED_AGAIN, PLANNED_BLIND]
 
-# ---- several links, in words alone, on damage and with a full list; these and all of the above show in the cases of tests/cases/link_cases.py
-# and tests/cases/link_overlap_cases.py
+# ---- several links, in words alone, on damage and with a full list; these and all of the above show in the cases of
+# tests/cases/link_cases.py and tests/cases/link_overlap_cases.py
 LIST_STAYS, SHADING_STAYS = "list entries stay written by a refused call", "records stay shaded and listed by a refused call"
 END_UNSEEN = "room in the list counted from its end before the call"
 FIELDS_UNSEEN, COPIES_UNSEEN = "stored words not seen by later pairs", "words stored in the replica not seen by later pairs"

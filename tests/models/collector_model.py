@@ -1,9 +1,8 @@
 """The collector's part of the store in Python (tests/models/store_model.py): what a step does in each phase."""
-from mistakes import share_mistakes
-from mistakes import birth_mistakes
+from mistakes import birth_mistakes, share_mistakes
+from mistakes.mistake_names import (ALLOCATE_ENDS_EARLY, COUNT_RECLAIMED, FIRST_LEFT, IN_TURN, LAST_FIRST, PASSED_OVER, PAST_BY_3,
+                                    RECLAIM_CLEARS, ROOM_FOR_EIGHT, SCAN_ALONE, TESTED_LATE, UNMARKED)
 from models.record_layout import HEADER, NUMBER, size
-from mistakes.mistake_names import (ALLOCATE_ENDS_EARLY, COUNT_RECLAIMED, FIRST_LEFT, IN_TURN, LAST_FIRST, PASSED_OVER, PAST_BY_3, RECLAIM_CLEARS,
-                   ROOM_FOR_EIGHT, SCAN_ALONE, TESTED_LATE, UNMARKED)
 
 PHASES = "Rest PreMark1 PreMark2 RootMark HeapMark Allocate PreCopy Copy PreFlip1 PreFlip2 RootFlip StackFlip Reclaim".split()
 LEVELS = [0, 1, 2, 2, 2, 3, 4, 4, 5, 6, 6, 6, 0]  # of each phase

@@ -2,23 +2,22 @@
 
 It is the second opinion on what the script program must print, collector steps and allocations without room included, and on what
 a call does to any control record and any words: a store may be set up with numbers out of range, other lengths than those that are
-lent, and damaged memory. `slip` builds in a mistake of tests/mistakes/mistake_names.py, or several together, so that the tests can show that they would
-see it. `most_births` is how many birth numbers there are, which tests may lower. What a collector step does stands in tests/models/collector_model.py,
-the call that stores several links in tests/models/links_model.py.
+lent, and damaged memory. `slip` builds in a mistake of tests/mistakes/mistake_names.py, or several together, so that the tests can show
+that they would see it. `most_births` is how many birth numbers there are, which tests may lower. What a collector step does stands in
+tests/models/collector_model.py, the call that stores several links in tests/models/links_model.py.
 """
-from mistakes import share_mistakes
-from models import links_model
-from mistakes import birth_mistakes
-from models.collector_model import BLACK, GREY, LEVELS, SESSIONS, WHITE, Collector, Refused
+from mistakes import birth_mistakes, share_mistakes
 from mistakes.following_mistakes import passes
-from models.record_layout import HEADER, NUMBER, least_list, size
-from models.free_store import (ATTACH, DETACH, SAFE, ALLOCATE, LOAD, STORE, READ, WRITE, MOVE, CLEAR, SAME, GET, PUT, STEP, STRETCH, COMPANION, BIRTH,
-                   LINKS, MOST_BIRTHS, share_in)
 from mistakes.mistake_names import (ATTACHED_SCANNED, ATTACHED_UNSCANNED, BLACK_EARLY, COLOUR_THREE, COMPANION_BLIND, COPY_UNNUMBERED,
-                   COUNT_TESTED, DETACH_UNMARKS, FOLLOWING_SLIPS, FULL_LIST_SLIPS, LEVELS_ATTACHED, LIST_BY_3, LISTED_TWICE,
-                   MAKING_COUNTS_ON, MARK_OF_BEFORE, MARKS_CLEARED, NUMBER_TESTED, OLD_AT_1, OLD_IN_4_ALONE, OLD_LEFT, OLD_LEFT_AT_3,
-                   OLD_LEFT_BY_PUT, OLD_LEFT_IN_4, OLD_READ_LATE, OTHER_ORDER, PLACE_IN_HALF, PUT_AS, SOUND_BY_3, STORED_AS, STORED_LEFT,
-                   STRETCH_EARLY, WORDS_COMPARED)
+                                    COUNT_TESTED, DETACH_UNMARKS, FOLLOWING_SLIPS, FULL_LIST_SLIPS, LEVELS_ATTACHED, LIST_BY_3,
+                                    LISTED_TWICE, MAKING_COUNTS_ON, MARK_OF_BEFORE, MARKS_CLEARED, NUMBER_TESTED, OLD_AT_1, OLD_IN_4_ALONE,
+                                    OLD_LEFT, OLD_LEFT_AT_3, OLD_LEFT_BY_PUT, OLD_LEFT_IN_4, OLD_READ_LATE, OTHER_ORDER, PLACE_IN_HALF,
+                                    PUT_AS, SOUND_BY_3, STORED_AS, STORED_LEFT, STRETCH_EARLY, WORDS_COMPARED)
+from models import links_model
+from models.collector_model import BLACK, GREY, LEVELS, SESSIONS, WHITE, Collector, Refused
+from models.free_store import (ATTACH, DETACH, SAFE, ALLOCATE, LOAD, STORE, READ, WRITE, MOVE, CLEAR, SAME, GET, PUT, STEP, STRETCH,
+                               COMPANION, BIRTH, LINKS, MOST_BIRTHS, share_in)
+from models.record_layout import HEADER, NUMBER, least_list, size
 
 
 def refused_lengths(length0, length1, capacity, slips=frozenset()):

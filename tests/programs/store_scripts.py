@@ -212,7 +212,8 @@ def sessions_come_in_the_flip(steps):
     """StackFlip: so many of twelve sessions have been flipped; the first and the last detach and attach again, and a new one comes."""
     sessions = range(12)
     entries = [(ATTACH, [s]) for s in sessions] + kept(0, 0, 0, 5) + [(GET, [s, 1, 0]) for s in sessions]
-    entries += to_level(sessions, 6) + [(STEP, [])] * (34 + steps) + [(DETACH, [0]), (DETACH, [11]), (ATTACH, [0]), (ATTACH, [11]), (ATTACH, [15])]
+    entries += to_level(sessions, 6) + [(STEP, [])] * (34 + steps)
+    entries += [(DETACH, [0]), (DETACH, [11]), (ATTACH, [0]), (ATTACH, [11]), (ATTACH, [15])]
     for s in (0, 5, 11, 15):
         entries += [(GET, [s, 2, 0]), (SAME, [s, 1, 2]), (STORE, [s, 2, 0, 2]), (STEP, [])]
     return entries + finish([*sessions, 15]) + look(0, 0)
@@ -237,7 +238,7 @@ def stored_ahead_compared_behind(plains):
 
 
 def old_record_in_a_new_one_behind(plains):
-    """PreFlip2: the session ahead makes a record and gets its new copy; the one behind stores in it a record of which it has the old one."""
+    """PreFlip2: the session ahead makes a record and gets its new copy; the one behind stores in it one of which it has the old copy."""
     entries = [(ATTACH, [AHEAD]), (ATTACH, [BEHIND]), (ALLOCATE, [BEHIND, 7, 0, plains]), (ALLOCATE, [BEHIND, 1, 2, 1]),
                (WRITE, [BEHIND, 1, 0, 88])]
     entries += to_level([AHEAD, BEHIND], 5) + [(STEP, []), (SAFE, [AHEAD])] + kept(AHEAD, 0, 0, 5)
@@ -246,8 +247,8 @@ def old_record_in_a_new_one_behind(plains):
 
 
 def old_record_in_a_new_one(globals_flipped):
-    """RootFlip: a session makes a record and gets its new copy, and stores in it a record of which it has the old one: no register has
-    been flipped yet."""
+    """RootFlip: a session makes a record and gets its new copy, and stores in it one of which it has the old copy, its registers not
+    being flipped yet."""
     entries = [(ATTACH, [0]), (ALLOCATE, [0, 1, 2, 1]), (WRITE, [0, 1, 0, 99])] + to_level([0], 6)
     entries += [(STEP, [])] * (1 + globals_flipped) + kept(0, 0, 0, 6) + [(STORE, [0, 0, 0, 1]), (STORE, [0, 1, 0, 0])]
     return entries + finish([0]) + look(0, 0)
