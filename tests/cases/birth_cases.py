@@ -117,12 +117,14 @@ def traits(case, reply):
     """What is to be counted of a case: a birth call, by its level where it is answered, by its number where not; an allocation of the
     last number or without one, by its level."""
     kind, number = CALL.unpack_from(case)[0], ANSWER.unpack_from(reply)[0]
+    if kind not in (BIRTH, ALLOCATE):
+        return []
     if kind == BIRTH and number:
         return [(BIRTH, number)]
     store, _, args = decode(case)
     if kind == BIRTH:
         return [("birth", store.level[args[0]])]
-    if kind != ALLOCATE or store.births < MOST_BIRTHS - 1:
+    if store.births < MOST_BIRTHS - 1:
         return []
     found = {(MOST_BIRTHS - 1, 0): LAST_GIVEN, (MOST_BIRTHS, 16): NONE_LEFT, (MOST_BIRTHS, 14): ROOM_FIRST}.get((store.births, number))
     return [(found, store.level[args[0]])] if found else []

@@ -18,7 +18,8 @@ class Collector:
     """The steps, by the memory, the numbers and the shading of the store that this is a part of."""
 
     def have_level(self):
-        return all(not a or l == LEVELS[self.phase] for a, l in zip(self.attached, self.level))
+        wanted = LEVELS[self.phase]
+        return all(level == wanted for level, there in zip(self.level, self.attached) if there)
 
     def move_on(self):
         if self.slips & share_mistakes.MOVING:
@@ -41,9 +42,7 @@ class Collector:
         self.field = 0
 
     def _step(self):
-        work = {0: self._rest, 3: self._root_mark, 4: self._heap_mark, 5: self._shells, 7: self._copy, 10: self._root_flip,
-                11: self._stack_flip, 12: self._reclaim}
-        work.get(self.phase, self._handshake)()
+        self.WORK[self.phase](self)
 
     def _handshake(self):
         if self.have_level():
@@ -185,3 +184,7 @@ class Collector:
             self.births = 0
         self.move_on()
         self.collections += 1
+
+    # the unit of each phase, in their order
+    WORK = [_rest, _handshake, _handshake, _root_mark, _heap_mark, _shells, _handshake, _copy, _handshake, _handshake, _root_flip,
+            _stack_flip, _reclaim]

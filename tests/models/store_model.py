@@ -6,6 +6,8 @@ lent, and damaged memory. `slip` builds in a mistake of tests/mistakes/mistake_n
 that they would see it. `most_births` is how many birth numbers there are, which tests may lower. What a collector step does stands in
 tests/models/collector_model.py, the call that stores several links in tests/models/links_model.py.
 """
+import functools
+
 from mistakes import birth_mistakes, share_mistakes
 from mistakes.following_mistakes import passes
 from mistakes.mistake_names import (ATTACHED_SCANNED, ATTACHED_UNSCANNED, BLACK_EARLY, COLOUR_THREE, COMPANION_BLIND, COPY_UNNUMBERED,
@@ -20,6 +22,7 @@ from models.free_store import (ATTACH, DETACH, SAFE, ALLOCATE, LOAD, STORE, READ
 from models.record_layout import HEADER, NUMBER, least_list, size
 
 
+@functools.cache
 def refused_lengths(length0, length1, capacity, slips=frozenset()):
     """What making answers to these lengths: 1, 2, 3, or 0."""
     if not (16 <= length0 <= 1048576 and 16 <= length1 <= 1048576):
