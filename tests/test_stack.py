@@ -9,8 +9,7 @@ from models import load_model
 from models.free_store import ALLOCATE, ATTACH, CLEAR, GET, PUT, STORE
 from models.record_layout import size
 from programs import built_programs, directory_scripts
-from programs.store_scripts import ARGUMENTS, encode, finish, kept, long_scripts, look
-from test_bad_scripts import expected
+from programs.store_scripts import ARGUMENTS, encode, expected, finish, kept, long_scripts, look
 
 STACK, DIRECTORY_STACK, LOAD_STACK = 96 * 1024, 120 * 1024, 32 * 1024
 HALVES = 2 * 4096 * 4

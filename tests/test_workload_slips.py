@@ -7,7 +7,7 @@ import sys
 from models.free_store import ALLOCATE, STEP, WRITE
 from models.load_model import MOST, WHOLE, WORD, Workload
 from programs import built_programs
-from test_workload import edge_seeds, lengths, limits, random_seeds
+from programs.load_inputs import edge_seeds, lengths, limits, random_seeds
 
 RIGHT = Workload()
 PIN = 15  # a kind that no load has

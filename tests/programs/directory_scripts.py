@@ -12,8 +12,7 @@ from models.table_model import OPEN, ADD, REMOVE, MAKE, JOIN, LEAVE, LIST, LAST
 from programs import store_scripts
 
 WIDTHS = {OPEN: [], ADD: [4], REMOVE: [4], MAKE: [4], JOIN: [4, 4], LEAVE: [4, 4], LIST: [4, 1]}
-SIZES = {kind: 1 + n + (3 if kind == WRITE else 0) for kind, n in store_scripts.ARGUMENTS.items()}
-SIZES.update({kind: 1 + sum(widths) for kind, widths in WIDTHS.items()})
+SIZES = {**store_scripts.SIZES, **{kind: 1 + sum(widths) for kind, widths in WIDTHS.items()}}
 
 
 # ---- bytes and lines

@@ -1,13 +1,16 @@
-"""Scripts for the script program: how entries are written, long random scripts, and directed ones for the races of the handshakes.
+"""Scripts for the script program: how entries are written, what must be printed, long random scripts, and directed ones for the races of
+the handshakes.
 
 Everything is made from a seed, so a script that fails can be made again from its name.
 """
 import random
 
 from models.free_store import ATTACH, DETACH, SAFE, ALLOCATE, LOAD, STORE, READ, WRITE, MOVE, CLEAR, SAME, GET, PUT, STEP
+from models.store_model import Sapphire
 
 ARGUMENTS = {ATTACH: 1, DETACH: 1, SAFE: 1, ALLOCATE: 4, LOAD: 4, STORE: 4, READ: 3, WRITE: 4, MOVE: 3, CLEAR: 2, SAME: 3, GET: 3,
              PUT: 3, STEP: 0}
+SIZES = {kind: 1 + n + (3 if kind == WRITE else 0) for kind, n in ARGUMENTS.items()}  # bytes after the length byte
 
 
 def body(kind, args):
@@ -19,6 +22,25 @@ def encode(entries):
     """The bytes of a script: version 1, then for each entry its length byte, kind byte and argument bytes."""
     bodies = (body(kind, args) for kind, args in entries)
     return b"\x01" + b"".join(bytes([len(entry)]) + entry for entry in bodies)
+
+
+def expected(data):
+    """The text that documents 01 and 02 give for these bytes."""
+    if not data or data[0] != 1:
+        return b"0 15 0\n"
+    store, out, at, n = Sapphire(), [], 1, 1
+    while at < len(data):
+        body = data[at + 1:at + 1 + data[at]]
+        if len(body) < data[at] or not body or SIZES.get(body[0]) != len(body):
+            out.append(f"{n} 15 0\n")
+            break
+        kind, args = body[0], list(body[1:])
+        if kind == WRITE:
+            args = args[:3] + [int.from_bytes(body[4:8], "big")]
+        number, value = store.call(kind, args)
+        out.append(f"{n} {number} {value}\n")
+        at, n = at + 1 + len(body), n + 1
+    return "".join(out).encode()
 
 
 # ---- random scripts
