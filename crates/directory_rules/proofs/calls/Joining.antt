@@ -38,7 +38,7 @@ module _ {m : ℕ} (fed : ℕ) (many : groupRegister < m) (few : m ≤ registerC
       alike-absent fed (r .within) x (paired n g (t .pairs)) already found (append x n)
       (λ e. append-ends (r .within) (omega arith) few (x .at) (x .via) n (r .at .low)
       (r .at .slot ∙ ap (slotAfter (field (r .group) firstField)) (r .at .absent e)) (links-there c (r .member) links [] (sym (append-nil links))) (r .within .opened)
-      (core-link c n g (r .group) (r .member) (r .number) (sym (paired-members n g (t .pairs)) ∙ sym found ∙ e)) fed (x .found) (x .left))
+      (core-link c n g (r .group) (r .small) (r .member) (r .number) (sym (paired-members n g (t .pairs)) ∙ sym found ∙ e)) fed (x .found) (x .left))
 
   joining-alike : {half : ℕ} {f : Free} → Short half y → Within m f y t → Carries m y t (freePerform fed f (joining half n g)) (pairTests t n g >>> joined t n g fed)
   unfolding joining

@@ -26,7 +26,7 @@ use Rattle.directory_rules.proofs.calls.Kept.{Kept, RequestKept}
 core-opened : {f : Free} {y : Layout} {t : Table} → Core f y t → Core f y (openedTable t)
 core-opened c = record {
   store = c .store;
-  sound = record { people = c .sound .people; groups = c .sound .groups; small = c .sound .small; members = c .sound .members; unknown = c .sound .unknown };
+  sound = record { people = c .sound .people; groups = c .sound .groups; small = c .sound .small; members = c .sound .members; low = c .sound .low; unknown = c .sound .unknown };
   entries = c .entries;
   groups = c .groups;
   people = c .people;

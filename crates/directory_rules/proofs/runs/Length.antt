@@ -7,6 +7,7 @@ use native.Mathlib.Omega.{arith}
 use lib.ListN.{length}
 use Rattle.rules.specs.Memory.{null}
 use Rattle.rules.specs.Control.{Store}
+use Rattle.rules.specs.Runs.{Call}
 use Rattle.rules.specs.Free.{Free}
 use Rattle.rules.specs.Tracking.{Reached, by-global, by-field, wordsAt}
 use Rattle.rules.specs.Claims.{Made, LiveFits}
@@ -44,11 +45,11 @@ module _ (f : Free) where
 
 -- ---- in a run
 
-module _ {s : Store} (made : Made s) {t : Store} {f : Free} (here : Here s t f) where
+module _ {s : Store} (made : Made s) {cs : List Call} {t : Store} {f : Free} (here : Here s cs t f) where
   chain-short : {lab : ℕ → ℕ} {l : ℕ} {sl : Slot} {qs : List ℕ} → Chain f lab l sl qs → FromRoots f sl → length qs ≤ t .lengths .half0
   unfolding LiveFits
   chain-short {qs = qs} c r =
-      let fits : wordsAt f qs ≤ t .lengths .half0 = rw (here .store, here .free) at (live-fits s made (here .calls) qs) (chain-reached f c r) (chain-once c) in
+      let fits : wordsAt f qs ≤ t .lengths .half0 = rw (here .store, here .free) at (live-fits s made cs qs) (chain-reached f c r) (chain-once c) in
       omega (arith, length-words f qs)
 
   pub core-short : {y : Layout} {u : Table} → Core f y u → Short (t .lengths .half0) y

@@ -2,7 +2,7 @@
 use Prim.Native.Nat.{ℕ, _≤_}
 use mathlib.Core.Path.{_≡_, refl, ap, _∙_}
 use mathlib.Core.Bool.{true}
-use mathlib.Core.List.{List, [], _∷_}
+use mathlib.Core.List.{List, [], _∷_, _++_, append-nil, append-assoc}
 use native.Mathlib.Omega.{arith}
 use lib.ListN.{getD}
 use Rattle.rules.specs.Memory.{null}
@@ -14,9 +14,9 @@ use Rattle.rules.specs.Claims.{Made, NullRegisters}
 use Rattle.rules.proofs.Ranges.{both}
 use Rattle.rules.proofs.runs.Claims.{null-registers}
 use Rattle.directory_rules.specs.Table.{Request, Open, Add, Remove, Make, Join, Leave, Members, Table, newTable, tableNext, tableGiven, tableAfter}
-use Rattle.directory_rules.specs.Acts.{ownSession, allocationNumber}
+use Rattle.directory_rules.specs.Acts.{ownSession, callsMade, allocationNumber}
 use Rattle.directory_rules.specs.Directory.{programOn, givenOf, directoryCall, fedNumber}
-use Rattle.directory_rules.specs.Runs.{Item, call, request, others, allowed, afterItems, directoryRun, feedsOf, tableRun}
+use Rattle.directory_rules.specs.Runs.{Item, call, request, others, allowed, afterItems, callsOf, directoryRun, feedsOf, tableRun, tableEnd}
 use Rattle.directory_rules.specs.Claims.{allocating, TableAnswers, Cleared}
 use Rattle.directory_rules.proofs.acts.Few.{few-program}
 use Rattle.directory_rules.proofs.chains.Core.{Layout, Represents}
@@ -27,20 +27,20 @@ use Rattle.directory_rules.proofs.runs.Others.{others-kept}
 use Rattle.directory_rules.proofs.runs.Length.{core-short}
 use Rattle.directory_rules.proofs.runs.Start.{emptyLayout, start-represents}
 
--- a store t of a run from s, where the table is u
-pub record State (s t : Store) (u : Table) : Type 0 where
+-- the store t that the calls cs leave of s, where the table is u
+pub record State (s : Store) (cs : List Call) (t : Store) (u : Table) : Type 0 where
   pub free : Free
-  pub here : Here s t free
+  pub here : Here s cs t free
   pub layout : Layout
   pub represents : Represents free layout u
 
-state-new : (s : Store) → State s s newTable
+state-new : (s : Store) → State s [] s newTable
 state-new s = record { free = newFree; here = here-new s; layout = emptyLayout; represents = start-represents }
 
 -- ---- one item more
 
 -- a call of another session, or a step
-state-call : {s t : Store} {u : Table} → State s t u → (c : Call) → others c ≡ true → State s (apply t c .store) u
+state-call : {s t : Store} {cs : List Call} {u : Table} → State s cs t u → (c : Call) → others c ≡ true → State s (cs ++ (c ∷ [])) (apply t c .store) u
 state-call {t = t} a c e = record {
   free = _;
   here = here-call (a .here) c;
@@ -58,13 +58,13 @@ one-at-most (Leave n g) = omega arith
 one-at-most (Members g out) = omega arith
 
 -- a directory call
-pub record RequestAnswered (s t : Store) (u : Table) (q : Request) : Type 0 where
+pub record RequestAnswered (s : Store) (cs : List Call) (t : Store) (u : Table) (q : Request) : Type 0 where
   pub given : directoryCall t q .given ≡ tableGiven q (tableNext u q (fedNumber t q))
-  pub state : State s (directoryCall t q .store) (tableAfter u (tableNext u q (fedNumber t q)))
+  pub state : State s (cs ++ callsMade t (programOn t q)) (directoryCall t q .store) (tableAfter u (tableNext u q (fedNumber t q)))
 
-pub state-request : {s t : Store} {u : Table} → Made s → State s t u → (q : Request) → RequestAnswered s t u q
+pub state-request : {s t : Store} {cs : List Call} {u : Table} → Made s → State s cs t u → (q : Request) → RequestAnswered s cs t u q
 unfolding directoryCall fedNumber
-state-request {s} {t} {u} made a q =
+state-request {t = t} made a q =
     let n : ℕ = allocationNumber t (programOn t q) in
     let p = performs (a .here) made n (programOn t q) (few-fed (few-program t (t .lengths .half0) q) (one-at-most q)) in
     let k = request-kept n (a .represents) (core-short made (a .here) (a .represents .core)) q in
@@ -76,25 +76,29 @@ state-request {s} {t} {u} made a q =
 -- ---- all items
 
 module _ {s : Store} (made : Made s) where
-  run-answers : {t : Store} {u : Table} → State s t u → (xs : List Item) → allowed xs ≡ true → directoryRun t xs ≡ tableRun u (feedsOf t xs)
+  run-answers : {cs : List Call} {t : Store} {u : Table} → State s cs t u → (xs : List Item) → allowed xs ≡ true → directoryRun t xs ≡ tableRun u (feedsOf t xs)
   run-answers a [] e = refl
-  run-answers {t} a (call c ∷ xs) e = let z = both (others c) (allowed xs) e in run-answers (state-call a c (z .0)) xs (z .1)
-  run-answers {t} {u} a (request q ∷ xs) e =
+  run-answers a (call c ∷ xs) e = let z = both (others c) (allowed xs) e in run-answers (state-call a c (z .0)) xs (z .1)
+  run-answers a (request q ∷ xs) e =
       let k = state-request made a q in
       rw (k .given, run-answers (k .state) xs e)
 
-  run-state : {t : Store} {u : Table} → State s t u → (xs : List Item) → allowed xs ≡ true → (v : Table) × State s (afterItems t xs) v
-  run-state {u = u} a [] e = (u, a)
-  run-state a (call c ∷ xs) e = let z = both (others c) (allowed xs) e in run-state (state-call a c (z .0)) xs (z .1)
-  run-state a (request q ∷ xs) e = run-state (state-request made a q .state) xs e
+  run-state : {cs : List Call} {t : Store} {u : Table} → State s cs t u → (xs : List Item) → allowed xs ≡ true
+      → State s (cs ++ callsOf t xs) (afterItems t xs) (tableEnd u (feedsOf t xs))
+  run-state a [] e = rw append-nil a
+  run-state {cs = cs} {t = t} a (call c ∷ xs) e =
+      let z = both (others c) (allowed xs) e in
+      rw (append-assoc cs (c ∷ []) (callsOf (apply t c .store) xs)) at (run-state (state-call a c (z .0)) xs (z .1))
+  run-state {cs = cs} {t = t} a (request q ∷ xs) e =
+      rw (append-assoc cs (callsMade t (programOn t q)) (callsOf (directoryCall t q .store) xs)) at (run-state (state-request made a q .state) xs e)
 
-  pub items-state : (xs : List Item) → allowed xs ≡ true → (v : Table) × State s (afterItems s xs) v
+  pub items-state : (xs : List Item) → allowed xs ≡ true → State s (callsOf s xs) (afterItems s xs) (tableEnd newTable (feedsOf s xs))
   items-state xs e = run-state (state-new s) xs e
 
   -- the session's registers, as words
-  pub state-cleared : {t : Store} {u : Table} → State s t u → (k : ℕ) → getD (sessionAt t ownSession .registers) k null ≡ null
+  pub state-cleared : {cs : List Call} {t : Store} {u : Table} → State s cs t u → (k : ℕ) → getD (sessionAt t ownSession .registers) k null ≡ null
   unfolding NullRegisters
-  state-cleared a k = rw (a .here .store) at (null-registers s made (a .here .calls) ownSession k (rw (a .here .free) (a .represents .cleared k)))
+  state-cleared {cs = cs} a k = rw (a .here .store) at (null-registers s made cs ownSession k (rw (a .here .free) (a .represents .cleared k)))
 
 pub table-answers : TableAnswers
 unfolding TableAnswers
@@ -102,4 +106,4 @@ table-answers s made xs e = run-answers made (state-new s) xs e
 
 pub cleared : Cleared
 unfolding Cleared
-cleared s made xs e k = state-cleared made (items-state made xs e .1) k
+cleared s made xs e k = state-cleared made (items-state made xs e) k
