@@ -18,5 +18,5 @@ pub mod Start
 pub mod Run
 -- a refused call has done its safe point and no more
 pub mod SafePoint
--- a run with directory calls is a run of the store
-pub mod Flat
+-- the store's claims of runs with directory calls
+pub mod StoreClaims

@@ -9,13 +9,13 @@ use Rattle.rules.specs.Refusals.{answer}
 use Rattle.rules.specs.Memory.{null}
 use Rattle.rules.specs.Control.{Store}
 use Rattle.rules.specs.Phases.{sessionAt}
-use Rattle.rules.specs.Runs.{Call, Attach, Detach, SafePoint, Allocate, Load, StoreRef, StoreLinks, Read, Write, Move, Clear, SameAs, Get, Put, Stretch, Companion, Birth, Step, apply, after}
+use Rattle.rules.specs.Runs.{Call, Attach, Detach, SafePoint, Allocate, Load, StoreRef, StoreLinks, Read, Write, Move, Clear, SameAs, Get, Put, Stretch, Companion, Birth, Step, apply}
 use Rattle.rules.specs.Claims.{Made, allocationNumbers}
 use Rattle.rules.specs.declared.Answer.the-variants.{Refused}
 use Rattle.directory_rules.specs.Table.{Request, Open, Add, Remove, Make, Join, Leave, Members, newTable, among, unknown, already, notMember, lentBy}
 use Rattle.directory_rules.specs.Acts.{ownSession, callsMade}
 use Rattle.directory_rules.specs.Directory.{directoryCall, programOn}
-use Rattle.directory_rules.specs.Runs.{Item, allowed, afterItems, callsOf, directoryRun, feedsOf, tableRun}
+use Rattle.directory_rules.specs.Runs.{Item, allowed, afterItems, directoryRun, feedsOf, tableRun}
 
 -- ---- in every run
 
@@ -41,15 +41,6 @@ unfoldable pub Cleared : Type 0
 Cleared =
     (s : Store) → Made s → (xs : List Item) → allowed xs ≡ true → (k : ℕ)
     → getD (sessionAt (afterItems s xs) ownSession .registers) k null ≡ null
-
--- a run with directory calls is a run of the store, so the store's claims are about it too
-unfoldable pub ItemsAreCalls : Type 0
-ItemsAreCalls = (s : Store) (xs : List Item) → afterItems s xs ≡ after s (callsOf s xs)
-
--- of these, that none is refused with 12
-unfoldable pub ItemsNoDamage : Type 0
-ItemsNoDamage =
-    (s : Store) → Made s → (xs : List Item) (c : Call) → apply (afterItems s xs) c .reply ≢ answer (Refused 12)
 
 -- ---- on any store
 

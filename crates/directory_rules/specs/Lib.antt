@@ -10,3 +10,7 @@ pub mod Directory
 pub mod Runs
 -- what is claimed of all of it
 pub mod Claims
+-- the store's claims, of runs with directory calls
+pub mod StoreClaims
+-- what the directory holds, and what a removal gives back
+pub mod Holding

@@ -6,6 +6,7 @@ use mathlib.Core.List.{List, [], _∷_, _++_}
 use lib.Dec.{eqb}
 use Rattle.rules.specs.Control.{Store}
 use Rattle.rules.specs.Runs.{Call, Attach, Detach, SafePoint, Allocate, Load, StoreRef, StoreLinks, Read, Write, Move, Clear, SameAs, Get, Put, Stretch, Companion, Birth, Step, apply}
+use Rattle.rules.specs.Tracking.{Beside, newBeside, beside}
 use Rattle.directory_rules.specs.Table.{Request, Table, Given, tableNext, tableGiven, tableAfter}
 use Rattle.directory_rules.specs.Acts.{ownSession, ownGlobal, callsMade}
 use Rattle.directory_rules.specs.Directory.{directoryCall, fedNumber, programOn}
@@ -56,6 +57,10 @@ abbrev pub callsOf : Store → List Item → List Call
 callsOf s [] = []
 callsOf s (call c ∷ xs) = c ∷ callsOf (apply s c .store) xs
 callsOf s (request q ∷ xs) = callsMade s (programOn s q) ++ callsOf (directoryCall s q .store) xs
+
+-- beside them the collector-free store, and which of its records each reference stands for
+abbrev pub besideItems : Store → List Item → Beside
+besideItems s xs = beside (newBeside s) (callsOf s xs)
 
 -- what the directory calls answer, in order
 abbrev pub directoryRun : Store → List Item → List Given

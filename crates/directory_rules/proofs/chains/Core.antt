@@ -93,6 +93,10 @@ pub record Represents (f : Free) (y : Layout) (t : Table) : Type 0 where
   pub opened : freeSession f ownSession .attached ≡ t .opened
   pub cleared : (k : ℕ) → reg f k ≡ null
 
+-- every place that was the directory's still is
+abbrev pub Stays : Layout → Layout → Type 0
+Stays y z = (q : ℕ) → y .label q ≢ othersLabel → z .label q ≢ othersLabel
+
 -- ---- the layouts that calls leave
 
 abbrev pub updateList : (ℕ → List ℕ) → ℕ → List ℕ → ℕ → List ℕ

@@ -71,6 +71,12 @@ update-old : (m : ℕ → ℕ) (p l q : ℕ) → q ≢ p → update m p l q ≡ 
 unfolding update
 update-old m p l q d = rw (ne-eqb q p d)
 
+-- a place more with a label of the directory
+pub stays-new : (lab : ℕ → ℕ) (p l : ℕ) → l ≢ othersLabel → (q : ℕ) → lab q ≢ othersLabel → update lab p l q ≢ othersLabel
+stays-new lab p l d q o e = eq-or q p
+    (λ z. d (sym (update-new lab p l) ∙ (rw z at e)))
+    (λ z. o (sym (update-old lab p l q z) ∙ e))
+
 -- ---- the new record is the directory's
 
 module _ {f g : Free} {lab : ℕ → ℕ} (h : SoundStore f lab) {r n : ℕ} (new : New f g r n) where

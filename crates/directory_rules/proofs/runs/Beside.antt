@@ -10,10 +10,10 @@ use Rattle.rules.specs.Refusals.{Tested, refused, passed, check, _>>=_, _>>_, O
 use Rattle.rules.specs.Calls.{isRegister, isShape, numberLeft}
 use Rattle.rules.specs.Runs.{Call, SafePoint, apply, after, isSession, isAllocation, Fed, fitted, fedBy}
 use Rattle.rules.specs.Free.{Free, newFree, freeApply, freeSessionOf, fedShare, fedRoom, freeAllocate}
-use Rattle.rules.specs.Tracking.{Beside, newBeside, besideCall, beside}
+use Rattle.rules.specs.Tracking.{newBeside}
 use Rattle.rules.specs.Claims.{Made, freeAfter, NextAnswer, SafePointAnswer}
 use Rattle.rules.proofs.relation.Kinds.{Kind, allocation, unfed, silent, kind}
-use Rattle.rules.proofs.runs.Runs.{beside-store, after-more}
+use Rattle.rules.proofs.runs.Runs.{beside-store, after-more, beside-more}
 use Rattle.rules.proofs.runs.Claims.{next-answer, safe-point-answer}
 use Rattle.directory_rules.specs.Acts.{ownSession, Ask, attach, safePoint, allocate, load, store, read, write, move, clear, get, put, callOf, refusedBy}
 use Rattle.directory_rules.proofs.free.Perform.{allocateFed, freeAsk}
@@ -28,17 +28,13 @@ here-new s = record { store = refl; free = refl }
 
 -- ---- one call more
 
-beside-more : (b : Beside) (cs : List Call) (c : Call) → beside b (cs ++ (c ∷ [])) ≡ besideCall (beside b cs) c
-beside-more b [] c = refl
-beside-more b (x ∷ cs) c = beside-more (besideCall b x) cs c
-
 -- what it leaves of the collector-free store, fed as it was answered
 abbrev pub freeNext : Store → Free → Call → Free
 freeNext t f c = cond (isSession c) (freeApply f c (fedBy (apply t c .reply)) .store) f
 
 free-more : (s : Store) (cs : List Call) (c : Call) → freeAfter s (cs ++ (c ∷ [])) ≡ freeNext (after s cs) (freeAfter s cs) c
 free-more s cs c =
-    ap (λ b. b .free) (beside-more (newBeside s) cs c) ∙ ap (λ t. freeNext t (freeAfter s cs) c) (beside-store (newBeside s) cs)
+    ap (λ b. b .free) (beside-more (newBeside s) cs (c ∷ [])) ∙ ap (λ t. freeNext t (freeAfter s cs) c) (beside-store (newBeside s) cs)
 
 module _ {s t : Store} {cs : List Call} {f : Free} (here : Here s cs t f) where
   pub here-call : (c : Call) → Here s (cs ++ (c ∷ [])) (apply t c .store) (freeNext t f c)
