@@ -20,3 +20,5 @@ pub mod Run
 pub mod SafePoint
 -- the store's claims of runs with directory calls
 pub mod StoreClaims
+-- what the directory holds along a run
+pub mod Holding
