@@ -5,13 +5,13 @@ use mathlib.Core.Path.{_≡_}
 use mathlib.Core.Bool.{true}
 use mathlib.Core.List.{List, [], _∷_}
 use Rattle.rules.specs.Refusals as rules
-use Rattle.rules.specs.Runs.{Call, after}
+use Rattle.rules.specs.Runs.{Call}
 use Rattle.store.specs.View.{view}
 use Rattle.store.specs.CodeRuns.{Lent, lent, viewed, CodeMade, Called}
 use Rattle.store.specs.declared.Control.{Control}
 use Rattle.directory_rules.specs.Table.{Request, Open, Add, Remove, Make, Join, Leave, Members, Given, newTable}
 use Rattle.directory_rules.specs.Directory.{directoryCall}
-use Rattle.directory_rules.specs.Runs.{Item, call, request, allowed, afterItems, callsOf, directoryRun, feedsOf, tableRun}
+use Rattle.directory_rules.specs.Runs.{Item, call, request, allowed, afterItems, directoryRun, feedsOf, tableRun}
 use Rattle.directory.specs.View.{left}
 use Rattle.directory.specs.declared.Reply.{Reply}
 
@@ -68,8 +68,3 @@ unfoldable pub CodeTableAnswers : Type 0
 CodeTableAnswers =
     (a e : Lent) (xs : List Item) (gs : List Given) → CodeMade a → CodeItems a xs gs e → allowed xs ≡ true
     → gs ≡ tableRun newTable (feedsOf (viewed a) xs)
-
--- a run of the code with directory calls leaves what the store calls of it leave, one after another: so the rules' claims are about it
-unfoldable pub CodeItemsAreCalls : Type 0
-CodeItemsAreCalls =
-    (a e : Lent) (xs : List Item) (gs : List Given) → CodeItems a xs gs e → viewed e ≡ after (viewed a) (callsOf (viewed a) xs)

@@ -10,10 +10,9 @@ use Rattle.store.proofs.runs.Runs.{called-applies, code-made}
 use Rattle.directory_rules.specs.Table.{Request, Given}
 use Rattle.directory_rules.specs.Directory.{directoryCall}
 use Rattle.directory_rules.specs.Runs.{Item, afterItems, directoryRun}
-use Rattle.directory_rules.specs.Claims.{TableAnswers, ItemsAreCalls}
-use Rattle.directory_rules.proofs.runs.Flat.{items-are-calls}
+use Rattle.directory_rules.specs.Claims.{TableAnswers}
 use Rattle.directory_rules.proofs.runs.Run.{table-answers}
-use Rattle.directory.specs.CodeRuns.{Answered, by-open, by-add, by-remove, by-make-group, by-join, by-leave, by-list-members, CodeItems, ended, next-call, next-request, CodeItemsRun, CodeTableAnswers, CodeItemsAreCalls}
+use Rattle.directory.specs.CodeRuns.{Answered, by-open, by-add, by-remove, by-make-group, by-join, by-leave, by-list-members, CodeItems, ended, next-call, next-request, CodeItemsRun, CodeTableAnswers}
 
 -- a directory call leaves what the rules give
 pub answered-leaves : {control : Control} {h0 h1 list : List ℕ} {q : Request} {g : Given} {b : Lent}
@@ -47,7 +46,3 @@ code-items-run a e xs gs calls = items-run calls
 pub code-table-answers : CodeTableAnswers
 unfolding CodeTableAnswers TableAnswers
 code-table-answers a e xs gs made calls all = items-run calls .0 ∙ table-answers (viewed a) (code-made made) xs all
-
-pub code-items-are-calls : CodeItemsAreCalls
-unfolding CodeItemsAreCalls ItemsAreCalls
-code-items-are-calls a e xs gs calls = items-run calls .1 ∙ items-are-calls (viewed a) xs

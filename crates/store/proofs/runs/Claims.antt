@@ -72,7 +72,7 @@ run-more : {a b e : Lent} {cs ds : List Call} {rs qs : List Reply}
 run-more ended calls′ = calls′
 run-more (next called calls) calls′ = next called (run-more calls calls′)
 
-freed-same : {b b′ e e′ : Beside} → b ≡ b′ → e ≡ e′ → FreedBetween b e (leftIn e) → FreedBetween b′ e′ (leftIn e′)
+pub freed-same : {b b′ e e′ : Beside} → b ≡ b′ → e ≡ e′ → FreedBetween b e (leftIn e) → FreedBetween b′ e′ (leftIn e′)
 freed-same x y k = subst (λ (z : Beside × Beside). FreedBetween (z .0) (z .1) (leftIn (z .1))) (ap₂ (λ u v. (u, v)) x y) k
 
 -- a collection that the calls ds after cs end, in the words of the rules
