@@ -5,7 +5,7 @@ use mathlib.Core.Logic.{_≢_}
 use mathlib.Core.Bool.{Bool, true}
 use mathlib.Core.List.{List, [], _∷_}
 use lib.ListN.{getD, drop, length}
-use Rattle.rules.specs.Refusals.{answer}
+use Rattle.rules.specs.Refusals.{refused, answer}
 use Rattle.rules.specs.Memory.{null}
 use Rattle.rules.specs.Control.{Store}
 use Rattle.rules.specs.Phases.{sessionAt}
@@ -13,7 +13,7 @@ use Rattle.rules.specs.Runs.{Call, Attach, Detach, SafePoint, Allocate, Load, S
 use Rattle.rules.specs.Claims.{Made, allocationNumbers}
 use Rattle.rules.specs.declared.Answer.the-variants.{Refused}
 use Rattle.directory_rules.specs.Table.{Request, Open, Add, Remove, Make, Join, Leave, Members, newTable, among, unknown, already, notMember, lentBy}
-use Rattle.directory_rules.specs.Acts.{ownSession, callsMade}
+use Rattle.directory_rules.specs.Acts.{ownSession, perform, callsMade}
 use Rattle.directory_rules.specs.Directory.{directoryCall, programOn}
 use Rattle.directory_rules.specs.Runs.{Item, allowed, afterItems, directoryRun, feedsOf, tableRun}
 
@@ -51,6 +51,10 @@ LentKept =
     → (directoryCall s q .given .number ≢ 0 → (directoryCall s q .given .count ≡ 0) × (directoryCall s q .given .words ≡ lentBy q))
     × (drop (directoryCall s q .given .count) (directoryCall s q .given .words) ≡ drop (directoryCall s q .given .count) (lentBy q))
     × (length (directoryCall s q .given .words) ≡ length (lentBy q))
+
+-- 0 is the answer of a call that is done, and of no other
+unfoldable pub ZeroIsDone : Type 0
+ZeroIsDone = (s : Store) (q : Request) (n : ℕ) → perform s (programOn s q) .result ≡ refused n → n ≢ 0
 
 -- the first store call of a directory call
 abbrev pub firstCall : Request → Call
@@ -115,7 +119,7 @@ abbrev pub allocations : List Call → List ℕ
 allocations [] = []
 allocations (c ∷ cs) = sized c (allocations cs)
 
--- how many allocations a call makes at most
+-- how many allocations a call makes that is done
 abbrev pub allocating : Request → ℕ
 allocating (Open share) = 0
 allocating (Add n) = 1
@@ -130,10 +134,11 @@ abbrev pub mostFields : ℕ
 mostFields = 3
 
 -- "All calls but open start with a safe point; adding, making and joining allocate one record of at most three fields, no others
--- any"
+-- any": exactly one where they are done, and no more where they are refused
 unfoldable pub Allocates : Type 0
 Allocates =
     (s : Store) (q : Request)
     → (length (allocations (callsMade s (programOn s q))) ≤ allocating q)
+    × (directoryCall s q .given .number ≡ 0 → length (allocations (callsMade s (programOn s q))) ≡ allocating q)
     × ((i : ℕ) → getD (allocations (callsMade s (programOn s q))) i 0 ≤ mostFields)
     × (getD (callsMade s (programOn s q)) 0 Step ≡ firstCall q)

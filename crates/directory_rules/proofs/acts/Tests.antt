@@ -1,4 +1,4 @@
--- Directory calls write only after all their tests; each allocates at most one record, of few fields, some none.
+-- Directory calls write only after all their tests; each that isn't refused allocates one record, of few fields, some none.
 use Prim.Native.Nat.{ℕ, zero, suc, _+_, _≤_}
 use mathlib.Core.Bool.{Bool, true, false}
 use mathlib.Core.List.{List}
@@ -114,7 +114,7 @@ steady-link-person Top = search steady
 
 -- refused, it is the end; or else something is written
 careful-allocate : (k r p : ℕ) → r + p ≤ mostFields → Careful 1 (must (allocate k r p))
-careful-allocate k r p h = makes k r p h (λ n. fails n) (λ x e. steady-other x e)
+careful-allocate k r p h = makes k r p h (λ n e. fails n e) (λ x e. steady-other x e)
 
 -- one plain field and r others
 careful-fresh : (k r w : ℕ) → r + 1 ≤ mostFields → Careful 1 (fresh k r w)
