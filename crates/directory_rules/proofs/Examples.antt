@@ -43,7 +43,7 @@ answers =
     ++ map only (23 ∷ 0 ∷ 0 ∷ 0 ∷ 0 ∷ 14 ∷ [])
 
 -- opens every definition that the run computes with
-unfoldable directory : Unit {0}
+unfoldable pub directory : Unit {0}
 unfolding rules putWrites calls.get calls.putPlan calls.putCommit calls.put calls.move directoryCall fedNumber program append adding making grouping pairing joining leaving removing listing entries members tableNext known box requests items only listed answers
 directory = tt
 
