@@ -31,9 +31,9 @@ def probe_cases():
 def cases():
     """Each program with an input that takes it several reads or several writes."""
     directory_entries = directory_scripts.random_script(3).entries
-    return [Case("script program", built_programs.PROGRAM, store_scripts.encode(store_scripts.random_script(11, 2500))),
-            Case("directory program", built_programs.DIRECTORY, directory_scripts.encode(directory_entries)[:2 * PAGE]),
-            Case("load program", built_programs.WORKLOAD, asked(0x12345678, 2000)),
+    return [Case("script program", built_programs.PROGRAM, store_scripts.encode(store_scripts.random_script(11, 2000))),
+            Case("directory program", built_programs.DIRECTORY, directory_scripts.encode(directory_entries)[:PAGE + 600]),
+            Case("load program", built_programs.WORKLOAD, asked(0x12345678, 1500)),
             Case("probe", probe_program.PROGRAM, probe_cases())]
 
 
@@ -62,7 +62,7 @@ def plans():
     yield "each call, that which meets the end of the input too", Interrupted(lambda n: 1)
     yield f"two calls of each kind {MANY} times in a row", Interrupted(lambda n: MANY if n < 2 else 0)
     yield "between bytes", Interrupted(lambda n: n % 2, lambda: 1)
-    for size in (2, 3, 7):
+    for size in (3, 7):
         yield f"after every {size} bytes", Interrupted(lambda n: 1, lambda: size)
     yield "at random", Interrupted(lambda n: rng.choice([0, 0, 1, 9]), lambda: rng.choice([None, 1, 5, 300, PAGE - 1]))
 
