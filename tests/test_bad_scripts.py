@@ -1,36 +1,12 @@
 #!/usr/bin/env python3
 """The script program on damaged scripts: cut at every byte and at the edges of the input buffer, every kind with every wrong length,
-unknown kinds, random bytes. What it must print is worked out here from documents 01 and 02: the lines of the store in Python, 15 at the
-first bad entry, and nothing after it."""
+unknown kinds, random bytes. What it must print is the lines of the store in Python, 15 at the first bad entry, and nothing after it."""
 import random
 import sys
 
-from programs import built_programs
-from models import store_model
 from models.free_store import ALLOCATE, ATTACH, READ, SAFE, STEP, WRITE
-from programs.store_scripts import ARGUMENTS, encode, random_script
-
-SIZES = {kind: 1 + n + (3 if kind == WRITE else 0) for kind, n in ARGUMENTS.items()}
-
-
-def expected(data):
-    """The text that documents 01 and 02 give for these bytes."""
-    if not data or data[0] != 1:
-        return b"0 15 0\n"
-    store, out, at, n = store_model.Sapphire(), [], 1, 1
-    while at < len(data):
-        body = data[at + 1:at + 1 + data[at]]
-        if len(body) < data[at] or not body or SIZES.get(body[0]) != len(body):
-            out.append(f"{n} 15 0\n")
-            break
-        kind, args = body[0], list(body[1:])
-        if kind == WRITE:
-            args = args[:3] + [int.from_bytes(body[4:8], "big")]
-        number, value = store.call(kind, args)
-        out.append(f"{n} {number} {value}\n")
-        at, n = at + 1 + len(body), n + 1
-    return "".join(out).encode()
-
+from programs import built_programs
+from programs.store_scripts import SIZES, encode, expected, random_script
 
 def writes_and_reads(shift):
     """Entries of nine and of five bytes in turn, over several input buffers and from a place that `shift` moves: each number written

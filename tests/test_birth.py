@@ -12,16 +12,17 @@ import time
 from collections import Counter
 
 from cases import birth_cases
-from stories import record_life_story
-from runs import birth_runs
-from programs import probe_program
+from mistakes.mistake_names import (COUNT_RECLAIMED, COUNTED_BOTH, LINE_NUMBER_SLIPS, RUN_NUMBER_SLIPS, SHELL_RENUMBERED, SHELL_UNNUMBERED,
+                                    UNCOUNTED)
+from mistakes.replay import played, seen_in
 from models.collector_model import PHASES
+from models.free_store import BIRTH, MOST_BIRTHS
+from programs import probe_program
 from programs.explain_tool import need
 from programs.line_checks import faults
+from runs import birth_runs
+from stories import record_life_story
 from stories.record_life_story import FROM, TO
-from models.free_store import BIRTH, MOST_BIRTHS
-from mistakes.replay import played, seen_in
-from mistakes.mistake_names import COUNT_RECLAIMED, COUNTED_BOTH, LINE_NUMBER_SLIPS, RUN_NUMBER_SLIPS, SHELL_RENUMBERED, SHELL_UNNUMBERED, UNCOUNTED
 
 RUNS, CALLS = 120, 3000
 AGED, AGED_CALLS = 100, 1200
@@ -128,7 +129,8 @@ def check_pairs():
           f"{seen['left']} 16, {seen['room']} 14; {seen['whole']} agree to the end, {seen['parted']} part where one has no room")
     need(seen["births"] > 4000 and seen["left"] > 500 and min(seen["whole"], seen["parted"]) > 20, f"the pairs do not show enough: {seen}")
     for slip in (SHELL_RENUMBERED, COUNT_RECLAIMED, UNCOUNTED, COUNTED_BOTH, SHELL_UNNUMBERED):
-        parted = next((f"pair {seed}, {wrong}" for seed in range(PAIRS) if (wrong := birth_runs.pair(seed, PAIR_CALLS, Counter(), slip))), None)
+        told = ((seed, birth_runs.pair(seed, PAIR_CALLS, Counter(), slip)) for seed in range(PAIRS))
+        parted = next((f"pair {seed}, {wrong}" for seed, wrong in told if wrong), None)
         need(parted, f"no pair of runs with '{slip}' parts")
         print(f"test_birth: '{slip}' is seen: {parted}")
 

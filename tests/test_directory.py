@@ -6,12 +6,12 @@ import sys
 import time
 from collections import Counter
 
-from programs import built_programs
-from programs.directory_scripts import all_removed, crowd, encode, random_script
-from programs.line_checks import faults
 from models.free_store import STEP
 from models.store_model import LEVELS
 from models.table_model import OPEN, ADD, MAKE, JOIN, NO_ROOM, Table
+from programs import built_programs
+from programs.directory_scripts import all_removed, crowd, encode, random_script
+from programs.line_checks import faults
 
 SCRIPTS = 60
 

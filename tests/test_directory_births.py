@@ -8,11 +8,11 @@ import sys
 import time
 from collections import Counter
 
-from runs.share_runs import Budget
-from runs.directory_runs import SESSIONS, Beside
-from runs.birth_runs import Wrong
 from models.free_store import BIRTH, WHOLE_SHARE
 from models.table_model import ADD, MAKE, JOIN, NO_NUMBER, NO_ROOM
+from runs.birth_runs import Wrong
+from runs.directory_runs import SESSIONS, Beside
+from runs.share_runs import Budget
 
 RUNS, ROUNDS = 150, 400
 

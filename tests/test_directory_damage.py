@@ -8,11 +8,11 @@ import sys
 import time
 from collections import Counter
 
-from programs import built_programs
 from models.directory_model import MARK, MINE, ROOT, TOO_LONG
-from programs.directory_scripts import Played, encode
 from models.free_store import ATTACH, DETACH, ALLOCATE, STORE, WRITE, CLEAR, GET, PUT, STEP
 from models.table_model import OPEN, ADD, REMOVE, MAKE, JOIN, LEAVE, LIST, LAST
+from programs import built_programs
+from programs.directory_scripts import Played, encode
 
 PERSON, GROUP, MEMBER = (1, 1), (2, 1), (1, 1)  # links and words of a record
 NO_FIELD = 13

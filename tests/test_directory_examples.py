@@ -6,10 +6,10 @@ import hashlib
 import random
 import sys
 
-from programs import built_programs
-from programs.directory_scripts import SIZES, encode, expected, random_script
 from models.free_store import ATTACH, SAFE, ALLOCATE, CLEAR, STEP
 from models.table_model import OPEN, ADD, REMOVE, MAKE, JOIN, LEAVE, LIST, LAST
+from programs import built_programs
+from programs.directory_scripts import SIZES, encode, expected, random_script
 
 # a call and what follows the entry number on its line
 FIRST = [

@@ -6,11 +6,11 @@ import itertools
 import sys
 import time
 
+from models.free_store import ATTACH, SAFE, ALLOCATE, LOAD, STORE, READ, WRITE, CLEAR, GET, PUT, STEP
+from models.table_model import OPEN, ADD, REMOVE, MAKE, JOIN, LEAVE, LIST, LAST, Table
 from programs import built_programs
 from programs.directory_scripts import Played, encode
 from programs.line_checks import faults
-from models.free_store import ATTACH, SAFE, ALLOCATE, LOAD, STORE, READ, WRITE, CLEAR, GET, PUT, STEP
-from models.table_model import OPEN, ADD, REMOVE, MAKE, JOIN, LEAVE, LIST, LAST, Table
 
 # a record that is dropped at once, so that all others move; groups 1 and 2 of people 1 to 3; a record of another session
 SETUP = [

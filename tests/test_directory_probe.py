@@ -8,16 +8,13 @@ import sys
 import time
 from collections import Counter
 
+from cases import directory_cases, directory_random_damage, directory_share_cases, replica_cases
 from models import directory_model
-from cases import directory_cases
-from cases import directory_random_damage
-from cases import directory_share_cases
-from programs import probe_program
-from cases import replica_cases
 from models.free_store import MOST_BIRTHS
-from programs.probe_program import OPEN, ADD, REMOVE, MAKE_GROUP, JOIN, LEAVE, LIST
 from models.store_model import LEVELS
 from models.table_model import NO_NUMBER, NO_ROOM, OVER_SHARE, Table, fed
+from programs import probe_program
+from programs.probe_program import OPEN, ADD, REMOVE, MAKE_GROUP, JOIN, LEAVE, LIST
 
 RANDOM = 6000
 # the refusals that each call has, by document 02
@@ -49,7 +46,8 @@ def check_bad_cases():
         if probe_program.run(case + probe_program.encode(probe_program.decode(case)[0], LIST, [1, lent]) + case) != want:
             sys.exit("test_directory_probe: a list that is lent too much is answered")
     for kind in (100, OPEN - 1, LIST + 1):
-        if probe_program.run(kind.to_bytes(4, "big") + case[4:]) != probe_program.ANSWER.pack(15, 0) + probe_program.unchanged(case) + probe_program.words([0]):
+        reply = probe_program.run(kind.to_bytes(4, "big") + case[4:])
+        if reply != probe_program.ANSWER.pack(15, 0) + probe_program.unchanged(case) + probe_program.words([0]):
             sys.exit(f"test_directory_probe: kind {kind} is not answered with 15")
 
 
@@ -123,7 +121,8 @@ def check_shares():
     for number, before, made in beside_table(cases):
         seen[number] += 1
         seen["both"] += made and LEVELS[before.phase] > 2
-        seen["past all"] += number == OVER_SHARE and before.charge[directory_model.MINE] + directory_share_cases.PERSON > directory_share_cases.TOP
+        asked = before.charge[directory_model.MINE] + directory_share_cases.PERSON
+        seen["past all"] += number == OVER_SHARE and asked > directory_share_cases.TOP
     print(f"test_directory_probe: {len(cases)} calls around the edge of a share: {seen[OVER_SHARE]} are refused with 17, "
           f"{seen['past all']} of them past the highest word, {seen[NO_ROOM]} with 14, {seen[NO_NUMBER]} with 16; {seen['both']} records "
           f"of two copies are charged once")

@@ -9,14 +9,14 @@ import sys
 import time
 from collections import Counter
 
-from runs.share_runs import Budget, first_share, shared_call
 from models.directory_model import MINE, SHARE_SLIPS
-from runs.directory_runs import SESSIONS, Beside
-from programs.explain_tool import need
-from models.record_layout import size
-from runs.birth_runs import Wrong
 from models.free_store import FITTED, NO_ROOM, OVER_SHARE, WHOLE_SHARE
+from models.record_layout import size
 from models.table_model import OPEN, ADD, REMOVE, MAKE, JOIN, LEAVE, LIST, ALREADY, OPEN_ALREADY
+from programs.explain_tool import need
+from runs.birth_runs import Wrong
+from runs.directory_runs import SESSIONS, Beside
+from runs.share_runs import Budget, first_share, shared_call
 
 RUNS, ROUNDS = 120, 400
 WORDS = {ADD: size(1, 1), MAKE: size(2, 1), JOIN: size(1, 1)}  # that a call allocates

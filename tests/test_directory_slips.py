@@ -4,9 +4,9 @@ it is seen, by the plain table or, where it only wastes memory, by a line that d
 import sys
 
 from models.directory_model import REGISTERS_KEPT, SLIPS, Directory
+from models.table_model import Table
 from programs.directory_scripts import all_removed, random_script
 from programs.line_checks import faults
-from models.table_model import Table
 
 
 def scripts():

@@ -33,7 +33,7 @@ class Known:
 
     def __init__(self):
         self.paths = sorted(tree())
-        self.files = {os.path.basename(path) for path in self.paths}
+        self.files = {os.path.basename(path) for path in self.paths} | {entry.name for entry in os.scandir(TOP) if entry.is_file()}
         self.words = {word for path in self.paths for word in re.split(r"[/.]", path)} | FOREIGN
         for path in self.paths:
             if not path.endswith(".md"):

@@ -4,8 +4,8 @@ demo/school-day.txt has, whole and in parts."""
 import re
 import sys
 
-from programs.explain_tool import DAY, DEMO, check_day, need, printed, ran
 from models.free_store import ATTACH, ALLOCATE, STEP
+from programs.explain_tool import DAY, DEMO, check_day, need, printed, ran
 from programs.explain_words import REASONS, read_back, refused_in
 from programs.store_scripts import encode, random_script
 

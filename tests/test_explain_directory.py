@@ -7,11 +7,11 @@ import subprocess
 import sys
 import tempfile
 
+from models.free_store import ALLOCATE, PUT, STORE
+from models.table_model import OPEN, ADD, JOIN, LEAVE, LIST, MAKE
 from programs.directory_scripts import encode, random_script
 from programs.explain_tool import DEMO, DIRECTORY_DAY, TOP, Programs, check_day, need, printed, ran
-from models.free_store import ALLOCATE, PUT, STORE
 from programs.explain_words import DIRECTORY_REASONS, read_back, refused_in
-from models.table_model import OPEN, ADD, JOIN, LEAVE, LIST, MAKE
 
 sys.path.insert(0, DEMO)
 import directory_day  # noqa: E402

@@ -7,8 +7,8 @@ import signal
 import subprocess
 import tempfile
 
-from programs.explain_tool import DAY, EXPLAIN, TOP, Programs, need, printed, ran
 from models.free_store import ALLOCATE, ATTACH, SAFE, STEP
+from programs.explain_tool import DAY, EXPLAIN, TOP, Programs, need, printed, ran
 from programs.store_scripts import encode, random_script
 
 GOOD = encode([(ATTACH, [0]), (STEP, [])])

@@ -12,22 +12,17 @@ import sys
 import time
 from collections import Counter
 
-from cases import shading_cases
-from cases import random_damage
-from cases import link_cases
-from cases import link_random_damage
-from cases import link_overlap_cases
-from runs import link_runs
-from runs import birth_runs
-from programs import probe_program
-from stories import timetable_story
-from models.collector_model import PHASES, Refused
-from programs.explain_tool import need
+from cases import link_cases, link_overlap_cases, link_random_damage, random_damage, shading_cases
 from cases.link_case_coverage import BLIND_ANSWER, BLIND_WORDS, blind_traits
+from mistakes.mistake_names import FREE_LINK_SLIPS, OLD_LEFT, OLD_LEFT_IN_4, STORED_LEFT, STORES_STAY
+from mistakes.replay import seen_in
+from models.collector_model import PHASES, Refused
 from models.free_store import LINKS, STORE
 from models.planned_links_model import store_planned
-from mistakes.replay import seen_in
-from mistakes.mistake_names import FREE_LINK_SLIPS, OLD_LEFT, OLD_LEFT_IN_4, STORED_LEFT, STORES_STAY
+from programs import probe_program
+from programs.explain_tool import need
+from runs import birth_runs, link_runs
+from stories import timetable_story
 from stories.timetable_story import BOARD, OFFICE
 
 RUNS, CALLS, SHOWN = 120, 2000, 12
@@ -39,10 +34,12 @@ STORES = 20000   # random cases, of which the single stores are taken
 
 def check_examples():
     wanted = list(link_cases.examples())
-    for (name, _, number, held), (case, reply) in zip(wanted, probe_program.answered([(name, case) for name, case, _, _ in wanted]), strict=True):
+    replies = probe_program.answered([(name, case) for name, case, _, _ in wanted])
+    for (name, _, number, held), (case, reply) in zip(wanted, replies, strict=True):
         before, after = probe_program.decode(case)[0], probe_program.after(case, reply)
         word = before.registers[link_cases.S][1] if held else 0
-        need(probe_program.ANSWER.unpack_from(reply) == (number, 0) and after.half[0][4] == word, f"{name}: answered {probe_program.told(reply)}")
+        need(probe_program.ANSWER.unpack_from(reply) == (number, 0) and after.half[0][4] == word,
+             f"{name}: answered {probe_program.told(reply)}")
         need(number == 0 or probe_program.unchanged(case) == probe_program.given(after), f"{name}: refused, and has changed something")
     print(f"test_links: {len(wanted)} calls of examples worked out in words")
 
@@ -147,7 +144,8 @@ def check_steps():
     print(f"test_links: a timetable changed after every number of steps of a collection, {having.total()} times, in {len(having)} phases "
           f"and levels, all links dropped {len(drops)} times; old lessons gone at the end of the collection {garbage[0]} times, else of "
           f"the next one; {len(cases)} of these calls by the probe program, answers {dict(sorted(replies.items()))}")
-    need(sorted(having) == link_cases.HAVING and garbage[0] and garbage[timetable_story.LESSONS], f"the changes do not show enough: {having}")
+    need(sorted(having) == link_cases.HAVING and garbage[0] and garbage[timetable_story.LESSONS],
+         f"the changes do not show enough: {having}")
     for slip, every, first in ((STORED_LEFT, timetable_story.every_change, False), (STORES_STAY, timetable_story.every_change, True),
                                (OLD_LEFT, timetable_story.every_drop, 0), (OLD_LEFT_IN_4, timetable_story.every_drop, 6)):
         print(f"test_links: '{slip}' is seen: {broken(every(first, slip))}")

@@ -10,11 +10,11 @@ import subprocess
 import tempfile
 import zlib
 
+from models.load_model import MOST, WORD, Workload
 from programs import built_programs
 from programs.explain_tool import TOP, Programs, need
-from models.load_model import MOST, WORD, Workload
-from test_bad_scripts import expected
-from test_workload import VECTORS
+from programs.load_inputs import VECTORS
+from programs.store_scripts import expected
 
 TOOL = os.path.join(TOP, "tools", "load-checksum")
 # of the vectors' lines, by the rules as they stand

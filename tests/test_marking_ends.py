@@ -8,14 +8,14 @@ last without end. The script program gets the first and the last as scripts, and
 extremes, of which one reaches the bound, and random runs in small and large halves."""
 import time
 
+from mistakes.mistake_names import ATTACHED_UNSCANNED, BEFORE, COUNTED_TWICE, LISTED_TWICE, MARKS_CLEARED, PLACE_IN_HALF
+from models.free_store import ALLOCATE, LOAD, STORE, MOVE, PUT, SAFE, SAME, STEP
+from models.record_layout import HEADER, size
 from programs import built_programs
 from programs.explain_tool import need
-from models.record_layout import HEADER, size
-from runs.marking_runs import (AFTER, BESIDE, MARKING, SCRIPT_LENGTH, Run, Seen, attached, chained, chained_by_eight, come_and_go, drop_eight,
-                     links_in, load_and_drop, marked, random_run)
-from models.free_store import ALLOCATE, LOAD, STORE, MOVE, PUT, SAFE, SAME, STEP
 from programs.store_scripts import encode
-from mistakes.mistake_names import ATTACHED_UNSCANNED, BEFORE, COUNTED_TWICE, LISTED_TWICE, MARKS_CLEARED, PLACE_IN_HALF
+from runs.marking_runs import (AFTER, BESIDE, MARKING, SCRIPT_LENGTH, Run, Seen, attached, chained, chained_by_eight, come_and_go,
+                               drop_eight, links_in, load_and_drop, marked, random_run)
 
 ROUNDS = 20000  # steps that the rules of before are watched for
 RUNS = 200      # by chance

@@ -15,25 +15,13 @@ import sys
 import time
 from collections import Counter
 
-from cases import shading_cases
-from cases import birth_cases
-from cases import random_damage
-from cases import limit_cases
-from cases import directory_cases
-from cases import directory_share_cases
-from cases import link_cases
-from cases import link_random_damage
-from cases import link_overlap_cases
-from cases import link_case_coverage
-from programs import probe_program
-from cases import replica_cases
-from cases import scan_cases
-from cases import share_cases
-from cases import stretch_cases
+from cases import (birth_cases, directory_cases, directory_share_cases, limit_cases, link_case_coverage, link_cases, link_overlap_cases,
+                   link_random_damage, random_damage, replica_cases, scan_cases, shading_cases, share_cases, stretch_cases)
+from mistakes.mistake_names import (DAMAGE_SLIPS, LEVEL_SLIPS, LINK_SLIPS, MARKING_SLIPS, NUMBER_SLIPS, PLACE_IN_HALF, PLACES, SCAN_SLIPS,
+                                    SHARE_SLIPS, STRICT_SLIPS, WEAK_SLIPS)
 from models.free_store import ATTACH, DETACH, SAFE, ALLOCATE, LOAD, STORE, READ, WRITE, MOVE, CLEAR, SAME, GET, PUT, STEP, LINKS
 from models.store_model import BIRTH, COMPANION, STRETCH
-from mistakes.mistake_names import (DAMAGE_SLIPS, LINK_SLIPS, MARKING_SLIPS, NUMBER_SLIPS, PLACE_IN_HALF, PLACES, SCAN_SLIPS, SHARE_SLIPS, STRICT_SLIPS,
-                   WEAK_SLIPS)
+from programs import probe_program
 
 CRATE = os.path.join(os.path.dirname(os.path.abspath(__file__)), "..", "crates", "probe")
 RANDOM, RANDOM_SCANS, RANDOM_LINKS = 70000, 10000, 20000
@@ -46,9 +34,14 @@ REFUSALS = {probe_program.MAKE: {1, 2, 3}, ATTACH: {4, 5, 7}, DETACH: SESSION, S
             BIRTH: RECORD, LINKS: RECORD | {10, 13}}
 
 
+def few(*makers):
+    """The few cases of each of these modules of tests/cases."""
+    return [case for maker in makers for _, case in maker.few()]
+
+
 def files():
     """What crates/probe/stdin and stdout must hold."""
-    cases = [case for some in (stretch_cases, birth_cases, directory_cases, share_cases, directory_share_cases, link_cases) for _, case in some.few()]
+    cases = few(stretch_cases, birth_cases, directory_cases, share_cases, directory_share_cases, link_cases)
     return b"".join(cases), b"".join(probe_program.expected(case) for case in cases)
 
 
@@ -96,7 +89,8 @@ def check_numbers(kind, traits, least):
         return [traits[trait] for trait in birth_cases.TRAITS if trait[0] == wanted]
     print(f"test_probe: the {kind} cases have birth answered {sum(times('birth'))} times, refused {sum(times(BIRTH))} times, the last "
           f"number given {sum(times(birth_cases.LAST_GIVEN))} times; without a number 16 {sum(times(birth_cases.NONE_LEFT))} times, 14 "
-          f"{sum(times(birth_cases.ROOM_FIRST))} times; of each refusal and level at least {min(traits[trait] for trait in birth_cases.TRAITS)}")
+          f"{sum(times(birth_cases.ROOM_FIRST))} times; of each refusal and level at least "
+          f"{min(traits[trait] for trait in birth_cases.TRAITS)}")
     if any(traits[trait] < least for trait in birth_cases.TRAITS):
         sys.exit(f"test_probe: the {kind} cases do not show enough of birth numbers: {traits}")
 
@@ -107,9 +101,10 @@ def check_shares(kind, traits, least):
     def times(wanted):
         return sum(traits[trait] for trait in share_cases.TRAITS if trait == wanted or trait[0] == wanted)
     print(f"test_probe: the {kind} cases have 17 {times(share_cases.OVER)} times, {times(share_cases.OVER_FIRST)} without room or number, "
-          f"{times(share_cases.PAST_ALL)} past the highest word; shares filled {times(share_cases.FILLED)} times, {times(share_cases.ONCE)} records of "
-          f"two copies charged once, charges cleared {times(share_cases.CLEARED)} times, {times(share_cases.ABSENT_CLEARED)} of absent sessions; of "
-          f"each and level at least {min(traits[trait] for trait in share_cases.TRAITS)}")
+          f"{times(share_cases.PAST_ALL)} past the highest word; shares filled {times(share_cases.FILLED)} times, "
+          f"{times(share_cases.ONCE)} records of two copies charged once, charges cleared {times(share_cases.CLEARED)} times, "
+          f"{times(share_cases.ABSENT_CLEARED)} of absent sessions; of each and level at least "
+          f"{min(traits[trait] for trait in share_cases.TRAITS)}")
     if any(traits[trait] < least for trait in share_cases.TRAITS):
         sys.exit(f"test_probe: the {kind} cases do not show enough of shares: {[(trait, traits[trait]) for trait in share_cases.TRAITS]}")
 
@@ -124,8 +119,8 @@ def check_links(kind, traits, wanted, least, blind):
     words = [sum(traits[trait] for trait in link_case_coverage.seen_words() if trait[3] == way) for way in ways]
     print(f"test_probe: the {kind} cases store several links {done} times, {shaded} times a record that an earlier pair has shaded; "
           f"refused by a full list {full} times; a pair is done {words[0]} times only because of one word that an earlier one wrote, "
-          f"refused {words[1]} times; planned on the words as they came in they have another answer {traits[link_case_coverage.BLIND_ANSWER]} "
-          f"times, other words {traits[link_case_coverage.BLIND_WORDS]} times")
+          f"refused {words[1]} times; planned on the words as they came in they have another answer "
+          f"{traits[link_case_coverage.BLIND_ANSWER]} times, other words {traits[link_case_coverage.BLIND_WORDS]} times")
     lacking = [(trait, traits[trait]) for trait in wanted if traits[trait] < least]
     if lacking or traits[link_case_coverage.BLIND_ANSWER] < blind or traits[link_case_coverage.BLIND_WORDS] < blind // 5:
         sys.exit(f"test_probe: the {kind} cases do not show enough of several links: {lacking}")
@@ -168,7 +163,7 @@ def check_bad_cases():
 
 def check_pairs_unread():
     """The words of the pairs are nothing to a call that stores no links."""
-    cases = [case for some in (stretch_cases, birth_cases, directory_cases, share_cases, directory_share_cases) for _, case in some.few()]
+    cases = few(stretch_cases, birth_cases, directory_cases, share_cases, directory_share_cases)
     junk = probe_program.words(link_cases.JUNK)
     changed = [case[:probe_program.MEMORY - len(junk)] + junk + case[probe_program.MEMORY:] for case in cases]
     if probe_program.run(b"".join(changed)) != b"".join(map(probe_program.expected, cases)):
@@ -203,8 +198,8 @@ def main():
     by_chance = [*random_damage.random_cases(RANDOM), *link_random_damage.random_cases(RANDOM_LINKS)]
     paired, numbered, charged = list(replica_cases.directed()), list(birth_cases.directed()), list(share_cases.directed())
     linked = [*link_cases.directed(), *link_overlap_cases.directed()]
-    for name, cases, least, wanted in [("directed", directed + marking + paired + numbered + charged + linked, 20, link_case_coverage.TRAITS),
-                                       ("random", by_chance, 10, [])]:
+    all_directed = directed + marking + paired + numbered + charged + linked
+    for name, cases, least, wanted in [("directed", all_directed, 20, link_case_coverage.TRAITS), ("random", by_chance, 10, [])]:
         seen, traits = compare(cases)
         numbers = {}
         for (_, number), count in seen.items():
@@ -223,7 +218,7 @@ def main():
     check_scans("random", list(scan_cases.random_cases(RANDOM_SCANS)))
     check_slips([PLACE_IN_HALF, *DAMAGE_SLIPS], by_chance[:4000] + directed)
     check_slips(MARKING_SLIPS, marking)
-    check_slips([*WEAK_SLIPS, *PLACES.values(), *STRICT_SLIPS], random.Random(1).sample(paired, len(paired)))
+    check_slips([*WEAK_SLIPS, *PLACES.values(), *STRICT_SLIPS, *LEVEL_SLIPS], random.Random(1).sample(paired, len(paired)))
     check_slips(SCAN_SLIPS, scans)
     check_slips(NUMBER_SLIPS, numbered)
     check_slips(SHARE_SLIPS, charged)

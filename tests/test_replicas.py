@@ -8,10 +8,10 @@ import time
 from collections import Counter
 
 from cases.limit_cases import records, ref
-from programs.line_checks import faults
-from runs.marking_runs import Run, any_call, attached, fill
 from models.free_store import ALLOCATE, ATTACH, SAFE, STEP
 from models.store_model import LEVELS, Refused
+from programs.line_checks import faults
+from runs.marking_runs import Run, any_call, attached, fill
 
 RUNS, CALLS = 120, 3000
 COPYING, RECLAIM = 7, 12  # phases

@@ -5,10 +5,10 @@ import itertools
 import sys
 import time
 
-from programs import built_programs
 from models import store_model
-from programs.line_checks import faults
 from models.free_store import STEP
+from programs import built_programs
+from programs.line_checks import faults
 from programs.store_scripts import all_scripts, encode, long_scripts
 
 
@@ -35,8 +35,8 @@ def main():
         for number, _ in pairs:
             refusals[number] = refusals.get(number, 0) + 1
         steps += sum(1 for kind, _ in script if kind == STEP)
-    print(f"test_scripts: {count} scripts, the longest {longest} bytes, {entries} entries, {steps} of them steps, {collections} collections, "
-          f"refusals {dict(sorted(refusals.items()))}, {time.time() - began:.0f} s")
+    print(f"test_scripts: {count} scripts, the longest {longest} bytes, {entries} entries, {steps} of them steps, {collections} "
+          f"collections, refusals {dict(sorted(refusals.items()))}, {time.time() - began:.0f} s")
     if count < 300 or entries < 500000 or collections < 100 or any(n not in refusals for n in (5, 6, 7, 8, 9, 11, 13, 14)):
         sys.exit("test_scripts: the scripts do not show enough")
 

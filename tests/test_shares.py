@@ -13,20 +13,18 @@ import sys
 import time
 from collections import Counter
 
-from runs import share_runs
-from stories import import_story
-from runs import birth_runs
-from programs import probe_program
-from stories import share_examples
 from cases import share_cases
-from models.collector_model import PHASES
-from programs.explain_tool import need
-from stories.import_story import IMPORT, LENGTH, LARGE, LETTER, SECRETARY, SHARES
-from programs.line_checks import faults
-from models.record_layout import size
-from models.free_store import FITTED, NO_ROOM, OVER_SHARE, fed
-from mistakes.replay import seen_in
 from mistakes.mistake_names import FED_AS_ROOM, FREE_SHARE_SLIPS, LINE_SHARE_SLIPS, UNFED
+from mistakes.replay import seen_in
+from models.collector_model import PHASES
+from models.free_store import FITTED, NO_ROOM, OVER_SHARE, fed
+from models.record_layout import size
+from programs import probe_program
+from programs.explain_tool import need
+from programs.line_checks import faults
+from runs import birth_runs, share_runs
+from stories import import_story, share_examples
+from stories.import_story import IMPORT, LENGTH, LARGE, LETTER, SECRETARY, SHARES
 
 RUNS, CALLS = 240, 3000
 SHOWN = 30  # runs whose calls the probe program gets
@@ -89,15 +87,15 @@ def check_runs():
     full = [seen[share_runs.STRONGER, "full", phase] for phase in range(13)]
     print(f"test_shares: {RUNS} random runs, {sum(len(run.entries) for run in runs)} calls, {seen['collections']} collections, "
           f"{seen['cleared']} with charges to clear; allocations done {seen[FITTED]}, {seen['both']} in both halves, refused with 17 "
-          f"{seen[OVER_SHARE]}, with 14 {seen[NO_ROOM]}, with 16 {seen[birth_runs.LEFT]}; attached again with the share of before and a charge "
-          f"{seen['attached again']} times")
+          f"{seen[OVER_SHARE]}, with 14 {seen[NO_ROOM]}, with 16 {seen[birth_runs.LEFT]}; attached again with the share of before and a "
+          f"charge {seen['attached again']} times")
     for claim in (share_runs.CLAIM, share_runs.STRONGER):
         print(f"test_shares: {claim} covers {seen[claim, FITTED]} allocations done, {seen[claim, OVER_SHARE]} refused with 17, none with "
               f"14; {seen[claim, 'just']} times shares and used words are just the half, which is filled to the last word "
               f"{seen[claim, 'full']} times")
     claimed = [seen[share_runs.CLAIM, about] for about in ("full", "just")]
-    need(min(full[:8]) > 3 and min(claimed) > 200 and seen[NO_ROOM] > 1000 and seen["both"] > 1000
-         and seen[birth_runs.LEFT] > 20 and seen["attached again"] > 500 and seen["collections"] > 2000, f"the runs do not show enough: {seen}")
+    need(min(full[:8]) > 3 and min(claimed) > 200 and seen[NO_ROOM] > 1000 and seen["both"] > 1000 and seen[birth_runs.LEFT] > 20
+         and seen["attached again"] > 500 and seen["collections"] > 2000, f"the runs do not show enough: {seen}")
     return runs
 
 
@@ -108,7 +106,8 @@ def check_shown(runs):
         seen.update(share_cases.traits(case, reply))
     over, once = [[seen[trait, level] for level in range(7)] for trait in (share_cases.OVER, share_cases.ONCE)]
     print(f"test_shares: {len(cases)} calls of {SHOWN} of these runs by the probe program: 17 {sum(over)} times, {sum(once)} records of "
-          f"two copies charged once, charges cleared {seen[share_cases.CLEARED]} times, of absent sessions {seen[share_cases.ABSENT_CLEARED]} times")
+          f"two copies charged once, charges cleared {seen[share_cases.CLEARED]} times, of absent sessions "
+          f"{seen[share_cases.ABSENT_CLEARED]} times")
     need(min(over) > 10 and sum(once) > 50 and seen[share_cases.ABSENT_CLEARED] > 10, f"the calls shown do not show enough: {seen}")
 
 

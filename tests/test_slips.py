@@ -4,10 +4,10 @@ the collector-free store, such as those that document 01 warns of and a test of 
 answered otherwise by a line that differs. Those that no script shows are left to the tests that tests/mistakes/mistake_names.py names."""
 import sys
 
-from programs.line_checks import faults
-from models.store_model import Sapphire
-from programs.store_scripts import all_scripts
 from mistakes.mistake_names import ANSWER_SLIPS, LINE_SLIPS, STRICT_SLIPS
+from models.store_model import Sapphire
+from programs.line_checks import faults
+from programs.store_scripts import all_scripts
 
 
 def lines_of(entries, slip=None):

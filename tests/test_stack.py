@@ -5,13 +5,11 @@ and 02 give for long random scripts with every kind of call and for one that fil
 no more stack than their arrays take they must fail, which shows that the limit is kept."""
 import sys
 
-from programs import directory_scripts
 from models import load_model
-from programs import built_programs
-from models.record_layout import size
 from models.free_store import ALLOCATE, ATTACH, CLEAR, GET, PUT, STORE
-from programs.store_scripts import ARGUMENTS, encode, finish, kept, long_scripts, look
-from test_bad_scripts import expected
+from models.record_layout import size
+from programs import built_programs, directory_scripts
+from programs.store_scripts import ARGUMENTS, encode, expected, finish, kept, long_scripts, look
 
 STACK, DIRECTORY_STACK, LOAD_STACK = 96 * 1024, 120 * 1024, 32 * 1024
 HALVES = 2 * 4096 * 4
@@ -70,7 +68,8 @@ def directory_program():
 def load_program():
     entries = 0
     for seed in (1, 2, load_model.WORD):
-        check(f"load of seed {seed}", load_model.asked(seed, load_model.MOST), load_model.Workload().script(seed, load_model.MOST), LOAD_STACK, built_programs.WORKLOAD)
+        want = load_model.Workload().script(seed, load_model.MOST)
+        check(f"load of seed {seed}", load_model.asked(seed, load_model.MOST), want, LOAD_STACK, built_programs.WORKLOAD)
         entries += load_model.MOST
     print(f"test_stack: {entries} entries of the load program with {LOAD_STACK // 1024} KB of stack")
 

@@ -1,6 +1,7 @@
 #!/usr/bin/env python3
-"""Every must-fail edit has a twin (tests/twins.py): the source, or a twin file of the edit's own form. Nothing is proved here. That
-the rule tells values from form is shown on texts of each kind."""
+"""Every must-fail edit has a twin (tests/twins.py): the source, or a twin file of the edit's own form. The twin files of crates that are
+proved in seconds are proved here. That the rule tells values from form is shown on texts of each kind, and that a twin which is not
+right is refused on an edit itself."""
 import sys
 
 import twins
@@ -22,13 +23,25 @@ FORMS = [
 ]
 
 
+def check_refused():
+    """An edit, taken for its own twin, must not be proved."""
+    crate, name = next((crate, name) for crate, name in twins.edits(twins.QUICK) if twins.twin_of(crate, name))
+    try:
+        twins.prove(crate, twins.read(twins.edit_path(crate, name)))
+    except twins.Bad as bad:
+        print(f"test_twins: the edit {crate}/{name} in its twin's place: {bad}")
+    else:
+        sys.exit(f"test_twins: the edit {crate}/{name} is proved in its twin's place")
+
+
 def main():
     for a, b, same in FORMS:
         if twins.same_form({"": a}, {"": b}) != same:
             sys.exit(f"test_twins: '{a}' and '{b}' have {'another' if same else 'the same'} form")
-    passed, failed = twins.look(proving=False)
-    print(f"test_twins: {passed} edits with a twin, {failed} without")
-    if failed or not passed:
+    check_refused()
+    passed, failed, proofs = twins.look(proved=twins.QUICK)
+    print(f"test_twins: {passed} edits with a twin, {failed} without; {proofs} twin files proved")
+    if failed or not passed or not proofs:
         sys.exit(1)
 
 

@@ -9,11 +9,11 @@ import subprocess
 import tempfile
 import time
 
-from programs import built_programs
-from programs.explain_tool import need
 from models.load_model import Workload, asked
-from test_slow_reader import LIMIT, PAGE, Source, begin, check, end, in_file, read_some, read_when_full
-from test_workload import VECTORS
+from programs import built_programs
+from programs.broken_outputs import LIMIT, PAGE, Source, begin, check, end, in_file, read_some, read_when_full
+from programs.explain_tool import need
+from programs.load_inputs import VECTORS
 
 LATE = 0.25  # seconds in which a program that doesn't wait would have written
 SOON = 10  # seconds within which a program has ended that can't write

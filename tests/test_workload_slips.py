@@ -4,10 +4,10 @@ gives other bytes on some of them."""
 import itertools
 import sys
 
-from programs import built_programs
-from models.load_model import MOST, WHOLE, WORD, Workload
 from models.free_store import ALLOCATE, STEP, WRITE
-from test_workload import edge_seeds, lengths, limits, random_seeds
+from models.load_model import MOST, WHOLE, WORD, Workload
+from programs import built_programs
+from programs.load_inputs import edge_seeds, lengths, limits, random_seeds
 
 RIGHT = Workload()
 PIN = 15  # a kind that no load has

@@ -10,10 +10,10 @@ before and after the edit.
 
 - Where an edit keeps the form of the source, its twin is the source, which every check proves.
 - Every other edit has a twin file, tests/twins/CRATE/NAME.edit: the same `file:` and `old:` lines with other `new:` lines. The text
-  that it makes must have the form of the one that the edit makes. It is made in a copy of the repository, where `rt check CRATE`
-  must prove the crate. The copy takes target/ along, so that no other crate is proved again.
+  that it makes must have the form of the one that the edit makes. It is made in a copy of the crate and of those below it, where
+  `rt check CRATE` must prove it. The copy takes along what is proved of those below, so that they are not proved again.
 
-tests/test_twins.py, which the tests run, looks at all of this but the proving."""
+tests/test_twins.py, one of the tests, looks at all of this, but proves only the twins of the crates in QUICK."""
 import glob
 import os
 import re
@@ -23,6 +23,7 @@ import sys
 import tempfile
 
 ROOT = os.path.dirname(os.path.dirname(os.path.abspath(__file__)))
+QUICK = ("rules", "directory_rules")  # crates without a function, proved in seconds; any other takes up to minutes
 # a bracket, comma or semicolon; else all up to the next one or to white space
 TOKEN = re.compile(r"[()\[\]{},;]|[^\s()\[\]{},;]+")
 VALUE = re.compile(r"(\.?)\w(?:[\w·′.:-]*[\w′])?")
@@ -78,9 +79,13 @@ def same_form(some, others):
     return True
 
 
+def edit_path(crate, name):
+    return os.path.join(ROOT, "crates", crate, "must-fail", name + ".edit")
+
+
 def twin_of(crate, name):
     """The twin of an edit: None for the source, else the replacements of its twin file."""
-    edit = read(os.path.join(ROOT, "crates", crate, "must-fail", name + ".edit"))
+    edit = read(edit_path(crate, name))
     path = os.path.join(ROOT, "tests", "twins", crate, name + ".edit")
     source, wrong = edited(crate, edit)
     if wrong == source:
@@ -114,13 +119,33 @@ def strays():
     return sorted(os.path.relpath(path, ROOT) for path in paths if os.path.isfile(path) and path not in wanted)
 
 
+def below(crate):
+    """The crates of the repository that a crate is built on, by crates.txt."""
+    with open(os.path.join(ROOT, "crates.txt"), encoding="utf-8") as text:
+        asked = dict(re.findall(r"^(\w+):([^#\n]*)", text.read(), re.M))
+    names = [name for name in asked[crate].split() if name in asked]
+    return {*names, *(lower for name in names for lower in below(name))}
+
+
+def copy_below(crate, copy):
+    """Copies a crate and those below it, and of these what is proved."""
+    shutil.copy(os.path.join(ROOT, "crates.txt"), copy)
+    paths = [os.path.join("crates", name) for name in (crate, *below(crate))]
+    for name in below(crate):
+        paths += [os.path.join("target", "rlib", name + ".rlib"), os.path.join("target", "stamp", name)]
+    for path in paths:
+        source, to = os.path.join(ROOT, path), os.path.join(copy, path)
+        os.makedirs(os.path.dirname(to), exist_ok=True)
+        if os.path.isdir(source):
+            shutil.copytree(source, to, ignore=shutil.ignore_patterns("must-fail"))
+        elif os.path.isfile(source):
+            shutil.copy(source, to)
+
+
 def prove(crate, twin):
-    """Makes the twin in a copy of the repository and has the crate proved there; raises Bad with the first error."""
+    """Makes the twin in a copy of its crate and has it proved there; raises Bad with the first error."""
     with tempfile.TemporaryDirectory() as copy:
-        shutil.copy(os.path.join(ROOT, "crates.txt"), copy)
-        for folder in ("crates", "target"):
-            if os.path.isdir(os.path.join(ROOT, folder)):
-                shutil.copytree(os.path.join(ROOT, folder), os.path.join(copy, folder), ignore=shutil.ignore_patterns("must-fail"))
+        copy_below(crate, copy)
         for file, text in edited(crate, twin)[1].items():
             with open(os.path.join(copy, "crates", crate, file), "w", encoding="utf-8") as out:
                 out.write(text)
@@ -130,24 +155,26 @@ def prove(crate, twin):
             raise Bad("its twin is not proved: " + lines[0].replace(copy + os.sep, "")[:300])
 
 
-def look(crates=(), proving=True):
-    """Says of every edit what its twin is, and proves the twin files; how many passed and how many failed."""
-    passed = failed = 0
+def look(crates=(), proved=None):
+    """Says of every edit, of these crates or of all, what its twin is, and proves the twin files of the crates in `proved`, or all; how
+    many edits passed and how many failed, and how many twin files were proved."""
+    passed = failed = proofs = 0
     for crate, name in edits(crates):
         try:
             twin = twin_of(crate, name)
-            if twin and proving:
+            proving = twin is not None and (proved is None or crate in proved)
+            if proving:
                 prove(crate, twin)
         except Bad as bad:
             failed += 1
             print(f"{crate}/{name}: FAILED: {bad}", flush=True)
         else:
-            passed += 1
-            print(f"{crate}/{name}: " + ("the source" if twin is None else "its twin file" + (", proved" if proving else "")), flush=True)
+            passed, proofs = passed + 1, proofs + proving
+            print(f"{crate}/{name}: " + ("the source" if twin is None else "its twin file" + ", proved" * proving), flush=True)
     for stray in strays():
         failed += 1
         print(f"{stray}: FAILED: no edit has this twin file", flush=True)
-    return passed, failed
+    return passed, failed, proofs
 
 
 def main():
@@ -155,8 +182,8 @@ def main():
     for crate in crates:
         if not edits([crate]):
             sys.exit(f"twins: the crate {crate} has no must-fail edit")
-    passed, failed = look(crates)
-    print(f"{passed} twins passed, {failed} failed")
+    passed, failed, proofs = look(crates)
+    print(f"{passed} twins passed, {proofs} of them proved here, {failed} failed")
     sys.exit(1 if failed else 0)
 
 

@@ -1,6 +1,6 @@
 """Shares and charges for stores that are set up by hand: such as nothing that follows passes, and any by chance."""
-from models.record_layout import size
 from models.free_store import ALLOCATE, WHOLE_SHARE
+from models.record_layout import size
 from models.store_model import SESSIONS
 
 SMALL = 12  # how near to 0 or to the whole share a number by chance may be

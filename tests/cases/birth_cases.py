@@ -3,12 +3,13 @@ allocations where few numbers are left, with room and without; the steps that ma
 a name with the bytes of tests/programs/probe_program.py."""
 import itertools
 
-from cases.limit_cases import END, LEVEL_PHASES, TOP, USED, USUAL, X, Y, Z, changed, injuries, pairs, putting, ref, set_item, set_word, setting, small
 from cases.ample_shares import wide
-from models.record_layout import HEADER, NUMBER, least_list, size
+from cases.limit_cases import (END, LEVEL_PHASES, TOP, USED, USUAL, X, Y, Z, changed, injuries, pairs, putting, ref, set_item, set_word,
+                               setting, small)
 from models.free_store import ALLOCATE, MOST_BIRTHS, STEP
-from programs.probe_program import ANSWER, CALL, MAKE, decode, encode
+from models.record_layout import HEADER, NUMBER, least_list, size
 from models.store_model import BIRTH, LEVELS, Sapphire
+from programs.probe_program import ANSWER, CALL, MAKE, decode, encode
 
 ALL_PHASES = LEVEL_PHASES + [(LEVELS[phase], phase) for phase in range(13) if (LEVELS[phase], phase) not in LEVEL_PHASES]
 COUNTS = [0, 1, USED, MOST_BIRTHS - 2, MOST_BIRTHS - 1, MOST_BIRTHS]  # of numbers used
@@ -116,12 +117,14 @@ def traits(case, reply):
     """What is to be counted of a case: a birth call, by its level where it is answered, by its number where not; an allocation of the
     last number or without one, by its level."""
     kind, number = CALL.unpack_from(case)[0], ANSWER.unpack_from(reply)[0]
+    if kind not in (BIRTH, ALLOCATE):
+        return []
     if kind == BIRTH and number:
         return [(BIRTH, number)]
     store, _, args = decode(case)
     if kind == BIRTH:
         return [("birth", store.level[args[0]])]
-    if kind != ALLOCATE or store.births < MOST_BIRTHS - 1:
+    if store.births < MOST_BIRTHS - 1:
         return []
     found = {(MOST_BIRTHS - 1, 0): LAST_GIVEN, (MOST_BIRTHS, 16): NONE_LEFT, (MOST_BIRTHS, 14): ROOM_FIRST}.get((store.births, number))
     return [(found, store.level[args[0]])] if found else []

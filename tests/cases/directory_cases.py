@@ -1,17 +1,18 @@
 """Directed cases for the probe program of the directory's calls: every call in every phase of the collector, numbers of the control record
 at the edges of their ranges, halves that are nearly full, few birth numbers left, records that are damaged, lack a field or have a replica
-that is not theirs; and the chains of directory_chains.py. A case is a name with the bytes of tests/programs/probe_program.py."""
+that is not theirs; and the chains of tests/cases/directory_chain_cases.py. A case is a name with the bytes of
+tests/programs/probe_program.py."""
 import itertools
 
-from cases.limit_cases import LEAST, TOP, USUAL, changed, edges, lengths, putting, records, ref, set_item, set_word, setting
-from models.directory_model import MARK, MINE, ROOT, Directory
 from cases.directory_chain_cases import DONE, GROUP, LAST_PASSED, PERSON, RINGS, chain, long_chains, named, passed_groups, passes, rings
-from models.record_layout import HEADER, NUMBER, least_list
-from models.free_store import ATTACH, MOST_BIRTHS, SAFE, STEP
-from programs.probe_program import OPEN, ADD, REMOVE, MAKE_GROUP, JOIN, LEAVE, LIST, MOST_LENT, decode, encode
+from cases.limit_cases import LEAST, TOP, USUAL, changed, edges, lengths, putting, records, ref, set_item, set_word, setting
 from cases.replica_cases import changes, is_pair
+from models.directory_model import MARK, MINE, ROOT, Directory
+from models.free_store import ATTACH, MOST_BIRTHS, SAFE, STEP
+from models.record_layout import HEADER, NUMBER, least_list
 from models.store_model import Sapphire
 from models.table_model import LAST
+from programs.probe_program import OPEN, ADD, REMOVE, MAKE_GROUP, JOIN, LEAVE, LIST, MOST_LENT, decode, encode
 
 PHASES = range(13)
 HALF, FEW = 84, 72  # words of a half: of the schools here, and of the few cases that are kept in files
@@ -192,8 +193,8 @@ def heads(store):
 
 
 def replicas():
-    """From phase 5 on each change of tests/cases/replica_cases.py around a record with a replica: all calls around the first entry at the phase's
-    start, or soon after that of phase 5, which has none at its start; around the others, and later, the calls in turn."""
+    """From phase 5 on each change of tests/cases/replica_cases.py around a record with a replica: all calls around the first entry at the
+    phase's start, or soon after that of phase 5, which has none at its start; around the others, and later, the calls in turn."""
     for turn, (phase, again, steps) in enumerate(itertools.product(range(5, 13), (False, True), (0, 3, 11))):
         store = school(phase, steps, again)
         base, early, first = encode(store, OPEN, []), steps == 3 * (phase == 5), store.globals[ROOT]

@@ -1,12 +1,12 @@
 """Directed cases for the probe program: the directory's calls on chains that no run makes. They come back to where they began, are as
 long as both halves can hold, or lead a removal past more groups than a half has words. A case is a name with the bytes of
 tests/programs/probe_program.py."""
+from cases.ample_shares import wide
 from cases.limit_cases import TOP, records, ref
 from models.directory_model import MARK, MINE, ROOT
-from cases.ample_shares import wide
 from models.record_layout import least_list, size
-from programs.probe_program import ADD, REMOVE, MAKE_GROUP, JOIN, LEAVE, LIST, MOST_LENT, encode
 from models.store_model import Sapphire
+from programs.probe_program import ADD, REMOVE, MAKE_GROUP, JOIN, LEAVE, LIST, MOST_LENT, encode
 
 PERSON, GROUP = size(1, 1), size(2, 1)  # words of a person or membership, and of a group
 # calls of which each succeeds on a school of three people and two groups

@@ -1,16 +1,17 @@
 """Random cases of the directory's calls for the probe program: directories by calls at random, in which some words are not what they were,
-and the random records of tests/cases/random_damage.py. Everything is made from a seed, so a case that fails can be made again from its name."""
+and the random records of tests/cases/random_damage.py. Everything is made from a seed, so a case that fails can be made again from its
+name."""
 import random
 
 from cases import random_damage
-from cases.limit_cases import TOP, records
-from models.directory_model import MARK, MINE, ROOT, Directory
+from cases.ample_shares import any_words
 from cases.directory_cases import SCHOOL, heads, school, step, told
 from cases.directory_chain_cases import GROUP, PERSON
-from cases.ample_shares import any_words
+from cases.limit_cases import TOP, records
+from models.directory_model import MARK, MINE, ROOT, Directory
 from models.record_layout import HEADER
-from programs.probe_program import OPEN, ADD, REMOVE, MAKE_GROUP, JOIN, LEAVE, LIST, MOST_LENT, decode, encode
 from models.table_model import LAST
+from programs.probe_program import OPEN, ADD, REMOVE, MAKE_GROUP, JOIN, LEAVE, LIST, MOST_LENT, decode, encode
 
 
 def any_call(rng, most=4):

@@ -3,13 +3,13 @@ edge of a share in every phase, with room and birth numbers and without, beside 
 of tests/programs/probe_program.py."""
 import itertools
 
-from cases.limit_cases import TOP, changed
-from models.directory_model import MINE
 from cases.directory_cases import ALLOCATING, FEW, HALF, PHASES, school
 from cases.directory_chain_cases import DONE, GROUP, PERSON, named
+from cases.limit_cases import TOP, changed
+from cases.share_cases import ACCOUNTS, WORDS, account, around
+from models.directory_model import MINE
 from models.free_store import MOST_BIRTHS
 from programs.probe_program import OPEN, MAKE_GROUP, decode, encode
-from cases.share_cases import ACCOUNTS, WORDS, account, around
 
 
 def opens():

@@ -3,10 +3,10 @@ to meet damage. A case is a name with the bytes of tests/programs/probe_program.
 import itertools
 
 from cases.ample_shares import wide
-from models.record_layout import HEADER, NUMBER, least_list, size, size_of
 from models.free_store import ATTACH, DETACH, SAFE, ALLOCATE, LOAD, STORE, READ, WRITE, MOVE, CLEAR, SAME, GET, PUT, STEP, LINKS
-from programs.probe_program import MAKE, encode
+from models.record_layout import HEADER, NUMBER, least_list, size, size_of
 from models.store_model import BIRTH, COMPANION, LEVELS, STRETCH, Sapphire
+from programs.probe_program import MAKE, encode
 
 TOP = (1 << 32) - 1
 HUGE = (1 << 64) - 1

@@ -2,11 +2,11 @@
 through pair by pair, each planned on the words as the pairs before it have left them and on the words as they came in."""
 import itertools
 
-from models.collector_model import Refused
-from models.record_layout import HEADER
 from cases.link_cases import HAVING
+from models.collector_model import Refused
 from models.free_store import LINKS, MOST_LINKS, pairs_in
 from models.planned_links_model import ALL, Plan, store_planned
+from models.record_layout import HEADER
 from programs.probe_program import ANSWER, CALL, decode, memory
 
 WORDS = ["shape", "colour", "replica word"]

@@ -1,14 +1,15 @@
 """Directed cases for the probe program of the call that stores several links, over sound records: every count, with every other way to be
 refused; every refusal met by any pair, with and without another one behind it; eight links of every kind of record at every level, through
-both copies; a repeated field; a list that a pair fills, or finds full. A case is a name with the bytes of tests/programs/probe_program.py."""
+both copies; a repeated field; a list that a pair fills, or finds full. A case is a name with the bytes of
+tests/programs/probe_program.py."""
 import itertools
 
-from cases.limit_cases import TOP, X, Z, changed, filling, pairs, putting, ref, set_item, set_register, set_word, setting
 from cases.ample_shares import wide
-from models.record_layout import COLOUR, HEADER, REPLICA, least_list, size
+from cases.limit_cases import TOP, X, Z, changed, filling, pairs, putting, ref, set_item, set_register, set_word, setting
 from models.free_store import LINKS, MOST_LINKS
-from programs.probe_program import encode
+from models.record_layout import COLOUR, HEADER, REPLICA, least_list, size
 from models.store_model import BLACK, GREY, LEVELS, WHITE, Sapphire
+from programs.probe_program import encode
 
 # the level of each phase, and before it that of the phase before, which a session keeps until its safe point
 HAVING = sorted({(LEVELS[phase], phase) for phase in range(13)} | {(LEVELS[phase - 1], phase) for phase in range(13)})

@@ -7,13 +7,13 @@ change one header word alone, a replica word of 0, which becomes 1 as the colour
 before, and a record with fields has another shape. So the number of its fields, and with it 13, is the same for every pair."""
 import itertools
 
-from cases.limit_cases import TOP, putting, ref
 from cases.ample_shares import wide
-from models.record_layout import COLOUR, HEADER, REPLICA, least_list
+from cases.limit_cases import TOP, putting, ref
 from cases.link_cases import HAVING, call
 from models.free_store import LINKS
-from programs.probe_program import encode
+from models.record_layout import COLOUR, HEADER, REPLICA, least_list
 from models.store_model import BLACK, Sapphire
+from programs.probe_program import encode
 
 S = 3
 FIELDS, WRITTEN, LATER = 7, 2, 6  # of the holder: how many, the one that the first pair stores in, and the one for the second

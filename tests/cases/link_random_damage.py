@@ -3,17 +3,17 @@ words of other records, so that a pair often depends on those before it. Everyth
 again from its name."""
 import random
 
-from cases.random_damage import any_number
-from cases.limit_cases import TOP, putting, ref
 from cases.ample_shares import scatter
-from models.record_layout import COLOUR, HEADER, REPLICA, least_list, size
+from cases.limit_cases import TOP, putting, ref
 from cases.link_cases import HAVING
-from models.free_store import LINKS
-from programs.probe_program import encode
+from cases.random_damage import any_number
 from cases.replica_cases import is_pair
-from models.store_model import Sapphire
 from cases.scan_cases import any_words
 from cases.scan_overlap_cases import white_there
+from models.free_store import LINKS
+from models.record_layout import COLOUR, HEADER, REPLICA, least_list, size
+from models.store_model import Sapphire
+from programs.probe_program import encode
 
 LENGTHS = [16, 18, 24, 24, 32, 40]
 

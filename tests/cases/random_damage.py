@@ -5,11 +5,11 @@ import random
 
 from cases import ample_shares
 from cases.limit_cases import TOP, edges, putting, ref
-from models.record_layout import HEADER, least_list, size
-from models.free_store import ATTACH, DETACH, SAFE, ALLOCATE, LOAD, STORE, READ, WRITE, MOVE, CLEAR, SAME, GET, PUT, STEP, LINKS, MOST_LINKS
-from programs.probe_program import COUNTS, MAKE, encode
 from cases.replica_cases import changes, is_pair
+from models.free_store import ATTACH, DETACH, SAFE, ALLOCATE, LOAD, STORE, READ, WRITE, MOVE, CLEAR, SAME, GET, PUT, STEP, LINKS, MOST_LINKS
+from models.record_layout import HEADER, least_list, size
 from models.store_model import BIRTH, COMPANION, LEVELS, MOST_BIRTHS, STRETCH, Sapphire
+from programs.probe_program import COUNTS, MAKE, encode
 
 SHAPES = [(0, 0), (1, 0), (0, 1), (1, 1), (1, 1), (2, 1), (1, 2), (2, 2), (3, 2), (0, 4), (5, 5)]
 KINDS = ([STEP] * 16 + [STORE] * 8 + [LINKS] * 6 + [ALLOCATE] * 5 + [BIRTH] * 4 + [WRITE, PUT, SAME, LOAD] * 3

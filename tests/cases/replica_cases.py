@@ -2,13 +2,13 @@
 in which a replica is not the other copy of its record. A case is a name with the bytes of tests/programs/probe_program.py."""
 import itertools
 
+from cases.ample_shares import wide
 from cases.limit_cases import LEVEL_PHASES, TOP, changed, putting, records, ref, set_item, setting
 from mistakes.following_mistakes import place
-from cases.ample_shares import wide
-from models.record_layout import HEADER, NUMBER, size, size_of
 from models.free_store import LOAD, STORE, READ, WRITE, SAME, PUT, STEP, LINKS
-from programs.probe_program import MAKE, ask, decode, encode
+from models.record_layout import HEADER, NUMBER, size, size_of
 from models.store_model import BIRTH, BLACK, COMPANION, GREY, LEVELS, STRETCH, WHITE, Refused, Sapphire
+from programs.probe_program import MAKE, ask, decode, encode
 
 # The records of `stage`, reference and plain fields of each; three of them have two copies. Half 1 begins with one more, so that no
 # record has its copies at the same place.

@@ -5,15 +5,15 @@ a name with the bytes of tests/programs/probe_program.py."""
 import itertools
 import random
 
-from cases.random_damage import any_number, cross
-from cases.limit_cases import TOP, ref
 from cases.ample_shares import scatter
-from models.record_layout import HEADER, least_list, size
-from models.free_store import STEP
-from programs.probe_program import ANSWER, decode, encode
+from cases.limit_cases import TOP, ref
+from cases.random_damage import any_number, cross
 from cases.replica_cases import is_pair
-from models.store_model import Sapphire
 from cases.scan_overlap_cases import SCAN, listed, shared, stage, white_there
+from models.free_store import STEP
+from models.record_layout import HEADER, least_list, size
+from models.store_model import Sapphire
+from programs.probe_program import ANSWER, decode, encode
 
 FLIP = 11  # the phase in which a step forwards the registers of a session
 

@@ -2,8 +2,8 @@
 the store that all cases of tests/cases/scan_cases.py set out from."""
 import itertools
 
-from cases.limit_cases import TOP, putting, ref
 from cases.ample_shares import wide
+from cases.limit_cases import TOP, putting, ref
 from models.record_layout import HEADER, least_list, size_of
 from models.store_model import Refused, Sapphire
 

@@ -3,12 +3,12 @@ room in the list, in every phase in which a session may shade, from phase 5 on w
 that shade beside marks. A case is a name with the bytes of tests/programs/probe_program.py."""
 import itertools
 
-from cases.limit_cases import TOP, changed, putting, ref
 from cases.ample_shares import wide
-from models.record_layout import COLOUR, HEADER
+from cases.limit_cases import TOP, changed, putting, ref
 from models.free_store import ATTACH, DETACH, SAFE, STORE, PUT, STEP
-from programs.probe_program import encode
+from models.record_layout import COLOUR, HEADER
 from models.store_model import LEVELS, Sapphire
+from programs.probe_program import encode
 
 # the records of `stage`, the same in both halves, where each begins, and their end; the holder has two reference fields and a plain one
 WORDS = [[513, 0, 0, 31, 0, 0, 77], [0, 0, 0, 32], [1, 0, 0, 33, 88], [0, 1, 0, 34], [0, 2, 0, 35], [0, 0, 0, 36], [0, 3, 0, 37],

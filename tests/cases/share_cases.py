@@ -3,13 +3,13 @@ or leave it by a word, at every level and in every phase, with room and birth nu
 all charges, and those beside it, which leave them; making. A case is a name with the bytes of tests/programs/probe_program.py."""
 import itertools
 
+from cases.ample_shares import wide
 from cases.birth_cases import ALL_PHASES, FREE
 from cases.limit_cases import END, LEVEL_PHASES, TOP, USED, USUAL, X, Z, changed, pairs, putting, ref, setting
-from cases.ample_shares import wide
-from models.record_layout import COLOUR, least_list, size
 from models.free_store import ALLOCATE, ATTACH, DETACH, SAFE, STEP
-from programs.probe_program import ANSWER, CALL, MAKE, after, decode, encode
+from models.record_layout import COLOUR, least_list, size
 from models.store_model import BLACK, LEVELS, SESSIONS, Sapphire
+from programs.probe_program import ANSWER, CALL, MAKE, after, decode, encode
 
 RECLAIM = 12
 WORDS = [0, 1, 8, 1 << 31, TOP - 1, TOP]  # that a share or a charge may be

@@ -1,11 +1,11 @@
 """Directed cases for the probe program: the stretch and its companion, in either half, on both copies of a record, at every level, with
 few fields and many, and refused. A case is a name with the bytes of tests/programs/probe_program.py."""
-from cases.limit_cases import END, LEVEL_PHASES, TOP, X, Y, filling, pairs, ref, set_item, set_word, small
 from cases.ample_shares import wide
-from models.record_layout import least_list, size
+from cases.limit_cases import END, LEVEL_PHASES, TOP, X, Y, filling, pairs, ref, set_item, set_word, small
 from models.free_store import ATTACH, SAFE, ALLOCATE, STEP
-from programs.probe_program import encode
+from models.record_layout import least_list, size
 from models.store_model import COMPANION, STRETCH, Sapphire
+from programs.probe_program import encode
 
 
 def copies(level):

@@ -1,8 +1,9 @@
 """What the store in Python does with birth numbers where mistakes of tests/mistakes/mistake_names.py are built in."""
-from models.record_layout import NUMBER, size
+from mistakes.mistake_names import (ANSWERS_COUNT, ASKS_BLINDLY, ASKS_FOR_FIELDS, ASKS_REPLICA, COPY_CARRIES, COPY_CLEARS, COUNTED_BOTH,
+                                    ENDS_EARLY, NEVER_ENDS, NUMBERS_FIRST, ROOM_BY_3, SHELL_RENUMBERED, SHELL_UNNUMBERED, UNCOUNTED,
+                                    USED_BY)
 from models.free_store import ALLOCATE, MOST_BIRTHS
-from mistakes.mistake_names import (ANSWERS_COUNT, ASKS_BLINDLY, ASKS_FOR_FIELDS, ASKS_REPLICA, COPY_CARRIES, COPY_CLEARS, COUNTED_BOTH, ENDS_EARLY,
-                   NEVER_ENDS, NUMBERS_FIRST, ROOM_BY_3, SHELL_RENUMBERED, SHELL_UNNUMBERED, UNCOUNTED, USED_BY)
+from models.record_layout import NUMBER, size
 
 ALLOCATING = {NUMBERS_FIRST, ROOM_BY_3, ENDS_EARLY, NEVER_ENDS, UNCOUNTED, COUNTED_BOTH}
 ASKING = {ASKS_FOR_FIELDS, ANSWERS_COUNT, ASKS_BLINDLY, ASKS_REPLICA}

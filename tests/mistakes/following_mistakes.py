@@ -1,11 +1,12 @@
-"""Where the store in Python follows a reference, and the test of its replica with the mistakes of tests/mistakes/mistake_names.py built in."""
-from models.record_layout import HEADER, NUMBER, size_of
+"""Where the store in Python follows a reference, and the test of its replica with the mistakes of tests/mistakes/mistake_names.py built
+in."""
+from mistakes.mistake_names import (BACK_BY_PLACE, BACK_OR_NONE, BACK_SOMEWHERE, BACK_TO_ITSELF, BACK_UNTESTED, COLOUR_UNTESTED,
+                                    COLOURS_COMPARED, FIELDS_COMPARED, FRONTIER_OF_THIS, FRONTIER_UNTESTED, HALF_NOT_CURRENT, HALF_SAME,
+                                    HALF_UNTESTED, HEADER_ALONE, LEFT_BEFORE_5, LEFT_BELOW_3, LEFT_IN_12, LEFT_IN_FROMSPACE,
+                                    LEFT_IN_TOSPACE, LINKS_ALONE, NONE_REFUSED, NUMBERS_COMPARED, PLACES, PLAINS_ALONE, REPLICAS_UNTESTED,
+                                    SHAPE_AT_LEAST, SHAPE_AT_MOST, SHAPE_BY_COLOUR, SHAPE_UNTESTED, SIZE_ALONE, SOUND_UNTESTED)
 from models.free_store import BIRTH, COMPANION, LINKS, LOAD, STORE, READ, WRITE, SAME, PUT, STEP, STRETCH
-from mistakes.mistake_names import (BACK_BY_PLACE, BACK_OR_NONE, BACK_SOMEWHERE, BACK_TO_ITSELF, BACK_UNTESTED, COLOUR_UNTESTED, COLOURS_COMPARED,
-                   FIELDS_COMPARED, FRONTIER_OF_THIS, FRONTIER_UNTESTED, HALF_NOT_CURRENT, HALF_SAME, HALF_UNTESTED, HEADER_ALONE,
-                   LEFT_BEFORE_5, LEFT_BELOW_3, LEFT_IN_12, LEFT_IN_FROMSPACE, LEFT_IN_TOSPACE, LINKS_ALONE, NONE_REFUSED,
-                   NUMBERS_COMPARED, PLACES, PLAINS_ALONE, REPLICAS_UNTESTED, SHAPE_AT_LEAST, SHAPE_AT_MOST, SHAPE_BY_COLOUR,
-                   SHAPE_UNTESTED, SIZE_ALONE, SOUND_UNTESTED)
+from models.record_layout import HEADER, NUMBER, size_of
 
 REPLICA = "replica written"  # a place where no test of replicas is left out: the record that it belongs to has passed
 

@@ -1,7 +1,7 @@
-"""Mistakes that can be built into the store in Python (tests/models/store_model.py), so that the tests can show that they would see them. Each is a
-name. They stand by what shows them, with the test that must see it; all but those that document 01 warns of tests/test_probe.py must see
-in the words too. "Old" is the reference that a store or a put overwrites, "the scan" the step that shades a session's registers, "the old
-test" the one that a reference had to pass before its replica was tested."""
+"""Mistakes that can be built into the store in Python (tests/models/store_model.py), so that the tests can show that they would see them.
+Each is a name. They stand by what shows them, with the test that must see it; all but those that document 01 warns of
+tests/test_probe.py must see in the words too. "Old" is the reference that a store or a put overwrites, "the scan" the step that shades a
+session's registers, "the old test" the one that a reference had to pass before its replica was tested."""
 
 # ---- what a session is answered: tests/test_slips.py
 BLACK_EARLY, WORDS_COMPARED, ALLOCATE_ENDS_EARLY = "black early", "words compared", "allocate ends early"
@@ -9,7 +9,12 @@ WARNED_SLIPS = [BLACK_EARLY, WORDS_COMPARED, ALLOCATE_ENDS_EARLY]  # document 01
 OLD_LEFT, OLD_LEFT_IN_4 = "old not shaded at level 2", "old not shaded at level 2 in phase 4"
 OLD_READ_LATE, STORED_LEFT = "old read after the write", "stored not shaded at level 2"
 MISSED_SLIPS = [OLD_LEFT, OLD_LEFT_IN_4, OLD_READ_LATE, STORED_LEFT]  # marking misses a record that a session can come to
-ANSWER_SLIPS = WARNED_SLIPS + MISSED_SLIPS
+# a store or a put that acts as at another level: the session's level and the other one, with the mistake
+STORED_AS = {levels: "a store at level {} acts as at level {}".format(*levels) for levels in ((5, 4), (6, 4), (5, 6), (6, 5))}
+PUT_AS = {levels: "a put at level {} acts as at level {}".format(*levels) for levels in ((5, 6), (6, 5))}
+LEVEL_SLIPS = [*STORED_AS.values(), *PUT_AS.values()]
+FROMSPACE_SLIP = STORED_AS[6, 5]  # in words alone: a fromspace copy names the other copy of the same record, and every session knows both
+ANSWER_SLIPS = WARNED_SLIPS + MISSED_SLIPS + [slip for slip in LEVEL_SLIPS if slip != FROMSPACE_SLIP]
 
 # ---- another phase after a step, or a lack of room: tests/test_slips.py
 MARKS_CLEARED, ATTACHED_UNSCANNED = "marks cleared by shading", "attached in phase 4 unscanned"
@@ -147,8 +152,8 @@ FREE_LINK_SLIPS = [REVERSED, EXCHANGED, LAST_PAIR_LEFT, BEYOND_COUNT, REPEATED_F
                    COUNT_FIRST, COUNT_LAST, *COUNT_AFTER.values(), NONE_FIRST, *NONE_TESTED.values(), ALL_REGISTERS_FIRST, RECORD_FIRST,
                    FIELDS_FIRST, STORES_STAY, PAIR_PASSED, LAST_REFUSAL, END_STAYS, COLOURS_UNSEEN, SHADED_AGAIN, PLANNED_BLIND]
 
-# ---- several links, in words alone, on damage and with a full list; these and all of the above show in the cases of tests/cases/link_cases.py
-# and tests/cases/link_overlap_cases.py
+# ---- several links, in words alone, on damage and with a full list; these and all of the above show in the cases of
+# tests/cases/link_cases.py and tests/cases/link_overlap_cases.py
 LIST_STAYS, SHADING_STAYS = "list entries stay written by a refused call", "records stay shaded and listed by a refused call"
 END_UNSEEN = "room in the list counted from its end before the call"
 FIELDS_UNSEEN, COPIES_UNSEEN = "stored words not seen by later pairs", "words stored in the replica not seen by later pairs"

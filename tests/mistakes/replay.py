@@ -1,7 +1,7 @@
 """The calls of a run played again on a store with a mistake built in. A run has `entries` and the `store` in Python that it left."""
+from models.store_model import Sapphire
 from programs.explain_tool import need
 from programs.line_checks import faults
-from models.store_model import Sapphire
 
 
 def played(run, slip=None):

@@ -1,10 +1,10 @@
 """What the store in Python does with shares and charges where mistakes of tests/mistakes/mistake_names.py are built in."""
-from models.record_layout import HEADER, size
+from mistakes.mistake_names import (ATTACH_CLEARS, ATTACHED_CLEARED, BOTH_CHARGED, CHARGE_FORGOTTEN, CHARGE_TESTED, CHARGED_BY,
+                                    CHARGES_STAY, CLEARED_AFTER_REST, CLEARED_AT_RECLAIM, CLEARED_WAITING, DETACH_CLEARS, DETACH_UNSHARES,
+                                    HEADER_FREE, MAKING_KEEPS, NEXT_CHARGED, NUMBERS_BEFORE_SHARE, REFUSED_SHARES, ROOM_BEFORE_SHARE,
+                                    SHARE_BEFORE_SHAPE, SHARE_JUST_REFUSED, SHARE_KEPT, SHARE_MODULO, SHELLS_CHARGED)
 from models.free_store import ALLOCATE, ATTACH, share_in
-from mistakes.mistake_names import (ATTACH_CLEARS, ATTACHED_CLEARED, BOTH_CHARGED, CHARGE_FORGOTTEN, CHARGE_TESTED, CHARGED_BY, CHARGES_STAY,
-                   CLEARED_AFTER_REST, CLEARED_AT_RECLAIM, CLEARED_WAITING, DETACH_CLEARS, DETACH_UNSHARES, HEADER_FREE, MAKING_KEEPS,
-                   NEXT_CHARGED, NUMBERS_BEFORE_SHARE, REFUSED_SHARES, ROOM_BEFORE_SHARE, SHARE_BEFORE_SHAPE, SHARE_JUST_REFUSED,
-                   SHARE_KEPT, SHARE_MODULO, SHELLS_CHARGED)
+from models.record_layout import HEADER, size
 
 WORDS = 1 << 32  # a charge is less
 ALREADY = 7      # refusal of an attach

@@ -1,9 +1,8 @@
 """The collector's part of the store in Python (tests/models/store_model.py): what a step does in each phase."""
-from mistakes import share_mistakes
-from mistakes import birth_mistakes
+from mistakes import birth_mistakes, share_mistakes
+from mistakes.mistake_names import (ALLOCATE_ENDS_EARLY, COUNT_RECLAIMED, FIRST_LEFT, IN_TURN, LAST_FIRST, PASSED_OVER, PAST_BY_3,
+                                    RECLAIM_CLEARS, ROOM_FOR_EIGHT, SCAN_ALONE, TESTED_LATE, UNMARKED)
 from models.record_layout import HEADER, NUMBER, size
-from mistakes.mistake_names import (ALLOCATE_ENDS_EARLY, COUNT_RECLAIMED, FIRST_LEFT, IN_TURN, LAST_FIRST, PASSED_OVER, PAST_BY_3, RECLAIM_CLEARS,
-                   ROOM_FOR_EIGHT, SCAN_ALONE, TESTED_LATE, UNMARKED)
 
 PHASES = "Rest PreMark1 PreMark2 RootMark HeapMark Allocate PreCopy Copy PreFlip1 PreFlip2 RootFlip StackFlip Reclaim".split()
 LEVELS = [0, 1, 2, 2, 2, 3, 4, 4, 5, 6, 6, 6, 0]  # of each phase
@@ -19,7 +18,8 @@ class Collector:
     """The steps, by the memory, the numbers and the shading of the store that this is a part of."""
 
     def have_level(self):
-        return all(not a or l == LEVELS[self.phase] for a, l in zip(self.attached, self.level))
+        wanted = LEVELS[self.phase]
+        return all(level == wanted for level, there in zip(self.level, self.attached) if there)
 
     def move_on(self):
         if self.slips & share_mistakes.MOVING:
@@ -42,9 +42,7 @@ class Collector:
         self.field = 0
 
     def _step(self):
-        work = {0: self._rest, 3: self._root_mark, 4: self._heap_mark, 5: self._shells, 7: self._copy, 10: self._root_flip,
-                11: self._stack_flip, 12: self._reclaim}
-        work.get(self.phase, self._handshake)()
+        self.WORK[self.phase](self)
 
     def _handshake(self):
         if self.have_level():
@@ -186,3 +184,7 @@ class Collector:
             self.births = 0
         self.move_on()
         self.collections += 1
+
+    # the unit of each phase, in their order
+    WORK = [_rest, _handshake, _handshake, _root_mark, _heap_mark, _shells, _handshake, _copy, _handshake, _handshake, _root_flip,
+            _stack_flip, _reclaim]

@@ -1,12 +1,13 @@
 """The call that stores several links, for the store in Python: single stores in list order on the store itself and, where one of them is
 refused, all words and numbers as they were. And what it does where mistakes of tests/mistakes/mistake_names.py are built in."""
+from mistakes.mistake_names import (ALL_REGISTERS_FIRST, BEYOND_COUNT, COLOURS_UNSEEN, COPIES_UNSEEN, COUNT_AFTER, COUNT_FIRST, COUNT_LAST,
+                                    EIGHT_REFUSED, END_STAYS, END_UNSEEN, EXCHANGED, FIELDS_FIRST, FIELDS_UNSEEN, LAST_PAIR_LEFT,
+                                    LAST_REFUSAL, LINK_SLIPS, LIST_STAYS, NINE_ALLOWED, NONE_FIRST, NONE_TESTED, OLD_OF_BEFORE, PAIR_PASSED,
+                                    PLANNED_BLIND, RECORD_FIRST, RECORD_ONCE, REPEATED_FIRST, REPEATED_LAST, REVERSED, SHADED_AGAIN,
+                                    SHADING_STAYS, STORES_STAY)
 from models.collector_model import Refused
 from models.free_store import LINKS, MOST_LINKS, pairs_in
 from models.planned_links_model import ALL, COLOUR, COPY, END, HEADER, OLD, OWN, WHITENESS, store_planned
-from mistakes.mistake_names import (ALL_REGISTERS_FIRST, BEYOND_COUNT, COLOURS_UNSEEN, COPIES_UNSEEN, COUNT_AFTER, COUNT_FIRST, COUNT_LAST, EIGHT_REFUSED,
-                   END_STAYS, END_UNSEEN, EXCHANGED, FIELDS_FIRST, FIELDS_UNSEEN, LAST_PAIR_LEFT, LAST_REFUSAL, LINK_SLIPS, LIST_STAYS,
-                   NINE_ALLOWED, NONE_FIRST, NONE_TESTED, OLD_OF_BEFORE, PAIR_PASSED, PLANNED_BLIND, RECORD_FIRST, RECORD_ONCE,
-                   REPEATED_FIRST, REPEATED_LAST, REVERSED, SHADED_AGAIN, SHADING_STAYS, STORES_STAY)
 
 # what later pairs do not see of earlier ones
 UNSEEN = {PLANNED_BLIND: ALL, END_UNSEEN: {END}, FIELDS_UNSEEN: {OWN}, COPIES_UNSEEN: {COPY}, COLOURS_UNSEEN: {COLOUR},

@@ -1,6 +1,7 @@
 """Another way to store several links: every pair is planned before anything is written, on the words as the pairs before it are going to
-leave them. It reads and follows by itself and shares nothing with the rules in tests/models/store_model.py, which write pair after pair and put all
-back where one is refused. `unseen` builds in mistakes: what the later pairs do not see of what the earlier ones are going to do."""
+leave them. It reads and follows by itself and shares nothing with the rules in tests/models/store_model.py, which write pair after pair
+and put all back where one is refused. `unseen` builds in mistakes: what the later pairs do not see of what the earlier ones are going to
+do."""
 from models.collector_model import Refused
 from models.free_store import MOST_LINKS, pairs_in
 

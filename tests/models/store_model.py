@@ -2,25 +2,27 @@
 
 It is the second opinion on what the script program must print, collector steps and allocations without room included, and on what
 a call does to any control record and any words: a store may be set up with numbers out of range, other lengths than those that are
-lent, and damaged memory. `slip` builds in a mistake of tests/mistakes/mistake_names.py, or several together, so that the tests can show that they would
-see it. `most_births` is how many birth numbers there are, which tests may lower. What a collector step does stands in tests/models/collector_model.py,
-the call that stores several links in tests/models/links_model.py.
+lent, and damaged memory. `slip` builds in a mistake of tests/mistakes/mistake_names.py, or several together, so that the tests can show
+that they would see it. `most_births` is how many birth numbers there are, which tests may lower. What a collector step does stands in
+tests/models/collector_model.py, the call that stores several links in tests/models/links_model.py.
 """
-from mistakes import share_mistakes
-from models import links_model
-from mistakes import birth_mistakes
-from models.collector_model import BLACK, GREY, LEVELS, SESSIONS, WHITE, Collector, Refused
+import functools
+
+from mistakes import birth_mistakes, share_mistakes
 from mistakes.following_mistakes import passes
-from models.record_layout import HEADER, NUMBER, least_list, size
-from models.free_store import (ATTACH, DETACH, SAFE, ALLOCATE, LOAD, STORE, READ, WRITE, MOVE, CLEAR, SAME, GET, PUT, STEP, STRETCH, COMPANION, BIRTH,
-                   LINKS, MOST_BIRTHS, share_in)
 from mistakes.mistake_names import (ATTACHED_SCANNED, ATTACHED_UNSCANNED, BLACK_EARLY, COLOUR_THREE, COMPANION_BLIND, COPY_UNNUMBERED,
-                   COUNT_TESTED, DETACH_UNMARKS, FOLLOWING_SLIPS, FULL_LIST_SLIPS, LEVELS_ATTACHED, LIST_BY_3, LISTED_TWICE,
-                   MAKING_COUNTS_ON, MARK_OF_BEFORE, MARKS_CLEARED, NUMBER_TESTED, OLD_AT_1, OLD_IN_4_ALONE, OLD_LEFT, OLD_LEFT_AT_3,
-                   OLD_LEFT_BY_PUT, OLD_LEFT_IN_4, OLD_READ_LATE, OTHER_ORDER, PLACE_IN_HALF, SOUND_BY_3, STORED_LEFT, STRETCH_EARLY,
-                   WORDS_COMPARED)
+                                    COUNT_TESTED, DETACH_UNMARKS, FOLLOWING_SLIPS, FULL_LIST_SLIPS, LEVELS_ATTACHED, LIST_BY_3,
+                                    LISTED_TWICE, MAKING_COUNTS_ON, MARK_OF_BEFORE, MARKS_CLEARED, NUMBER_TESTED, OLD_AT_1, OLD_IN_4_ALONE,
+                                    OLD_LEFT, OLD_LEFT_AT_3, OLD_LEFT_BY_PUT, OLD_LEFT_IN_4, OLD_READ_LATE, OTHER_ORDER, PLACE_IN_HALF,
+                                    PUT_AS, SOUND_BY_3, STORED_AS, STORED_LEFT, STRETCH_EARLY, WORDS_COMPARED)
+from models import links_model
+from models.collector_model import BLACK, GREY, LEVELS, SESSIONS, WHITE, Collector, Refused
+from models.free_store import (ATTACH, DETACH, SAFE, ALLOCATE, LOAD, STORE, READ, WRITE, MOVE, CLEAR, SAME, GET, PUT, STEP, STRETCH,
+                               COMPANION, BIRTH, LINKS, MOST_BIRTHS, share_in)
+from models.record_layout import HEADER, NUMBER, least_list, size
 
 
+@functools.cache
 def refused_lengths(length0, length1, capacity, slips=frozenset()):
     """What making answers to these lengths: 1, 2, 3, or 0."""
     if not (16 <= length0 <= 1048576 and 16 <= length1 <= 1048576):
@@ -140,6 +142,10 @@ class Sapphire(Collector):
 
     def shades_stored(self, level):
         return 1 <= level <= 3 and not (level == 2 and STORED_LEFT in self.slips)
+
+    def acts_as(self, level, others):
+        """The level by which a store or a put goes: that of its session, or another one by a slip."""
+        return next((other for (own, other), slip in others.items() if own == level and slip in self.slips), level)
 
     def marked_when_attached(self, s):
         """Attached in phase 4 a session counts as scanned, in any other phase it does not."""
@@ -347,6 +353,8 @@ class Sapphire(Collector):
         self.need(v, 11)
         r, _ = self.follow(v)
         self.need(i < r, 13)
+        if self.slips:
+            level = self.acts_as(level, STORED_AS)
         shaded = self.barrier(level, self.at(v, HEADER + i), q)
         replica = self.at(v, 2) if level >= 4 else 0
         if replica:
@@ -398,6 +406,8 @@ class Sapphire(Collector):
         self.need(source <= 7, 8)
         self.need(g <= 31, 9)
         q = regs[source]
+        if self.slips:
+            level = self.acts_as(level, PUT_AS)
         shaded = self.barrier(level, self.globals[g], q, by_put=True)
         own = self._own_word(level, 0, q)
         for v in shaded:

@@ -5,15 +5,14 @@ Everything is made from a seed, so a script that fails can be made again from it
 """
 import random
 
-from programs import store_scripts
 from models.directory_model import MINE, ROOT, Directory
-from models.record_layout import HEADER, size
 from models.free_store import ATTACH, SAFE, ALLOCATE, GET, PUT, STEP, WRITE
+from models.record_layout import HEADER, size
 from models.table_model import OPEN, ADD, REMOVE, MAKE, JOIN, LEAVE, LIST, LAST
+from programs import store_scripts
 
 WIDTHS = {OPEN: [], ADD: [4], REMOVE: [4], MAKE: [4], JOIN: [4, 4], LEAVE: [4, 4], LIST: [4, 1]}
-SIZES = {kind: 1 + n + (3 if kind == WRITE else 0) for kind, n in store_scripts.ARGUMENTS.items()}
-SIZES.update({kind: 1 + sum(widths) for kind, widths in WIDTHS.items()})
+SIZES = {**store_scripts.SIZES, **{kind: 1 + sum(widths) for kind, widths in WIDTHS.items()}}
 
 
 # ---- bytes and lines

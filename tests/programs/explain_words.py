@@ -4,9 +4,9 @@ from collections import Counter
 
 from models.collector_model import LEVELS, PHASES
 from models.directory_model import Directory
-from programs.explain_tool import need
 from models.free_store import ATTACH, DETACH, SAFE, ALLOCATE, LOAD, STORE, READ, WRITE, MOVE, CLEAR, SAME, GET, PUT, STEP
 from models.table_model import OPEN, ADD, REMOVE, MAKE, JOIN, LEAVE, LIST
+from programs.explain_tool import need
 
 # the words of each kind, with the order in which they name a script's arguments
 WORDS = [

@@ -45,7 +45,7 @@ def record(store):
     """The control record of a store."""
     numbers = [store.current, *store.length, store.capacity, *store.frontier, store.phase, store.place, store.field, store.head, store.tail,
                *store.globals]
-    for registers, *others in zip(store.registers, store.level, store.share, store.charge, store.attached, store.scanned):
+    for registers, others in zip(store.registers, zip(store.level, store.share, store.charge, store.attached, store.scanned)):
         numbers += registers
         numbers += others
     return RECORD.pack(*numbers, store.births)
@@ -77,19 +77,19 @@ def encode(store, kind, args):
 def decode(case, slip=None):
     """The store, kind and arguments of a case."""
     kind, *rest = CALL.unpack_from(case)
-    lent = rest[4:]
-    numbers = RECORD.unpack_from(case, CALL.size)
-    lent_words = struct.unpack_from(f">{sum(lent)}I", case, MEMORY)
+    length0, length1, capacity = rest[4:]
+    numbers = list(RECORD.unpack_from(case, CALL.size))
+    lent_words = list(struct.unpack_from(f">{length0 + length1 + capacity}I", case, MEMORY))
     store = Sapphire(0, 0, slip)
-    store.current, store.length, store.capacity, store.frontier = numbers[0], list(numbers[1:3]), numbers[3], list(numbers[4:6])
+    store.current, store.length, store.capacity, store.frontier = numbers[0], numbers[1:3], numbers[3], numbers[4:6]
     store.phase, store.place, store.field, store.head, store.tail = numbers[6:11]
-    store.globals, store.births = list(numbers[11:FIRST]), numbers[-1]
+    store.globals, store.births = numbers[11:FIRST], numbers[-1]
     sessions = numbers[FIRST:-1]
-    store.registers = [list(sessions[at:at + 8]) for at in range(0, len(sessions), EACH)]
-    store.level, store.share, store.charge = (list(sessions[at::EACH]) for at in (8, 9, 10))
-    store.attached, store.scanned = ([bool(w) for w in sessions[at::EACH]] for at in (11, 12))
-    store.half = [list(lent_words[:lent[0]]), list(lent_words[lent[0]:lent[0] + lent[1]])]
-    store.list = list(lent_words[lent[0] + lent[1]:])
+    store.registers = [sessions[at:at + 8] for at in range(0, len(sessions), EACH)]
+    store.level, store.share, store.charge = sessions[8::EACH], sessions[9::EACH], sessions[10::EACH]
+    store.attached, store.scanned = list(map(bool, sessions[11::EACH])), list(map(bool, sessions[12::EACH]))
+    store.half = [lent_words[:length0], lent_words[length0:length0 + length1]]
+    store.list = lent_words[length0 + length1:]
     pairs = PAIRS.unpack_from(case, CALL.size + RECORD.size) if kind == LINKS else []
     return store, kind, [*rest[:COUNTS.get(kind, 0)], *pairs]
 

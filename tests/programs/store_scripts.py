@@ -1,13 +1,16 @@
-"""Scripts for the script program: how entries are written, long random scripts, and directed ones for the races of the handshakes.
+"""Scripts for the script program: how entries are written, what must be printed, long random scripts, and directed ones for the races of
+the handshakes.
 
 Everything is made from a seed, so a script that fails can be made again from its name.
 """
 import random
 
 from models.free_store import ATTACH, DETACH, SAFE, ALLOCATE, LOAD, STORE, READ, WRITE, MOVE, CLEAR, SAME, GET, PUT, STEP
+from models.store_model import Sapphire
 
 ARGUMENTS = {ATTACH: 1, DETACH: 1, SAFE: 1, ALLOCATE: 4, LOAD: 4, STORE: 4, READ: 3, WRITE: 4, MOVE: 3, CLEAR: 2, SAME: 3, GET: 3,
              PUT: 3, STEP: 0}
+SIZES = {kind: 1 + n + (3 if kind == WRITE else 0) for kind, n in ARGUMENTS.items()}  # bytes after the length byte
 
 
 def body(kind, args):
@@ -19,6 +22,25 @@ def encode(entries):
     """The bytes of a script: version 1, then for each entry its length byte, kind byte and argument bytes."""
     bodies = (body(kind, args) for kind, args in entries)
     return b"\x01" + b"".join(bytes([len(entry)]) + entry for entry in bodies)
+
+
+def expected(data):
+    """The text that documents 01 and 02 give for these bytes."""
+    if not data or data[0] != 1:
+        return b"0 15 0\n"
+    store, out, at, n = Sapphire(), [], 1, 1
+    while at < len(data):
+        body = data[at + 1:at + 1 + data[at]]
+        if len(body) < data[at] or not body or SIZES.get(body[0]) != len(body):
+            out.append(f"{n} 15 0\n")
+            break
+        kind, args = body[0], list(body[1:])
+        if kind == WRITE:
+            args = args[:3] + [int.from_bytes(body[4:8], "big")]
+        number, value = store.call(kind, args)
+        out.append(f"{n} {number} {value}\n")
+        at, n = at + 1 + len(body), n + 1
+    return "".join(out).encode()
 
 
 # ---- random scripts
@@ -152,6 +174,11 @@ def to_marking(sessions, steps=0):
     return [(STEP, [])] + meeting * 2 + [(STEP, [])] * (33 + steps)
 
 
+def to_level(sessions, level):
+    """From Rest, with few records, until all these sessions have taken a level."""
+    return ([(STEP, [])] * 120 + [(SAFE, [s]) for s in sessions]) * level
+
+
 def new_record_gets_a_white_one(waits):
     """PreMark1 and PreMark2: the session ahead makes a record, the one behind stores a record into it that nothing else names."""
     entries = [(ATTACH, [AHEAD]), (ATTACH, [BEHIND]), (ALLOCATE, [BEHIND, 1, 2, 1]), (WRITE, [BEHIND, 1, 0, 77]), (STEP, [])]
@@ -197,10 +224,7 @@ def sessions_come_and_go(others):
 
 def both_copies_compared(steps):
     """RootFlip and StackFlip: a register names the one copy of a record, a global already the other."""
-    entries = [(ATTACH, [0])] + kept(0, 0, 0, 3) + kept(0, 1, 20, 4)
-    for _ in range(6):
-        entries += [(STEP, [])] * 120 + [(SAFE, [0])]
-    entries += [(STEP, [])] * steps
+    entries = [(ATTACH, [0])] + kept(0, 0, 0, 3) + kept(0, 1, 20, 4) + to_level([0], 6) + [(STEP, [])] * steps
     for _ in range(40):
         entries += [(STEP, []), (GET, [0, 2, 0]), (SAME, [0, 0, 2]), (SAME, [0, 2, 1]), (GET, [0, 3, 20]), (SAME, [0, 1, 3])]
     return entries + finish([0]) + look(0, 0)
@@ -210,9 +234,8 @@ def sessions_come_in_the_flip(steps):
     """StackFlip: so many of twelve sessions have been flipped; the first and the last detach and attach again, and a new one comes."""
     sessions = range(12)
     entries = [(ATTACH, [s]) for s in sessions] + kept(0, 0, 0, 5) + [(GET, [s, 1, 0]) for s in sessions]
-    for _ in range(6):
-        entries += [(STEP, [])] * 120 + [(SAFE, [s]) for s in sessions]
-    entries += [(STEP, [])] * (34 + steps) + [(DETACH, [0]), (DETACH, [11]), (ATTACH, [0]), (ATTACH, [11]), (ATTACH, [15])]
+    entries += to_level(sessions, 6) + [(STEP, [])] * (34 + steps)
+    entries += [(DETACH, [0]), (DETACH, [11]), (ATTACH, [0]), (ATTACH, [11]), (ATTACH, [15])]
     for s in (0, 5, 11, 15):
         entries += [(GET, [s, 2, 0]), (SAME, [s, 1, 2]), (STORE, [s, 2, 0, 2]), (STEP, [])]
     return entries + finish([*sessions, 15]) + look(0, 0)
@@ -227,8 +250,35 @@ def allocates_behind_the_walk(steps):
     return entries + finish([BEHIND, AHEAD]) + look(AHEAD, 0) + look(BEHIND, 1)
 
 
+def stored_ahead_compared_behind(plains):
+    """PreFlip1: the session ahead stores and puts a record; the one behind, who still compares words, loads and gets it."""
+    entries = [(ATTACH, [AHEAD]), (ATTACH, [BEHIND]), (ALLOCATE, [AHEAD, 7, 0, plains])] + kept(AHEAD, 0, 0, 3) + kept(AHEAD, 1, 1, 4)
+    entries += [(GET, [BEHIND, k, k]) for k in (0, 1)] + to_level([AHEAD, BEHIND], 4) + [(STEP, [])] * 120 + [(SAFE, [AHEAD])]
+    entries += [(STORE, [AHEAD, 0, 0, 1]), (LOAD, [BEHIND, 2, 0, 0]), (SAME, [BEHIND, 2, 1])]
+    entries += [(PUT, [AHEAD, 2, 1]), (GET, [BEHIND, 3, 2]), (SAME, [BEHIND, 3, 1])]
+    return entries + finish([AHEAD, BEHIND]) + look(AHEAD, 0)
+
+
+def old_record_in_a_new_one_behind(plains):
+    """PreFlip2: the session ahead makes a record and gets its new copy; the one behind stores in it one of which it has the old copy."""
+    entries = [(ATTACH, [AHEAD]), (ATTACH, [BEHIND]), (ALLOCATE, [BEHIND, 7, 0, plains]), (ALLOCATE, [BEHIND, 1, 2, 1]),
+               (WRITE, [BEHIND, 1, 0, 88])]
+    entries += to_level([AHEAD, BEHIND], 5) + [(STEP, []), (SAFE, [AHEAD])] + kept(AHEAD, 0, 0, 5)
+    entries += [(GET, [BEHIND, 0, 0]), (STORE, [BEHIND, 0, 0, 1]), (STORE, [BEHIND, 1, 0, 0])]
+    return entries + finish([BEHIND, AHEAD]) + look(AHEAD, 0)
+
+
+def old_record_in_a_new_one(globals_flipped):
+    """RootFlip: a session makes a record and gets its new copy, and stores in it one of which it has the old copy, its registers not
+    being flipped yet."""
+    entries = [(ATTACH, [0]), (ALLOCATE, [0, 1, 2, 1]), (WRITE, [0, 1, 0, 99])] + to_level([0], 6)
+    entries += [(STEP, [])] * (1 + globals_flipped) + kept(0, 0, 0, 6) + [(STORE, [0, 0, 0, 1]), (STORE, [0, 1, 0, 0])]
+    return entries + finish([0]) + look(0, 0)
+
+
 RECIPES = [new_record_gets_a_white_one, scanned_session_loads_late, scanned_session_drops_a_link, unscanned_session_stores_and_leaves,
-           sessions_come_and_go, both_copies_compared, sessions_come_in_the_flip, allocates_behind_the_walk]
+           sessions_come_and_go, both_copies_compared, sessions_come_in_the_flip, allocates_behind_the_walk,
+           stored_ahead_compared_behind, old_record_in_a_new_one_behind, old_record_in_a_new_one]
 
 
 def long_scripts():

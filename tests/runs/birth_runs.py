@@ -5,11 +5,11 @@ import random
 from collections import Counter
 
 from cases.limit_cases import records, ref
-from models.record_layout import NUMBER, least_list
-from runs.marking_runs import any_call
 from models.free_store import ALLOCATE, ATTACH, BIRTH, MOST_BIRTHS, OVER_SHARE, SAFE, STEP, Model, fed
-from programs.probe_program import encode
+from models.record_layout import NUMBER, least_list
 from models.store_model import LEVELS, Sapphire
+from programs.probe_program import encode
+from runs.marking_runs import any_call
 
 SHELLS, RECLAIM = 5, 12  # phases
 ROOM, LEFT = 14, 16      # refusals of an allocation: no room, no number left

@@ -2,13 +2,13 @@
 call, the directory's own too, is counted and compared as tests/runs/share_runs.py does."""
 from collections import Counter
 
-from models.directory_model import MINE, Directory
 from cases.directory_cases import table_of
+from models.directory_model import MINE, Directory
+from models.free_store import ALLOCATE, ATTACH, DETACH
+from models.table_model import OPEN, Table, fed
 from programs.directory_scripts import Numbers, is_free
 from programs.explain_tool import need
 from runs.birth_runs import collector_calls, session_call
-from models.free_store import ALLOCATE, ATTACH, DETACH
-from models.table_model import OPEN, Table, fed
 
 SESSIONS = 3  # beside the directory's
 

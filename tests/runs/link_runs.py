@@ -7,12 +7,12 @@ import copy
 import random
 from collections import Counter
 
+from models.free_store import ALLOCATE, ATTACH, LINKS, MOST_LINKS, SAFE, STEP, STORE, Model, fed, pairs_in
 from models.record_layout import least_list, size
+from models.store_model import LEVELS, Sapphire
+from programs.probe_program import encode, given
 from runs.birth_runs import Wrong, collector_calls
 from runs.marking_runs import BESIDE, MARKING, any_call
-from models.free_store import ALLOCATE, ATTACH, LINKS, MOST_LINKS, SAFE, STEP, STORE, Model, fed, pairs_in
-from programs.probe_program import encode, given
-from models.store_model import LEVELS, Sapphire
 
 
 def copied(store):

@@ -4,12 +4,12 @@ The random runs are made from a seed, so one that fails can be made again from i
 """
 import random
 
+from models.free_store import (ATTACH, DETACH, SAFE, ALLOCATE, LOAD, STORE, READ, WRITE, MOVE, CLEAR, SAME, GET, PUT, STEP, LINKS,
+                               MOST_BIRTHS, MOST_LINKS)
+from models.record_layout import least_list, size
+from models.store_model import LEVELS, WHITE, Sapphire
 from programs.explain_tool import need
 from programs.line_checks import faults
-from models.record_layout import least_list, size
-from models.free_store import (ATTACH, DETACH, SAFE, ALLOCATE, LOAD, STORE, READ, WRITE, MOVE, CLEAR, SAME, GET, PUT, STEP, LINKS, MOST_BIRTHS,
-                   MOST_LINKS)
-from models.store_model import LEVELS, WHITE, Sapphire
 
 MARKING, AFTER = 4, 5  # phases
 IMPORT = 15            # the session that loads and drops links; the other fifteen hold nothing

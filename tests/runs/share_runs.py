@@ -6,13 +6,13 @@ what is left of the shares in their place, on to the end of the next Reclaim. Al
 import random
 from collections import Counter
 
+from models.free_store import (ALLOCATE, ATTACH, CLEAR, DETACH, FITTED, MOST_BIRTHS, NO_ROOM, OVER_SHARE, PUT, SAFE, STEP, WHOLE_SHARE,
+                               Model, fed, share_in)
 from models.record_layout import HEADER, least_list, size
-from runs.birth_runs import Wrong, collector_calls, session_call
-from models.free_store import (ALLOCATE, ATTACH, CLEAR, DETACH, FITTED, MOST_BIRTHS, NO_ROOM, OVER_SHARE, PUT, SAFE, STEP, WHOLE_SHARE, Model, fed,
-                   share_in)
-from programs.probe_program import encode
 from models.store_model import SESSIONS, Sapphire
 from models.table_model import NO_NUMBER
+from programs.probe_program import encode
+from runs.birth_runs import Wrong, collector_calls, session_call
 
 REST, RECLAIM = 0, 12  # phases
 CLAIM, STRONGER = "document 02's claim", "the stronger claim"

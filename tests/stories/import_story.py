@@ -1,7 +1,7 @@
 """An import that fills its share beside a secretary, as cases for the probe program: used words and shares are together just a half, and in
 whichever phase the import has taken all it may, the secretary still allocates up to the last word of the half and never meets 14."""
-from models.record_layout import least_list, size
 from models.free_store import ALLOCATE, ATTACH, CLEAR, NO_ROOM, OVER_SHARE, PUT, SAFE, WHOLE_SHARE
+from models.record_layout import least_list, size
 from models.store_model import LEVELS, SESSIONS, Sapphire
 from stories.story import Told
 

@@ -3,10 +3,10 @@ on the record at once and ask for its number in every phase, through both copies
 
 What no run has is done aside, on a copy of the store: a register is set to the copy that no session holds, or the count is set near its
 end."""
-from models.record_layout import NUMBER, least_list
 from models.free_store import ALLOCATE, ATTACH, BIRTH, CLEAR, GET, MOST_BIRTHS, PUT, READ, SAFE, SAME, STEP, WRITE
-from programs.probe_program import MAKE, encode
+from models.record_layout import NUMBER, least_list
 from models.store_model import LEVELS, Sapphire
+from programs.probe_program import MAKE, encode
 from stories.story import Told
 
 OFFICE, IMPORT = 0, 1     # the two sessions

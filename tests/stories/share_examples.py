@@ -1,8 +1,8 @@
 """Examples of shares and charges, worked out by hand from document 02, as cases for the probe program: each a short run from a newly made
 store, with what every call must answer and what share and charge a number must have then."""
 from cases.limit_cases import TOP
-from models.record_layout import least_list, size
 from models.free_store import ALLOCATE, ATTACH, DETACH, PUT, WHOLE_SHARE
+from models.record_layout import least_list, size
 from models.store_model import SESSIONS, Sapphire
 from stories.story import Told
 

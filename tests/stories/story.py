@@ -1,8 +1,8 @@
 """Calls on a store in Python as cases for the probe program, each with the answer that it must have."""
 from cases.limit_cases import changed, setting
 from models.free_store import SAFE, STEP
-from programs.probe_program import decode, encode
 from models.store_model import LEVELS
+from programs.probe_program import decode, encode
 
 
 class Told:

@@ -6,8 +6,8 @@ A session has seven registers beside the one of the timetable, so of eight links
 import itertools
 
 from cases.limit_cases import records
-from models.record_layout import NUMBER, least_list, size
 from models.free_store import ALLOCATE, ATTACH, BIRTH, CLEAR, GET, LINKS, LOAD, MOST_LINKS, PUT, READ, SAFE, STEP, WRITE, Model, fed
+from models.record_layout import NUMBER, least_list, size
 from models.store_model import LEVELS, Sapphire
 from stories.story import Told
 
