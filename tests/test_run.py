@@ -76,9 +76,8 @@ def check_failed(folder):
         made = Made(folder)
         made.test(name, text)
         status, lines, _ = made.run()
-        need(status != 0 and lines[-1] != VERDICT, f"a test that {way}: {status}, {lines[-1:]}")
-        failed = [line for line in lines if line.endswith("FAILED")]
-        need(failed == [f"tests/test_{name}.py: FAILED"], f"a test that {way}: {failed}")
+        need(status == 1 and lines[-1] == f"tests/test_{name}.py: FAILED", f"a test that {way}: {status}, {lines[-1:]}")
+        need(sum(line.endswith("FAILED") for line in lines) == 1, f"beside a test that {way} others are said to have failed")
         others = [n for n in NAMES if n != name]
         need([line for line in lines if line in printed(others)] == printed(others), f"beside a test that {way} others are not printed")
 
@@ -88,7 +87,7 @@ def check_left_alone(folder):
     made = Made(folder)
     made.test("probe", "kill -KILL $PPID")
     status, lines, _ = made.run()
-    need(status != 0 and "tests/test_probe.py: FAILED" in lines and lines[-1] != VERDICT, f"no status: {status}, {lines[-1:]}")
+    need(status == 1 and "tests/test_probe.py: FAILED" in lines and lines[-1] != VERDICT, f"no status: {status}, {lines[-1:]}")
     for name in NAMES:
         failed, ended = f"tests/test_{name}.py: FAILED" in lines, f"ends tests/test_{name}.py" in lines
         need(failed != ended, f"{name} beside a test without status: failed {failed}, ended {ended}")
