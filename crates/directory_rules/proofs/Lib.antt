@@ -2,6 +2,8 @@
 
 -- a closed run that the checker computes
 pub mod Examples
+-- the table of limits
+pub mod Limits
 -- lists
 pub mod Lists
 -- the directory's calls on any store: the claims that hold there

@@ -11,11 +11,13 @@ use Rattle.rules.specs.Control.{Store}
 use Rattle.rules.specs.Phases.{sessionAt}
 use Rattle.rules.specs.Runs.{Call, Attach, Detach, SafePoint, Allocate, Load, StoreRef, StoreLinks, Read, Write, Move, Clear, SameAs, Get, Put, Stretch, Companion, Birth, Step, apply}
 use Rattle.rules.specs.Claims.{Made, allocationNumbers}
+use Rattle.rules.specs.Examples.{Computed}
 use Rattle.rules.specs.declared.Answer.the-variants.{Refused}
 use Rattle.directory_rules.specs.Table.{Request, Open, Add, Remove, Make, Join, Leave, Members, newTable, among, unknown, already, notMember, lentBy}
 use Rattle.directory_rules.specs.Acts.{ownSession, callsMade}
 use Rattle.directory_rules.specs.Directory.{directoryCall, programOn}
 use Rattle.directory_rules.specs.Runs.{Item, allowed, afterItems, directoryRun, feedsOf, tableRun}
+use Rattle.directory_rules.specs.Limits.{limits}
 
 -- ---- in every run
 
@@ -137,3 +139,9 @@ Allocates =
     → (length (allocations (callsMade s (programOn s q))) ≤ allocating q)
     × ((i : ℕ) → getD (allocations (callsMade s (programOn s q))) i 0 ≤ mostFields)
     × (getD (callsMade s (programOn s q)) 0 Step ≡ firstCall q)
+
+-- ---- numbers
+
+-- the numbers and orders that document 02 names: one table with one theorem
+unfoldable pub Limits : Type 0
+Limits = Computed limits

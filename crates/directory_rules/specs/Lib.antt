@@ -8,5 +8,7 @@ pub mod Acts
 pub mod Directory
 -- runs with directory calls, beside the table
 pub mod Runs
+-- the numbers and orders of all of it
+pub mod Limits
 -- what is claimed of all of it
 pub mod Claims

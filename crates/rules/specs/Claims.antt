@@ -14,7 +14,7 @@ use Rattle.rules.specs.Calls.{sessionOf}
 use Rattle.rules.specs.Runs.{Call, Attach, SafePoint, Allocate, StoreRef, StoreLinks, Step, apply, run, after, isSession, isAllocation, sessionCalls, sessionRun, fedBy, feeds, steps, spent}
 use Rattle.rules.specs.Free.{Free, newFree, freeSession, freeRegister, freeSessionOf, freeApply, freeRun}
 use Rattle.rules.specs.Tracking.{Beside, newBeside, beside, Reached, recordsOf, wordsAt}
-use Rattle.rules.specs.Examples.{starred}
+use Rattle.rules.specs.Examples.{Computed, starred}
 use Rattle.rules.specs.Limits.{limits}
 use Rattle.rules.specs.declared.Session.{Session}
 use Rattle.rules.specs.declared.Link.{Link}
@@ -110,11 +110,11 @@ StaysFreed =
 -- ---- 5. Starred examples
 -- "The starred examples are proved of the rules as one table with one theorem"
 unfoldable pub Starred : Type 0
-Starred = map (λ x. x .given) starred ≡ map (λ x. x .expected) starred
+Starred = Computed starred
 
 -- the numbers and orders that the papers name: one table with one theorem too
 unfoldable pub Limits : Type 0
-Limits = map (λ x. x .given) limits ≡ map (λ x. x .expected) limits
+Limits = Computed limits
 
 -- ---- 6. For crates above
 -- What code that makes store calls of its own may go by: the collector-free store after the same calls, in place of the store.

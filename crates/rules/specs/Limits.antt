@@ -6,6 +6,7 @@ use mathlib.Core.List.{List, [], _∷_, _++_, map}
 use lib.ListN.{getD, take, length, replicate}
 use Rattle.rules.specs.Refusals.{refusalOf}
 use Rattle.rules.specs.Memory.{Memory, withFrontier, null, reference, white, grey, black, followed}
+use Rattle.rules.specs.Cycle.{atHeapMark}
 use Rattle.rules.specs.Control.{Store, withMemory, withWalk, withList, withCurrent, withBirths, nobody, newStore}
 use Rattle.rules.specs.Phases.{fromspace, tospace, register, sessionAt, withSession, withRegisters, withLevel, attachedAt}
 use Rattle.rules.specs.Runs.{Call, Attach, Detach, SafePoint, Allocate, Load, StoreRef, StoreLinks, Read, Write, Move, Clear, SameAs, Get, Put, Companion, Birth, Step, apply, after}
@@ -50,9 +51,9 @@ walking s k p =
 unfoldable pub levelled : Store → List ℕ → ℕ → Store
 levelled s vs l = withSession s 0 (withRegisters (attachedAt nobody scriptShare l false) vs)
 
--- level, share, charge and registers of a session
+-- level, share and registers of a session
 abbrev pub sessionWords : Session → List ℕ
-sessionWords x = x .level ∷ x .share ∷ x .charge ∷ x .registers
+sessionWords x = x .level ∷ x .share ∷ x .registers
 
 -- the small store with session 0 so, its registers null
 unfoldable pub opened : ℕ → Store
@@ -64,9 +65,9 @@ three l =
     let s = after (opened 0) (Allocate 0 0 1 0 ∷ Allocate 0 1 0 0 ∷ Allocate 0 2 0 0 ∷ StoreRef 0 0 0 1 ∷ Put 0 0 1 ∷ []) in
     withSession s 0 (withLevel (sessionAt s 0) l)
 
--- the listed records after a call of it
-unfoldable pub listed : Call → ℕ → List ℕ
-listed c l = let s = after (three l) (c ∷ []) in take (s .list .tail) (s .list .words)
+-- the listed records after a call
+unfoldable pub listed : Store → Call → List ℕ
+listed s c = let t = apply s c .store in take (t .list .tail) (t .list .words)
 
 -- a memory with the records 2 and 14, their replicas 3 and 15, and 22 without one. 2 has a reference field, which names 22, and a plain field, 22 a
 -- reference field
@@ -79,9 +80,9 @@ pairs =
       frontier1 = 10;
     }
 
--- session 0 at level l with both copies of each in registers 0 to 3, null in 4, and 22 in 5
+-- session 0 at level l with both copies of each in registers 0 to 3, null in 4, 22 in 5, and in 6 a reference that names nothing
 unfoldable pub paired : ℕ → Store
-paired = levelled (withMemory small pairs) (2 ∷ 3 ∷ 14 ∷ 15 ∷ null ∷ 22 ∷ null ∷ null ∷ [])
+paired = levelled (withMemory small pairs) (2 ∷ 3 ∷ 14 ∷ 15 ∷ null ∷ 22 ∷ 1 ∷ null ∷ [])
 
 -- word k of both halves after a call of it
 unfoldable pub copies : ℕ → Call → ℕ → List ℕ
@@ -216,16 +217,21 @@ callRows =
       given = map (λ n. number (three 0) (StoreLinks 0 0 n (replicate n (record { field = 0; from = 2 })))) (8 ∷ 9 ∷ []);
       expected = 0 ∷ 10 ∷ [];
     }
-    -- "detach (registers null, level 0)"; request [7]: "A share .. stays until its number's next attach", and a charge "across detach and attach"
+    -- "detach (registers null, level 0)"; request [7]: "A share .. stays until its number's next attach"
+    ∷ record { given = sessionWords (sessionAt (after (paired 3) (Detach 0 ∷ [])) 0); expected = 0 ∷ 4294967295 ∷ replicate 8 0 }
+    -- "Place, in order": 4 before 5, 6 before 8; 8 before 9, before 10 and before 11
+    ∷ record { given = number (withWalk small 0 511) (Attach 16 0) ∷ number small (Clear 0 8) ∷ []; expected = 4 ∷ 6 ∷ [] }
     ∷ record {
-      given = sessionWords (sessionAt (after (walking small 0 1) (Attach 0 9 ∷ Allocate 0 0 0 0 ∷ Detach 0 ∷ [])) 0);
-      expected = 0 ∷ 9 ∷ 4 ∷ replicate 8 0;
+      given = map (number (opened 0)) (Get 0 8 32 ∷ Put 0 32 8 ∷ Allocate 0 8 256 0 ∷ Load 0 8 0 0 ∷ StoreRef 0 0 0 8 ∷ []);
+      expected = replicate 5 8;
     }
-    -- the places in order: 4 before 5, 6 before 8, 8 before 9, before 10 and before 11
+    -- 11 before 13, 12 before 13, and 13 before 12 for "other followed references"
     ∷ record {
-      given = number (withWalk small 0 511) (Attach 16 0) ∷ number small (Clear 0 8) ∷ map (number (opened 0)) (Get 0 8 32 ∷ Put 0 32 8 ∷ Allocate 0 8 256 0 ∷ Load 0 8 0 0 ∷ StoreRef 0 0 0 8 ∷ []);
-      expected = 4 ∷ 6 ∷ 8 ∷ 8 ∷ 8 ∷ 8 ∷ 8 ∷ [];
+      given = map (number (paired 1)) (Load 0 0 4 9 ∷ Read 0 4 9 ∷ Load 0 0 6 9 ∷ Read 0 6 9 ∷ StoreRef 0 0 9 6 ∷ StoreRef 0 0 0 6 ∷ []);
+      expected = 11 ∷ 11 ∷ 12 ∷ 12 ∷ 13 ∷ 12 ∷ [];
     }
+    -- the birth number and the stretch's companion: 11, and 12
+    ∷ record { given = map (number (paired 1)) (Birth 0 4 ∷ Birth 0 6 ∷ Companion 0 4 ∷ Companion 0 6 ∷ []); expected = 11 ∷ 12 ∷ 11 ∷ 12 ∷ [] }
     -- 10 before 17, before 14, before 16
     ∷ record {
       given = map (number (withBirths (after small (Attach 0 17 ∷ [])) 4294967295)) (Allocate 0 0 256 0 ∷ Allocate 0 0 14 0 ∷ Allocate 0 0 13 0 ∷ Allocate 0 0 12 0 ∷ []);
@@ -250,6 +256,11 @@ phaseRows =
       given = values (replicate 77 Step);
       expected = 1 ∷ 2 ∷ replicate 33 3 ++ (4 ∷ 5 ∷ 6 ∷ 7 ∷ 8 ∷ 9 ∷ replicate 33 10) ++ (11 ∷ 12 ∷ 0 ∷ []);
     }
+    -- "shade the registers of the lowest unscanned attached session in register order": session 1 holds 20 alone
+    ∷ record {
+      given = listed (walking (withSession (three 2) 1 (withRegisters (attachedAt nobody 0 2 false) (20 ∷ []))) 0 atHeapMark) Step;
+      expected = 2 ∷ 12 ∷ 20 ∷ [];
+    }
     -- "Fromspace is the current half and tospace the other until phase 12; in phase 12 tospace is the current half"
     ∷ record { given = byPhase (λ p. fromspace (walking small 0 p)); expected = replicate 12 0 ++ (1 ∷ []) }
     ∷ record { given = byPhase (λ p. tospace (walking small 0 p)); expected = replicate 12 1 ++ (0 ∷ []) }
@@ -260,16 +271,16 @@ unfoldable pub barrierRows : List Example
 barrierRows =
     -- "1 to 3 first shade the stored record"; request [3]: "Stores and puts at levels 2 and 3 now also shade the reference they overwrite, before the
     -- stored one"
-    record { given = listed (StoreRef 0 0 0 2) 0; expected = [] }
-    ∷ record { given = listed (StoreRef 0 0 0 2) 1; expected = 20 ∷ [] }
-    ∷ record { given = listed (StoreRef 0 0 0 2) 2; expected = 12 ∷ 20 ∷ [] }
-    ∷ record { given = listed (StoreRef 0 0 0 2) 3; expected = 12 ∷ 20 ∷ [] }
-    ∷ record { given = listed (StoreRef 0 0 0 2) 4 ++ listed (StoreRef 0 0 0 2) 5 ++ listed (StoreRef 0 0 0 2) 6; expected = [] }
-    ∷ record { given = listed (Put 0 0 2) 0; expected = [] }
-    ∷ record { given = listed (Put 0 0 2) 1; expected = 20 ∷ [] }
-    ∷ record { given = listed (Put 0 0 2) 2; expected = 12 ∷ 20 ∷ [] }
-    ∷ record { given = listed (Put 0 0 2) 3; expected = 12 ∷ 20 ∷ [] }
-    ∷ record { given = listed (Put 0 0 2) 4 ++ listed (Put 0 0 2) 5 ++ listed (Put 0 0 2) 6; expected = [] }
+    record { given = listed (three 0) (StoreRef 0 0 0 2); expected = [] }
+    ∷ record { given = listed (three 1) (StoreRef 0 0 0 2); expected = 20 ∷ [] }
+    ∷ record { given = listed (three 2) (StoreRef 0 0 0 2); expected = 12 ∷ 20 ∷ [] }
+    ∷ record { given = listed (three 3) (StoreRef 0 0 0 2); expected = 12 ∷ 20 ∷ [] }
+    ∷ record { given = listed (three 4) (StoreRef 0 0 0 2) ++ listed (three 5) (StoreRef 0 0 0 2) ++ listed (three 6) (StoreRef 0 0 0 2); expected = [] }
+    ∷ record { given = listed (three 0) (Put 0 0 2); expected = [] }
+    ∷ record { given = listed (three 1) (Put 0 0 2); expected = 20 ∷ [] }
+    ∷ record { given = listed (three 2) (Put 0 0 2); expected = 12 ∷ 20 ∷ [] }
+    ∷ record { given = listed (three 3) (Put 0 0 2); expected = 12 ∷ 20 ∷ [] }
+    ∷ record { given = listed (three 4) (Put 0 0 2) ++ listed (three 5) (Put 0 0 2) ++ listed (three 6) (Put 0 0 2); expected = [] }
     -- "0 writes the word", as 1 to 3 do: 2 names 14, 15 or null, and 3 what it did
     ∷ record { given = table 0 0 ++ table 0 3; expected = 14 ∷ 22 ∷ 15 ∷ 22 ∷ 0 ∷ 22 ∷ 14 ∷ 22 ∷ 15 ∷ 22 ∷ 0 ∷ 22 ∷ [] }
     -- "4 also writes the forwarded value into the replica"
