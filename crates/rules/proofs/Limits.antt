@@ -1,20 +1,22 @@
 -- The table of limits, computed by the checker group by group.
 use mathlib.Core.Path.{refl}
 use mathlib.Core.List.{map-append}
+use Rattle.rules.specs.Control.{make}
 use Rattle.rules.specs.Script.{kinds, kindOf, callOf}
 use Rattle.rules.specs.Examples.{Computed}
-use Rattle.rules.specs.Limits.{number, value, following, lending, walking, levelled, opened, three, listed, paired, copies, table, grown, lengthRows, recordRows, controlRows, callRows, phaseRows, barrierRows, allocationRows, scriptRows, limits}
+use Rattle.rules.specs.Samples.{number, value, following, lending, walking, reaching, levelled, opened, grown, three, listing, listed, paired, copies, table}
+use Rattle.rules.specs.Limits.{makingRows, recordRows, controlRows, callRows, phaseRows, barrierRows, allocationRows, scriptRows, limits}
 use Rattle.rules.specs.Claims.{Limits}
 use Rattle.rules.proofs.Examples.{rules}
 
 -- opens what the rows look at, and the definitions of the script
 looks : Unit {0}
-unfolding number value following lending walking levelled opened three listed paired copies table grown kinds kindOf callOf rules
+unfolding number value following lending walking reaching levelled opened grown three listing listed paired copies table make kinds kindOf callOf rules
 looks = tt
 
-lengths-hold : Computed lengthRows
-unfolding lengthRows looks
-lengths-hold = refl
+makings-hold : Computed makingRows
+unfolding makingRows looks
+makings-hold = refl
 
 records-hold : Computed recordRows
 unfolding recordRows looks
@@ -46,4 +48,4 @@ scripts-hold = refl
 
 pub limits-hold : Limits
 unfolding Limits limits
-limits-hold = simp (map-append, lengths-hold, records-hold, controls-hold, calls-hold, phases-hold, barriers-hold, allocations-hold, scripts-hold)
+limits-hold = simp (map-append, makings-hold, records-hold, controls-hold, calls-hold, phases-hold, barriers-hold, allocations-hold, scripts-hold)
