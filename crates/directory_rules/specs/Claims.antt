@@ -127,17 +127,13 @@ allocating (Join n g) = 1
 allocating (Leave n g) = 0
 allocating (Members g out) = 0
 
--- "at most three fields"
-abbrev pub mostFields : ℕ
-mostFields = 3
-
 -- "All calls but open start with a safe point; adding, making and joining allocate one record of at most three fields, no others
 -- any"
 unfoldable pub Allocates : Type 0
 Allocates =
     (s : Store) (q : Request)
     → (length (allocations (callsMade s (programOn s q))) ≤ allocating q)
-    × ((i : ℕ) → getD (allocations (callsMade s (programOn s q))) i 0 ≤ mostFields)
+    × ((i : ℕ) → getD (allocations (callsMade s (programOn s q))) i 0 ≤ 3)
     × (getD (callsMade s (programOn s q)) 0 Step ≡ firstCall q)
 
 -- ---- numbers

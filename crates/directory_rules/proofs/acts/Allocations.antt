@@ -9,8 +9,9 @@ use Rattle.rules.specs.Control.{Store}
 use Rattle.rules.specs.Runs.{isAllocation}
 use Rattle.directory_rules.specs.Acts.{Ask, attach, safePoint, allocate, load, store, read, write, move, clear, get, put, callOf, Act, callsMade}
 use Rattle.directory_rules.specs.Directory.{program}
-use Rattle.directory_rules.specs.Claims.{sized, mostFields, allocations, Allocates}
+use Rattle.directory_rules.specs.Claims.{sized, allocations, Allocates}
 use Rattle.directory_rules.proofs.acts.First.{first-call}
+use Rattle.directory_rules.proofs.acts.Careful.{mostFields}
 use Rattle.directory_rules.proofs.acts.Few.{Few, few-stop, few-give, few-ask, few-make, few-program}
 
 sized-none : (c : Ask) (xs : List ℕ) → isAllocation (callOf c) ≡ false → sized (callOf c) xs ≡ xs
