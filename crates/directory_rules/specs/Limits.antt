@@ -1,23 +1,24 @@
 -- Limits: the numbers and orders that document 02 names of the directory, as one table. Each row has what the rules give and what the paper says.
 -- Of a limit it has the last value that passes and the first that doesn't, by the refusal number of a call, which is 0 where it is done.
-use Prim.Native.Nat.{ℕ}
+use Prim.Native.Nat.{ℕ, _/_}
 use mathlib.Core.Bool.{cond}
 use mathlib.Core.List.{List, [], _∷_, _++_, map}
 use lib.ListN.{replicate}
-use Rattle.rules.specs.Refusals.{refusalOf}
+use Rattle.rules.specs.Refusals.{refusalOf, answer}
 use Rattle.rules.specs.Control.{Store, newStore}
 use Rattle.rules.specs.Runs.{Call, Clear, Get, Load, Put, StoreRef}
 use Rattle.rules.specs.Examples.{Example}
+use Rattle.rules.specs.declared.Answer.the-variants.{Refused}
 use Rattle.directory_rules.specs.Table.{Request, Open, Add, Remove, Make, Join, Leave, Members}
-use Rattle.directory_rules.specs.Acts.{perform}
-use Rattle.directory_rules.specs.Directory.{program}
+use Rattle.directory_rules.specs.Acts.{perform, refusedBy}
+use Rattle.directory_rules.specs.Directory.{groupMark, program, fedNumber}
 use Rattle.directory_rules.specs.Runs.{Item, call, request, others, afterItems, directoryRun}
 
 -- ---- what the rows look at
 
 -- a new store with halves of n words
 unfoldable pub empty : ℕ → Store
-empty n = newStore (record { half0 = n; half1 = n; list = n }) (replicate n 0) (replicate n 0) (replicate n 0)
+empty n = newStore (record { half0 = n; half1 = n; list = n / 4 }) (replicate n 0) (replicate n 0) (replicate (n / 4) 0)
 
 -- the refusal numbers of the directory calls among some items, from that store on, and of directory calls one after another
 unfoldable pub numbersAmong : ℕ → List Item → List ℕ
@@ -57,6 +58,7 @@ numberRows =
       given = numbers 16 (Open 99 ∷ Make 2 ∷ Add 100000002 ∷ Remove 100000002 ∷ Join 100000002 2 ∷ Leave 100000002 2 ∷ []);
       expected = 0 ∷ 0 ∷ 23 ∷ 23 ∷ 23 ∷ 23 ∷ [];
     }
+    ∷ record { given = groupMark ∷ []; expected = 100000000 ∷ [] }
     -- "an unknown person or group is refused with 23"
     ∷ record {
       given = numbers 25 (office ++ (Remove 6 ∷ Join 6 2 ∷ Join 7 3 ∷ Leave 6 2 ∷ Leave 7 3 ∷ Members 3 [] ∷ []));
@@ -66,6 +68,12 @@ numberRows =
     ∷ record { given = numbers 25 (office ++ (Join 7 2 ∷ Add 7 ∷ Make 2 ∷ Leave 8 2 ∷ Join 8 2 ∷ [])); expected = replicate 5 0 ++ (24 ∷ 24 ∷ 24 ∷ 25 ∷ 14 ∷ []) }
     -- "Store refusals pass through by number": not attached, attached already, past the share
     ∷ record { given = numbers 16 (Add 7 ∷ Open 6 ∷ Open 6 ∷ Add 7 ∷ Add 8 ∷ Add 7 ∷ Add 100000000 ∷ []); expected = 6 ∷ 0 ∷ 7 ∷ 0 ∷ 17 ∷ 24 ∷ 23 ∷ [] }
+    -- what the table is fed: the number of a refused allocation, 0 where none is refused or made
+    ∷ record {
+      given = fedNumber (empty 16) (Open 6) ∷ map (fedNumber (afterItems (empty 16) (request (Open 6) ∷ []))) (Remove 7 ∷ Add 7 ∷ Make 2 ∷ []);
+      expected = 0 ∷ 0 ∷ 0 ∷ 17 ∷ [];
+    }
+    ∷ record { given = map (λ n. refusedBy (answer (Refused n))) (12 ∷ 13 ∷ 14 ∷ 15 ∷ 16 ∷ 17 ∷ 18 ∷ []); expected = 0 ∷ 0 ∷ 14 ∷ 0 ∷ 16 ∷ 17 ∷ 0 ∷ [] }
     -- "Session 15 and global 31 are the directory's alone"
     ∷ record { given = map (λ x. cond (x .attached) 1 0) (afterItems (empty 16) (request (Open 99) ∷ []) .sessions); expected = replicate 15 0 ++ (1 ∷ []) }
     ∷ record { given = afterItems (empty 16) (map request (Open 99 ∷ Add 7 ∷ [])) .globals; expected = replicate 31 0 ++ (2 ∷ []) }

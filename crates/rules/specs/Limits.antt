@@ -1,7 +1,7 @@
 -- Limits: the numbers and orders that documents 01 and 02 name of the store, as one table. Each row has what the rules give and what the papers
 -- say. Of a limit it has the last value that passes and the first that doesn't, by the refusal number of a call, which is 0 where it is done.
 use Prim.Native.Nat.{ℕ}
-use mathlib.Core.Bool.{false}
+use mathlib.Core.Bool.{false, cond}
 use mathlib.Core.List.{List, [], _∷_, _++_, map}
 use lib.ListN.{getD, take, length, replicate}
 use Rattle.rules.specs.Refusals.{refusalOf}
@@ -12,7 +12,7 @@ use Rattle.rules.specs.Phases.{fromspace, tospace, register, sessionAt, 
 use Rattle.rules.specs.Runs.{Attach, Detach, SafePoint, Allocate, Load, StoreRef, StoreLinks, Read, Write, Clear, SameAs, Get, Put, Companion, Birth, Step, after}
 use Rattle.rules.specs.Script.{kindOf, callOf}
 use Rattle.rules.specs.Examples.{Example, makingOf, small, values}
-use Rattle.rules.specs.Samples.{number, value, stepped, following, threeLengths, lending, walking, reaching, sessionWords, opened, grown, three, listing, listed, paired, copies, table, byLevel, byPhase}
+use Rattle.rules.specs.Samples.{number, value, stepped, following, threeLengths, lending, walking, reaching, waiting, sessionWords, opened, grown, three, listing, listed, paired, copies, table, byLevel, byPhase}
 
 -- ---- the rows, by document 01's headings
 
@@ -158,6 +158,15 @@ phaseRows =
       given = byPhase (λ p. sessionAt (after (walking (opened 6) 0 p) (SafePoint 0 ∷ [])) 0 .level);
       expected = 0 ∷ 1 ∷ 2 ∷ 2 ∷ 2 ∷ 3 ∷ 4 ∷ 4 ∷ 5 ∷ 6 ∷ 6 ∷ 6 ∷ 0 ∷ [];
     }
+    -- "attach (.. unscanned)"; request [3]: "a session attached in phase 4 counts as scanned"
+    ∷ record {
+      given = byPhase (λ p. cond (sessionAt (after (walking small 0 p) (Attach 0 0 ∷ [])) 0 .scanned) 1 0);
+      expected = 0 ∷ 0 ∷ 0 ∷ 0 ∷ 1 ∷ replicate 8 0;
+    }
+    -- "Phases 1, 2, 6, 8, 9: the step moves on if every attached session has the level, else it changes nothing"; so do 5 and 12 at the frontier. The
+    -- phase after a step, with a session at level 3, and at level 0
+    ∷ record { given = byPhase (λ p. value (waiting 3 p) Step); expected = 1 ∷ 1 ∷ 2 ∷ 4 ∷ 5 ∷ 6 ∷ 6 ∷ 8 ∷ 8 ∷ 9 ∷ 11 ∷ 12 ∷ 12 ∷ [] }
+    ∷ record { given = byPhase (λ p. value (waiting 0 p) Step); expected = 1 ∷ 1 ∷ 2 ∷ 4 ∷ 5 ∷ 5 ∷ 6 ∷ 8 ∷ 8 ∷ 9 ∷ 11 ∷ 12 ∷ 0 ∷ [] }
     -- "An empty store without sessions: 77 steps from phase 0 back to 0"
     ∷ record {
       given = values (replicate 77 Step);

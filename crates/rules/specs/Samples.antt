@@ -1,6 +1,6 @@
 -- Small stores, and looks at what calls leave of them: what the rows of Limits.antt are made of.
 use Prim.Native.Nat.{ℕ}
-use mathlib.Core.Bool.{false}
+use mathlib.Core.Bool.{true, false}
 use mathlib.Core.List.{List, [], _∷_, _++_, map}
 use lib.ListN.{getD, take, replicate}
 use Rattle.rules.specs.Refusals.{refusalOf}
@@ -56,6 +56,10 @@ reaching h f = withMemory small (withFrontier (small .memory) h f)
 -- a store whose session 0 is attached at level l, with these registers and the share of a script
 unfoldable pub levelled : Store → List ℕ → ℕ → Store
 levelled s vs l = withSession s 0 (withRegisters (attachedAt nobody scriptShare l false) vs)
+
+-- an empty store in phase p at the end of its walk, with session 0 marked, and attached at level l
+unfoldable pub waiting : ℕ → ℕ → Store
+waiting l p = walking (withSession (lending 40 40 10 40 40 10) 0 (attachedAt nobody 0 l true)) 32 p
 
 -- level, share and registers of a session
 abbrev pub sessionWords : Session → List ℕ
