@@ -2,6 +2,8 @@
 
 -- closed runs that the checker computes
 pub mod Examples
+-- the table of limits
+pub mod Limits
 -- one with a whole collection after a removal
 pub mod Collected
 -- lists

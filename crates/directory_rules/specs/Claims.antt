@@ -11,11 +11,13 @@ use Rattle.rules.specs.Control.{Store}
 use Rattle.rules.specs.Phases.{sessionAt}
 use Rattle.rules.specs.Runs.{Call, Attach, Detach, SafePoint, Allocate, Load, StoreRef, StoreLinks, Read, Write, Move, Clear, SameAs, Get, Put, Stretch, Companion, Birth, Step, apply}
 use Rattle.rules.specs.Claims.{Made, allocationNumbers}
+use Rattle.rules.specs.Examples.{Computed}
 use Rattle.rules.specs.declared.Answer.the-variants.{Refused}
 use Rattle.directory_rules.specs.Table.{Request, Open, Add, Remove, Make, Join, Leave, Members, newTable, among, unknown, already, notMember, lentBy}
 use Rattle.directory_rules.specs.Acts.{ownSession, perform, callsMade}
 use Rattle.directory_rules.specs.Directory.{directoryCall, programOn}
 use Rattle.directory_rules.specs.Runs.{Item, allowed, afterItems, directoryRun, feedsOf, tableRun}
+use Rattle.directory_rules.specs.Limits.{limits}
 
 -- ---- in every run
 
@@ -129,10 +131,6 @@ allocating (Join n g) = 1
 allocating (Leave n g) = 0
 allocating (Members g out) = 0
 
--- "at most three fields"
-abbrev pub mostFields : ℕ
-mostFields = 3
-
 -- "All calls but open start with a safe point; adding, making and joining allocate one record of at most three fields, no others
 -- any": exactly one where they are done, and no more where they are refused
 unfoldable pub Allocates : Type 0
@@ -140,5 +138,11 @@ Allocates =
     (s : Store) (q : Request)
     → (length (allocations (callsMade s (programOn s q))) ≤ allocating q)
     × (directoryCall s q .given .number ≡ 0 → length (allocations (callsMade s (programOn s q))) ≡ allocating q)
-    × ((i : ℕ) → getD (allocations (callsMade s (programOn s q))) i 0 ≤ mostFields)
+    × ((i : ℕ) → getD (allocations (callsMade s (programOn s q))) i 0 ≤ 3)
     × (getD (callsMade s (programOn s q)) 0 Step ≡ firstCall q)
+
+-- ---- numbers
+
+-- the numbers and orders that document 02 names: one table with one theorem
+unfoldable pub Limits : Type 0
+Limits = Computed limits

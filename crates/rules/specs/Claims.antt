@@ -11,11 +11,12 @@ use Rattle.rules.specs.Cycle.{atRest, atHeapMark, atReclaim}
 use Rattle.rules.specs.Control.{Store, make, inRange, sessionCount}
 use Rattle.rules.specs.Phases.{otherHalf, sessionAt}
 use Rattle.rules.specs.Barriers.{allocationRoom}
-use Rattle.rules.specs.Calls.{sessionOf, mostLinks}
+use Rattle.rules.specs.Calls.{sessionOf}
 use Rattle.rules.specs.Runs.{Call, Attach, SafePoint, Allocate, StoreRef, StoreLinks, Step, apply, run, after, isSession, isAllocation, sessionCalls, sessionRun, fedBy, feeds, steps, spent}
 use Rattle.rules.specs.Free.{Free, newFree, freeSession, freeRegister, freeSessionOf, freeApply, freeRun}
 use Rattle.rules.specs.Tracking.{Beside, newBeside, beside, Reached, recordsOf, wordsAt}
-use Rattle.rules.specs.Examples.{starred}
+use Rattle.rules.specs.Examples.{Computed, starred}
+use Rattle.rules.specs.Limits.{limits}
 use Rattle.rules.specs.declared.Session.{Session}
 use Rattle.rules.specs.declared.Link.{Link}
 use Rattle.rules.specs.declared.Answer.the-variants.{Refused, Done}
@@ -110,7 +111,11 @@ StaysFreed =
 -- ---- 5. Starred examples
 -- "The starred examples are proved of the rules as one table with one theorem"
 unfoldable pub Starred : Type 0
-Starred = map (λ x. x .given) starred ≡ map (λ x. x .expected) starred
+Starred = Computed starred
+
+-- the numbers and orders that the papers name: one table with one theorem too
+unfoldable pub Limits : Type 0
+Limits = Computed limits
 
 -- ---- 6. For crates above
 -- What code that makes store calls of its own may go by: the collector-free store after the same calls, in place of the store.
@@ -373,14 +378,14 @@ unfoldable pub LinksCounted : Type 0
 LinksCounted =
     (s : Store) (n k count : ℕ) (xs : List Link)
     → ((r : ℕ) → sessionOf s n ≡ refused r → apply s (StoreLinks n k count xs) .reply ≡ answer (Refused r))
-    × (sessionOf s n ≡ passed (sessionAt s n) → mostLinks < count → apply s (StoreLinks n k count xs) .reply ≡ answer (Refused 10))
+    × (sessionOf s n ≡ passed (sessionAt s n) → 8 < count → apply s (StoreLinks n k count xs) .reply ≡ answer (Refused 10))
     × (sessionOf s n ≡ passed (sessionAt s n) → apply s (StoreLinks n k 0 xs) ≡ record { store = s; reply = answer Done })
 
 -- "Otherwise the refusal is the first that a single store, in list order, would meet, the pairs before it done": on every store the answer is that of
 -- the single stores made one after another, each on what those before it left, up to the first refusal
 unfoldable pub LinksAnswer : Type 0
 LinksAnswer =
-    (s : Store) (n k count : ℕ) (xs : List Link) → sessionOf s n ≡ passed (sessionAt s n) → count ≤ mostLinks
+    (s : Store) (n k count : ℕ) (xs : List Link) → sessionOf s n ≡ passed (sessionAt s n) → count ≤ 8
     → apply s (StoreLinks n k count xs) .reply ≡ firstRefusal (run s (singleStores n k (take count xs)))
 
 -- "stores all or none; the result is that of single stores in list order, a repeated field included": on every store, where the call is done. Where

@@ -13,11 +13,11 @@ use Rattle.rules.specs.declared.Answer.the-variants.{Refused}
 use Rattle.directory_rules.specs.Table.{Request, Given}
 use Rattle.directory_rules.specs.Acts.{Ask, attach, safePoint, allocate, load, store, read, write, move, clear, get, put, callOf, Act, perform, callsMade}
 use Rattle.directory_rules.specs.Directory.{firstAsk, inner, program, programOn, givenOf, directoryCall}
-use Rattle.directory_rules.specs.Claims.{sized, mostFields, allocations, allocating, firstCall, Allocates, ZeroIsDone}
+use Rattle.directory_rules.specs.Claims.{sized, allocations, allocating, firstCall, Allocates, ZeroIsDone}
 use Rattle.directory_rules.proofs.acts.First.{first-call}
 use Rattle.directory_rules.proofs.acts.Registers.{no-allocation}
 use Rattle.directory_rules.proofs.acts.Replies.{Fits, fits-some, ReplyFits, refusal, other, or-stop-either, early-fits}
-use Rattle.directory_rules.proofs.acts.Careful.{Steady, Careful, fails, looks, makes, late, never-refused, careful-number}
+use Rattle.directory_rules.proofs.acts.Careful.{mostFields, Steady, Careful, fails, looks, makes, late, never-refused, careful-number}
 use Rattle.directory_rules.proofs.acts.Tests.{careful-inner}
 use Rattle.directory_rules.proofs.acts.Few.{Few, few-stop, few-give, few-ask, few-make, steady-few, first-none, few-program}
 

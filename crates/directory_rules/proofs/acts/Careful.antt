@@ -8,7 +8,7 @@ use Rattle.rules.specs.Control.{Store}
 use Rattle.rules.specs.Runs.{apply}
 use Rattle.rules.specs.declared.Answer.the-variants.{Refused}
 use Rattle.directory_rules.specs.Acts.{Ask, allocate, clear, callOf, Act, stop, give, ask, _>>=_, demand, orStop, clearing, ending, Performed, perform}
-use Rattle.directory_rules.specs.Claims.{byTests, mostFields}
+use Rattle.directory_rules.specs.Claims.{byTests}
 use Rattle.directory_rules.proofs.acts.First.{ask-keeps}
 use Rattle.directory_rules.proofs.acts.Registers.{OnlyRegisters, only-same, only-then, may, early-only, no-allocation}
 use Rattle.directory_rules.proofs.acts.Replies.{Fits, fits-some, fits-late, ReplyFits, refusal, other, or-stop-other, early-fits, late-fits}
@@ -18,6 +18,10 @@ pub data Steady (late : Bool) {A : Type 0} : Act A → Type 0 where
   stops : (n : ℕ) → Fits late n → Steady late (stop n)
   gives : (a : A) → Steady late (give a)
   asks : (c : Ask) {f : Reply → Act A} → may late c ≡ true → ((r : Reply) → ReplyFits late r → Steady late (f r)) → Steady late (ask c f)
+
+-- "at most three fields"
+abbrev pub mostFields : ℕ
+mostFields = 3
 
 -- an act that goes from the one to the other, making n allocations, each of at most `mostFields` fields, or fewer where it is refused
 pub data Careful {A : Type 0} : ℕ → Act A → Type 0 where

@@ -9,10 +9,10 @@ use Rattle.rules.specs.declared.Answer.the-variants.{Refused}
 use Rattle.directory_rules.specs.Table.{Request, Open, Add, Remove, Make, Join, Leave, Members}
 use Rattle.directory_rules.specs.Acts.{Ask, allocate, callOf, Act, stop, give, ask}
 use Rattle.directory_rules.specs.Directory.{firstAsk, inner, program}
-use Rattle.directory_rules.specs.Claims.{mostFields, allocating}
+use Rattle.directory_rules.specs.Claims.{allocating}
 use Rattle.directory_rules.proofs.acts.Registers.{no-allocation}
 use Rattle.directory_rules.proofs.acts.Replies.{Fits, ReplyFits, refusal, other, or-stop-either, early-fits, late-fits}
-use Rattle.directory_rules.proofs.acts.Careful.{Steady, stops, gives, asks, Careful, fails, looks, makes, late}
+use Rattle.directory_rules.proofs.acts.Careful.{mostFields, Steady, stops, gives, asks, Careful, fails, looks, makes, late}
 use Rattle.directory_rules.proofs.acts.Tests.{careful-inner}
 
 -- an act that makes on s at most n allocations, each of at most `mostFields` fields
