@@ -13,7 +13,7 @@ from programs.store_scripts import ARGUMENTS, encode, expected, finish, kept, lo
 
 STACK, DIRECTORY_STACK, LOAD_STACK = 96 * 1024, 120 * 1024, 32 * 1024
 HALVES = 2 * 4096 * 4
-BUFFERS = 2 * 4096  # of the load program: its own, and that of the kit's call which reads or writes
+BUFFER = 4096  # of the load program
 RECORDS = 4096 // size(2, 1)  # of `kept`, which a half has room for
 SESSIONS = list(range(16))
 
@@ -79,7 +79,7 @@ def main():
     directory_program()
     load_program()
     for data, path, least in ((b"\x01", built_programs.PROGRAM, HALVES), (b"\x02", built_programs.DIRECTORY, HALVES),
-                              (load_model.asked(1, 5), built_programs.WORKLOAD, BUFFERS)):
+                              (load_model.asked(1, 5), built_programs.WORKLOAD, BUFFER)):
         if built_programs.run(data, least, path).returncode == 0:
             sys.exit(f"test_stack: {path} runs with {least // 1024} KB of stack, so the limit is not kept")
 

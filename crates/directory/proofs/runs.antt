@@ -4,3 +4,5 @@
 pub mod Runs
 -- the contract of each function is its case of a run
 pub mod Contracts
+-- what is claimed of them beside their answers
+pub mod Claims

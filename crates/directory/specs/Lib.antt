@@ -4,3 +4,5 @@ pub mod View
 pub mod Parts
 -- Runs of the code with directory calls, and the claim about them.
 pub mod CodeRuns
+-- What is claimed of such runs beside their answers.
+pub mod CodeClaims

@@ -49,7 +49,7 @@ fn fetch(input: &mut [u8], at: usize, filled: usize) -> Window
         return Window { at, filled };
     }
     let kept = script::keep(input, at, filled);
-    let got = io::read_full(STDIN_FILENO, &mut input[kept..]);
+    let got = streams::read_full(STDIN_FILENO, &mut input[kept..]);
     Window {
         at: 0,
         filled: kept + got,
@@ -60,7 +60,7 @@ fn fetch(input: &mut [u8], at: usize, filled: usize) -> Window
 fn write_out(out: &[u8], end: usize) -> bool
     requires { ⌜ end ≤ length (now out) ⌝ }
 {
-    io::write_all(STDOUT_FILENO, &out[..end])
+    streams::write_all(STDOUT_FILENO, &out[..end])
 }
 
 // Writes the output so far where a line may not fit after it.
@@ -126,7 +126,7 @@ fn main() {
     let mut list = [0u32; 1365];
     let mut input = io::buffer();
     let mut out = io::buffer();
-    let filled = io::read_full(STDIN_FILENO, &mut input);
+    let filled = streams::read_full(STDIN_FILENO, &mut input);
     if entries::is_version(&input[..filled]) {
         run(
             &mut half0,

@@ -5,8 +5,6 @@ use mathlib.Core.Path.{_≡_, refl}
 use mathlib.Core.List.{List, [], _∷_, _++_, map}
 use lib.ListN.{replicate}
 use Rattle.rules.specs.Control.{Store, newStore, withBirths}
-use Rattle.rules.specs.Barriers.{putWrites}
-use Rattle.rules.specs.Calls as calls
 use Rattle.rules.specs.Runs.{Step}
 use Rattle.rules.specs.Script.{scriptShare}
 use Rattle.rules.proofs.Examples.{rules}
@@ -42,17 +40,17 @@ answers =
     ++ (listed 2 (7 ∷ 3 ∷ 1 ∷ []) ∷ listed 2 (7 ∷ []) ∷ only 0 ∷ listed 1 (3 ∷ []) ∷ [])
     ++ map only (23 ∷ 0 ∷ 0 ∷ 0 ∷ 0 ∷ 14 ∷ [])
 
--- opens every definition that the run computes with
-unfoldable directory : Unit {0}
-unfolding rules putWrites calls.get calls.putPlan calls.putCommit calls.put calls.move directoryCall fedNumber program append adding making grouping pairing joining leaving removing listing entries members tableNext known box requests items only listed answers
+-- opens every definition that a closed run of the directory computes with
+unfoldable pub directory : Unit {0}
+unfolding rules directoryCall fedNumber program append adding making grouping pairing joining leaving removing listing entries members tableNext known
 directory = tt
 
 directory-example : directoryRun box (items requests) ≡ answers
-unfolding directory
+unfolding directory box requests items only listed answers
 directory-example = refl
 
 table-example : tableRun newTable (feedsOf box (items requests)) ≡ answers
-unfolding directory
+unfolding directory box requests items only listed answers
 table-example = refl
 
 -- ---- one birth number left: the store's 16 passes through, and the table is as before
@@ -67,11 +65,11 @@ refusals : List Given
 refusals = map only (0 ∷ 0 ∷ 16 ∷ 16 ∷ 24 ∷ 23 ∷ 0 ∷ 16 ∷ [])
 
 directory-numbers : directoryRun lastOf (items fewer) ≡ refusals
-unfolding directory lastOf fewer refusals
+unfolding directory box items only lastOf fewer refusals
 directory-numbers = refl
 
 table-numbers : tableRun newTable (feedsOf lastOf (items fewer)) ≡ refusals
-unfolding directory lastOf fewer refusals
+unfolding directory box items only lastOf fewer refusals
 table-numbers = refl
 
 -- ---- a share of 19 words, three records: the store's 17 passes through, and the table is as before
@@ -83,9 +81,9 @@ narrowed : List Given
 narrowed = map only (0 ∷ 7 ∷ 0 ∷ 0 ∷ 0 ∷ 17 ∷ 17 ∷ 24 ∷ 0 ∷ 17 ∷ 24 ∷ [])
 
 directory-shares : directoryRun box (items narrow) ≡ narrowed
-unfolding directory narrow narrowed
+unfolding directory box items only narrow narrowed
 directory-shares = refl
 
 table-shares : tableRun newTable (feedsOf box (items narrow)) ≡ narrowed
-unfolding directory narrow narrowed
+unfolding directory box items only narrow narrowed
 table-shares = refl

@@ -1,7 +1,11 @@
 -- The claims of specs/Claims.antt.
 
--- a closed run that the checker computes
+-- closed runs that the checker computes
 pub mod Examples
+-- the table of limits
+pub mod Limits
+-- one with a whole collection after a removal
+pub mod Collected
 -- lists
 pub mod Lists
 -- the directory's calls on any store: the claims that hold there

@@ -1,8 +1,13 @@
--- Lists: mapped alike, with an element set or added, and cut at one of their elements.
-use Prim.Native.Nat.{ℕ, zero, suc}
-use mathlib.Core.Path.{_≡_, refl, ap}
+-- Lists: mapped alike, with an element set or added, with each number once, and cut at one of their elements.
+use Prim.Native.Nat.{ℕ, zero, suc, _+_, _-_, _≤_, _<_}
+use mathlib.Core.Path.{_≡_, refl, sym, ap, _∙_}
 use mathlib.Core.List.{List, [], _∷_, _++_, map, List·Memᴰ, List·Memᴰ·head, List·Memᴰ·tail, Memᴰ·append-right}
-use lib.ListN.{getD, set, take}
+use native.Mathlib.Nat.{not-suc-le-zero}
+use native.Mathlib.Omega.{arith}
+use lib.ListN.{getD, set, take, length, length-append, List·getD-append}
+use lib.Seq.{getD-append-add}
+use Rattle.rules.proofs.memory.Cases.{lt-or}
+use Rattle.rules.proofs.runs.LiveFits.{Once}
 
 pub map-same : {A B : Type 0} {g h : A → B} (xs : List A) → ((x : A) → List·Memᴰ x xs → g x ≡ h x) → map g xs ≡ map h xs
 map-same [] e = refl
@@ -28,6 +33,37 @@ module _ {A : Type 0} (P : A → Type 0) where
   append-holds [] a d (suc j) new old = old
   append-holds (x ∷ xs) a d zero new old = old
   append-holds (x ∷ xs) a d (suc j) new old = append-holds xs a d j new old
+
+-- ---- lists that hold each number once
+
+mem-at : (xs : List ℕ) (i : ℕ) → i < length xs → List·Memᴰ (getD xs i 0) xs
+mem-at [] i l = absurd (not-suc-le-zero l)
+mem-at (x ∷ xs) zero l = List·Memᴰ·head refl
+mem-at (x ∷ xs) (suc i) l = List·Memᴰ·tail (mem-at xs i (omega arith))
+
+module _ (xs ys : List ℕ) where
+  at-first : (i : ℕ) → i < length xs → getD (xs ++ ys) i 0 ≡ getD xs i 0
+  at-first i l = List·getD-append xs ys 0 i l
+
+  at-second : (i : ℕ) → length xs ≤ i → getD (xs ++ ys) i 0 ≡ getD ys (i - length xs) 0
+  at-second i l =
+      let e : length xs + (i - length xs) ≡ i = omega arith in
+      ap (λ (k : ℕ). getD (xs ++ ys) k 0) (sym e) ∙ getD-append-add xs ys (i - length xs) 0
+
+  -- two such lists with no number in both
+  pub once-both : Once xs → Once ys → ((q : ℕ) → List·Memᴰ q xs → List·Memᴰ q ys → ⊥) → Once (xs ++ ys)
+  once-both a b away i j li lj e =
+      let n = length-append xs ys in
+      let second : (k : ℕ) → k < length (xs ++ ys) → length xs ≤ k → k - length xs < length ys = λ k l m. omega (arith, n) in
+      let crossed : (k m : ℕ) → k < length xs → length xs ≤ m → m < length (xs ++ ys) → getD (xs ++ ys) k 0 ≡ getD (xs ++ ys) m 0 → ⊥ =
+      λ k m l r s z. away (getD xs k 0) (mem-at xs k l) (rw (sym (at-first k l) ∙ z ∙ at-second m r) (mem-at ys (m - length xs) (second m s r))) in
+      lt-or i (length xs)
+      (λ p. lt-or j (length xs)
+      (λ q. a i j p q (sym (at-first i p) ∙ e ∙ at-first j q))
+      (λ q. absurd (crossed i j p q lj e)))
+      (λ p. lt-or j (length xs)
+      (λ q. absurd (crossed j i q p li (sym e)))
+      (λ q. let z = b (i - length xs) (j - length xs) (second i li p) (second j lj q) (sym (at-second i p) ∙ e ∙ at-second j q) in omega arith))
 
 -- ---- a list cut at one of its elements
 

@@ -24,3 +24,5 @@ pub mod Written
 pub mod Growing
 -- a link or a person less
 pub mod Cutting
+-- all records of the chains together
+pub mod Holding

@@ -18,3 +18,7 @@ pub mod Start
 pub mod Run
 -- a refused call has done its safe point and no more
 pub mod SafePoint
+-- the store's claims of runs with directory calls
+pub mod StoreClaims
+-- what the directory holds along a run
+pub mod Holding

@@ -5,17 +5,19 @@ use mathlib.Core.Logic.{_≢_}
 use mathlib.Core.Bool.{Bool, true}
 use mathlib.Core.List.{List, [], _∷_}
 use lib.ListN.{getD, drop, length}
-use Rattle.rules.specs.Refusals.{answer}
+use Rattle.rules.specs.Refusals.{refused, answer}
 use Rattle.rules.specs.Memory.{null}
 use Rattle.rules.specs.Control.{Store}
 use Rattle.rules.specs.Phases.{sessionAt}
 use Rattle.rules.specs.Runs.{Call, Attach, Detach, SafePoint, Allocate, Load, StoreRef, StoreLinks, Read, Write, Move, Clear, SameAs, Get, Put, Stretch, Companion, Birth, Step, apply}
 use Rattle.rules.specs.Claims.{Made, allocationNumbers}
+use Rattle.rules.specs.Examples.{Computed}
 use Rattle.rules.specs.declared.Answer.the-variants.{Refused}
 use Rattle.directory_rules.specs.Table.{Request, Open, Add, Remove, Make, Join, Leave, Members, newTable, among, unknown, already, notMember, lentBy}
-use Rattle.directory_rules.specs.Acts.{ownSession, callsMade}
+use Rattle.directory_rules.specs.Acts.{ownSession, perform, callsMade}
 use Rattle.directory_rules.specs.Directory.{directoryCall, programOn}
 use Rattle.directory_rules.specs.Runs.{Item, allowed, afterItems, directoryRun, feedsOf, tableRun}
+use Rattle.directory_rules.specs.Limits.{limits}
 
 -- ---- in every run
 
@@ -51,6 +53,10 @@ LentKept =
     → (directoryCall s q .given .number ≢ 0 → (directoryCall s q .given .count ≡ 0) × (directoryCall s q .given .words ≡ lentBy q))
     × (drop (directoryCall s q .given .count) (directoryCall s q .given .words) ≡ drop (directoryCall s q .given .count) (lentBy q))
     × (length (directoryCall s q .given .words) ≡ length (lentBy q))
+
+-- 0 is the answer of a call that is done, and of no other
+unfoldable pub ZeroIsDone : Type 0
+ZeroIsDone = (s : Store) (q : Request) (n : ℕ) → perform s (programOn s q) .result ≡ refused n → n ≢ 0
 
 -- the first store call of a directory call
 abbrev pub firstCall : Request → Call
@@ -115,7 +121,7 @@ abbrev pub allocations : List Call → List ℕ
 allocations [] = []
 allocations (c ∷ cs) = sized c (allocations cs)
 
--- how many allocations a call makes at most
+-- how many allocations a call makes that is done
 abbrev pub allocating : Request → ℕ
 allocating (Open share) = 0
 allocating (Add n) = 1
@@ -125,15 +131,18 @@ allocating (Join n g) = 1
 allocating (Leave n g) = 0
 allocating (Members g out) = 0
 
--- "at most three fields"
-abbrev pub mostFields : ℕ
-mostFields = 3
-
 -- "All calls but open start with a safe point; adding, making and joining allocate one record of at most three fields, no others
--- any"
+-- any": exactly one where they are done, and no more where they are refused
 unfoldable pub Allocates : Type 0
 Allocates =
     (s : Store) (q : Request)
     → (length (allocations (callsMade s (programOn s q))) ≤ allocating q)
-    × ((i : ℕ) → getD (allocations (callsMade s (programOn s q))) i 0 ≤ mostFields)
+    × (directoryCall s q .given .number ≡ 0 → length (allocations (callsMade s (programOn s q))) ≡ allocating q)
+    × ((i : ℕ) → getD (allocations (callsMade s (programOn s q))) i 0 ≤ 3)
     × (getD (callsMade s (programOn s q)) 0 Step ≡ firstCall q)
+
+-- ---- numbers
+
+-- the numbers and orders that document 02 names: one table with one theorem
+unfoldable pub Limits : Type 0
+Limits = Computed limits

@@ -8,5 +8,11 @@ pub mod Acts
 pub mod Directory
 -- runs with directory calls, beside the table
 pub mod Runs
+-- the numbers and orders of all of it
+pub mod Limits
 -- what is claimed of all of it
 pub mod Claims
+-- the store's claims, of runs with directory calls
+pub mod StoreClaims
+-- what the directory holds, and what a removal gives back
+pub mod Holding

@@ -2,13 +2,14 @@
 -- beside them.
 use Prim.Native.Nat.{ℕ}
 use mathlib.Core.Bool.{Bool, true, not, _&&_}
-use mathlib.Core.List.{List, [], _∷_}
+use mathlib.Core.List.{List, [], _∷_, _++_}
 use lib.Dec.{eqb}
 use Rattle.rules.specs.Control.{Store}
 use Rattle.rules.specs.Runs.{Call, Attach, Detach, SafePoint, Allocate, Load, StoreRef, StoreLinks, Read, Write, Move, Clear, SameAs, Get, Put, Stretch, Companion, Birth, Step, apply}
+use Rattle.rules.specs.Tracking.{Beside, newBeside, beside}
 use Rattle.directory_rules.specs.Table.{Request, Table, Given, tableNext, tableGiven, tableAfter}
-use Rattle.directory_rules.specs.Acts.{ownSession, ownGlobal}
-use Rattle.directory_rules.specs.Directory.{directoryCall, fedNumber}
+use Rattle.directory_rules.specs.Acts.{ownSession, ownGlobal, callsMade}
+use Rattle.directory_rules.specs.Directory.{directoryCall, fedNumber, programOn}
 
 -- a store call or collector step, or a directory call
 pub data Item : Type 0 where
@@ -51,6 +52,16 @@ abbrev pub afterItems : Store → List Item → Store
 afterItems s [] = s
 afterItems s (x ∷ xs) = afterItems (afterItem s x) xs
 
+-- the store calls of the items, in order: those of a directory call are the ones that it makes
+abbrev pub callsOf : Store → List Item → List Call
+callsOf s [] = []
+callsOf s (call c ∷ xs) = c ∷ callsOf (apply s c .store) xs
+callsOf s (request q ∷ xs) = callsMade s (programOn s q) ++ callsOf (directoryCall s q .store) xs
+
+-- beside them the collector-free store, and which of its records each reference stands for
+abbrev pub besideItems : Store → List Item → Beside
+besideItems s xs = beside (newBeside s) (callsOf s xs)
+
 -- what the directory calls answer, in order
 abbrev pub directoryRun : Store → List Item → List Given
 directoryRun s [] = []
@@ -73,3 +84,8 @@ abbrev pub tableRun : Table → List Fed → List Given
 tableRun t [] = []
 tableRun t (x ∷ xs) =
     tableGiven (x .request) (tableNext t (x .request) (x .refusal)) ∷ tableRun (tableAfter t (tableNext t (x .request) (x .refusal))) xs
+
+-- the table after them
+abbrev pub tableEnd : Table → List Fed → Table
+tableEnd t [] = t
+tableEnd t (x ∷ xs) = tableEnd (tableAfter t (tableNext t (x .request) (x .refusal))) xs

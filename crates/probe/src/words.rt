@@ -55,7 +55,7 @@ pub(crate) fn read_words(words: &mut [u32]) -> bool {
     }
     let m = 4 * n;
     let mut bytes = io::buffer();
-    let got = io::read_full(STDIN_FILENO, &mut bytes[..m]);
+    let got = streams::read_full(STDIN_FILENO, &mut bytes[..m]);
     if got < m {
         return false;
     }
@@ -89,7 +89,7 @@ fn write_bytes(bytes: &[u8; 4096], m: usize) -> bool
     requires { ⌜ m ≤ 4096 ⌝ }
 {
     let all: &[u8] = bytes;
-    io::write_all(STDOUT_FILENO, &all[..m])
+    streams::write_all(STDOUT_FILENO, &all[..m])
 }
 
 // Writes the words to standard output. Answers whether all were written.

@@ -9,7 +9,7 @@ use Rattle.rules.specs.Memory.{half, frontier, withHalf, withFrontier, r
 use Rattle.rules.specs.Control.{sessionCount, globalCount, halfAllowed, listAllowed, lengthsAllowed, sameLengths, walkLimit, inRange, making, withBirths, Store}
 use Rattle.rules.specs.Cycle.{atRest, atAllocate, atReclaim}
 use Rattle.rules.specs.Phases.{levelOf, nextPhase, otherHalf, fromspace, tospace, sessionAt, withSession, register, withCharge, unmarked, uncharged, withoutCharges, moveOn}
-use Rattle.rules.specs.Barriers.{toShade, listRoom, shading, shade, listing, shadingAll, shadesAt, shadesOldAt, copiesAt, barrierShades, shadeBoth, replicaFor, ownWord, replicaWord, storeWrites, putBoth, sameAt, roomIn, allocationRoom, placed, allocated, allocatedReference}
+use Rattle.rules.specs.Barriers.{toShade, listRoom, shading, shade, listing, shadingAll, shadesAt, shadesOldAt, copiesAt, barrierShades, shadeBoth, replicaFor, ownWord, replicaWord, storeWrites, putWrites, putBoth, pointerEQ, sameAt, roomIn, allocationRoom, placed, allocated, allocatedReference}
 use Rattle.rules.specs.Calls as calls
 use Rattle.rules.specs.Collector as collector
 use Rattle.rules.specs.Runs.{Call, Attach, Detach, SafePoint, Allocate, Load, StoreRef, StoreLinks, Read, Write, Clear, SameAs, Birth, Step, run, after, spent}
@@ -20,7 +20,7 @@ use Rattle.rules.specs.declared.Link.{Link}
 
 -- opens every definition that a closed run computes with
 unfoldable pub rules : Unit {0}
-unfolding small numbers values halfAllowed listAllowed lengthsAllowed sameLengths walkLimit inRange half frontier withHalf withFrontier reference halfOf wordOf inHalf shapeWord refsOf plainsOf newRecord word put colour replica birthNumber refs plains size append nextReference sound pointsBack followable followed copyOf otherCopy forward levelOf nextPhase otherHalf fromspace tospace sessionAt withSession register unmarked withoutCharges uncharged moveOn toShade listRoom shading shade listing shadingAll shadesAt shadesOldAt copiesAt barrierShades shadeBoth replicaFor ownWord replicaWord storeWrites putBoth roomIn allocationRoom placed allocated allocatedReference calls.sessionOf calls.operandsOf calls.recordOf calls.withRegister calls.attach calls.detach calls.safePoint calls.withinShare calls.numberLeft calls.charged calls.allocate calls.loadPlan calls.load calls.storePlan calls.storeCommit calls.store calls.isCount calls.storeLinks calls.read calls.birth calls.writePlan calls.writeCommit calls.write calls.clear collector.walked collector.below collector.pastRecord collector.haveLevel collector.rest collector.handshake collector.rootMark collector.scanRecord collector.scanSession collector.heapMark collector.needsShell collector.shellOf collector.withShell collector.allocateShells collector.copyRef collector.copyPlain collector.copyField collector.copy collector.rootFlip collector.stackFlip collector.reclaim collector.step calls.same making makingOf sameAt
+unfolding small numbers values halfAllowed listAllowed lengthsAllowed sameLengths walkLimit inRange half frontier withHalf withFrontier reference halfOf wordOf inHalf shapeWord refsOf plainsOf newRecord word put colour replica birthNumber refs plains size append nextReference sound pointsBack followable followed copyOf otherCopy forward levelOf nextPhase otherHalf fromspace tospace sessionAt withSession register unmarked withoutCharges uncharged moveOn toShade listRoom shading shade listing shadingAll shadesAt shadesOldAt copiesAt barrierShades shadeBoth replicaFor ownWord replicaWord storeWrites putWrites putBoth roomIn allocationRoom placed allocated allocatedReference calls.sessionOf calls.operandsOf calls.recordOf calls.withRegister calls.attach calls.detach calls.safePoint calls.withinShare calls.numberLeft calls.charged calls.allocate calls.loadPlan calls.load calls.storePlan calls.storeCommit calls.store calls.isCount calls.storeLinks calls.read calls.birth calls.writePlan calls.writeCommit calls.write calls.move calls.clear calls.same calls.get calls.putPlan calls.putCommit calls.put calls.stretch collector.walked collector.below collector.pastRecord collector.haveLevel collector.rest collector.handshake collector.rootMark collector.scanRecord collector.scanSession collector.heapMark collector.needsShell collector.shellOf collector.withShell collector.allocateShells collector.copyRef collector.copyPlain collector.copyField collector.copy collector.rootFlip collector.stackFlip collector.reclaim collector.step making makingOf pointerEQ sameAt
 rules = tt
 
 pub starred-hold : Starred

@@ -3,7 +3,9 @@
 
 -- claim 5, and closed runs that the checker computes
 pub mod Examples
--- the script example of document 01, from bytes to bytes
+-- the table of limits
+pub mod Limits
+-- the script example of document 01, from bytes to bytes, and the call of each kind of entry
 pub mod Script
 -- claim 1, claim 3 from claim 2, of section 6 the numbers of refusals, and of claim 8 what following tests
 pub mod claims

@@ -1,7 +1,10 @@
--- The script example of document 01, computed by the checker from its hexadecimal input to the bytes of its text, over halves of 16 words.
+-- The script example of document 01, computed by the checker from its hexadecimal input to the bytes of its text, over halves of 16 words; and the
+-- call of each kind of entry.
 use Prim.Native.Nat.{ℕ}
 use mathlib.Core.Path.{_≡_, refl}
-use mathlib.Core.List.{List, [], _∷_}
+use mathlib.Core.List.{List, [], _∷_, map}
+use Rattle.rules.specs.Refusals.{passed}
+use Rattle.rules.specs.Runs.{Call, Attach, Detach, SafePoint, Allocate, Load, StoreRef, Read, Write, Move, Clear, SameAs, Get, Put, Step}
 use Rattle.rules.specs.Examples.{small}
 use Rattle.rules.specs.Script.{kinds, kindOf, bigEndian, callOf, bodyAt, entryAt, linesOf, decimal, textOf, textsOf}
 use Rattle.rules.proofs.Examples.{rules}
@@ -26,6 +29,22 @@ script = tt
 pub script-example : textsOf (linesOf small input) ≡ output
 unfolding script
 script-example = refl
+
+-- the call of each kind: a body of it and what it makes
+abbrev pub bodies : List (List ℕ)
+bodies =
+    (1 ∷ 9 ∷ []) ∷ (2 ∷ 9 ∷ []) ∷ (3 ∷ 9 ∷ []) ∷ (4 ∷ 9 ∷ 8 ∷ 7 ∷ 6 ∷ []) ∷ (5 ∷ 9 ∷ 8 ∷ 7 ∷ 6 ∷ []) ∷ (6 ∷ 9 ∷ 8 ∷ 7 ∷ 6 ∷ [])
+    ∷ (7 ∷ 9 ∷ 8 ∷ 7 ∷ []) ∷ (8 ∷ 9 ∷ 8 ∷ 7 ∷ 1 ∷ 2 ∷ 3 ∷ 4 ∷ []) ∷ (9 ∷ 9 ∷ 8 ∷ 7 ∷ []) ∷ (10 ∷ 9 ∷ 8 ∷ []) ∷ (11 ∷ 9 ∷ 8 ∷ 7 ∷ [])
+    ∷ (12 ∷ 9 ∷ 8 ∷ 7 ∷ []) ∷ (13 ∷ 9 ∷ 8 ∷ 7 ∷ []) ∷ (14 ∷ []) ∷ []
+
+abbrev pub made : List Call
+made =
+    Attach 9 4294967295 ∷ Detach 9 ∷ SafePoint 9 ∷ Allocate 9 8 7 6 ∷ Load 9 8 7 6 ∷ StoreRef 9 8 7 6 ∷ Read 9 8 7 ∷ Write 9 8 7 0x01020304
+    ∷ Move 9 8 7 ∷ Clear 9 8 ∷ SameAs 9 8 7 ∷ Get 9 8 7 ∷ Put 9 8 7 ∷ Step ∷ []
+
+pub every-kind : map callOf bodies ≡ map passed made
+unfolding script
+every-kind = refl
 
 -- an empty input and a bad version answer `0 15 0`; a version byte alone writes nothing
 abbrev pub bad-version : List ℕ

@@ -8,5 +8,7 @@ pub mod TwoRuns
 pub mod Numbers
 -- of claim 8: what following tests
 pub mod Following
+-- of claim 10: where 17, 14 and 16 come
+pub mod Allocation
 -- claim 11: several links are single stores
 pub mod Links

@@ -2,7 +2,7 @@
 use Prim.Native.Nat.{ℕ, suc, _+_, _-_, _≤_, _<_}
 use mathlib.Core.Path.{_≡_}
 use mathlib.Core.Logic.{_≢_, _⊎_}
-use mathlib.Core.Bool.{true, cond}
+use mathlib.Core.Bool.{true, false, cond}
 use mathlib.Core.List.{List, [], _∷_, map, List·Memᴰ}
 use lib.ListN.{getD, length, take}
 use Rattle.rules.specs.Refusals.{refused, passed, Reply, answer, isRefusal, doneOr}
@@ -10,11 +10,13 @@ use Rattle.rules.specs.Memory.{Memory, frontier, null, reference, halfOf
 use Rattle.rules.specs.Cycle.{atRest, atHeapMark, atReclaim}
 use Rattle.rules.specs.Control.{Store, make, inRange, sessionCount}
 use Rattle.rules.specs.Phases.{otherHalf, sessionAt}
-use Rattle.rules.specs.Calls.{sessionOf, mostLinks}
+use Rattle.rules.specs.Barriers.{allocationRoom}
+use Rattle.rules.specs.Calls.{sessionOf}
 use Rattle.rules.specs.Runs.{Call, Attach, SafePoint, Allocate, StoreRef, StoreLinks, Step, apply, run, after, isSession, isAllocation, sessionCalls, sessionRun, fedBy, feeds, steps, spent}
 use Rattle.rules.specs.Free.{Free, newFree, freeSession, freeRegister, freeSessionOf, freeApply, freeRun}
 use Rattle.rules.specs.Tracking.{Beside, newBeside, beside, Reached, recordsOf, wordsAt}
-use Rattle.rules.specs.Examples.{starred}
+use Rattle.rules.specs.Examples.{Computed, starred}
+use Rattle.rules.specs.Limits.{limits}
 use Rattle.rules.specs.declared.Session.{Session}
 use Rattle.rules.specs.declared.Link.{Link}
 use Rattle.rules.specs.declared.Answer.the-variants.{Refused, Done}
@@ -109,7 +111,11 @@ StaysFreed =
 -- ---- 5. Starred examples
 -- "The starred examples are proved of the rules as one table with one theorem"
 unfoldable pub Starred : Type 0
-Starred = map (λ x. x .given) starred ≡ map (λ x. x .expected) starred
+Starred = Computed starred
+
+-- the numbers and orders that the papers name: one table with one theorem too
+unfoldable pub Limits : Type 0
+Limits = Computed limits
 
 -- ---- 6. For crates above
 -- What code that makes store calls of its own may go by: the collector-free store after the same calls, in place of the store.
@@ -286,6 +292,37 @@ ChargeGrows =
 unfoldable pub ChargesEnd : Type 0
 ChargesEnd = (s : Store) (n : ℕ) → EndsReclaim s → sessionAt (apply s Step .store) n .charge ≡ 0
 
+-- the tests of an allocation before 17 passed: 4, 5, 6, 8 and 10
+pub record MayAllocate (s : Store) (n k r p : ℕ) : Type 0 where
+  pub session : sessionOf s n ≡ passed (sessionAt s n)
+  pub register : k ≤ 7
+  pub counts : (r ≤ 255) × (p ≤ 255)
+
+-- what would then be charged to the session
+abbrev pub chargeWith : Store → ℕ → ℕ → ℕ → ℕ
+chargeWith s n r p = sessionAt s n .charge + (4 + r + p)
+
+-- "Number 17, just before 14, refuses an allocation that would pass the share": on every store, there and nowhere else
+unfoldable pub ShareRefused : Type 0
+ShareRefused =
+    (s : Store) (n k r p : ℕ) → let there = MayAllocate s n k r p × (sessionAt s n .share < chargeWith s n r p) in
+    (apply s (Allocate n k r p) .reply ≡ answer (Refused 17) → there) × (there → apply s (Allocate n k r p) .reply ≡ answer (Refused 17))
+
+-- behind it 14, where a half that the allocation writes lacks room
+unfoldable pub RoomRefused : Type 0
+RoomRefused =
+    (s : Store) (n k r p : ℕ)
+    → let there = MayAllocate s n k r p × (chargeWith s n r p ≤ sessionAt s n .share) × (allocationRoom s (sessionAt s n .level) r p ≡ false) in
+    (apply s (Allocate n k r p) .reply ≡ answer (Refused 14) → there) × (there → apply s (Allocate n k r p) .reply ≡ answer (Refused 14))
+
+-- and behind that 16, "once 4,294,967,295 numbers are used"
+unfoldable pub NumberRefused : Type 0
+NumberRefused =
+    (s : Store) (n k r p : ℕ)
+    → let there = MayAllocate s n k r p × (chargeWith s n r p ≤ sessionAt s n .share) × (allocationRoom s (sessionAt s n .level) r p ≡ true)
+    × (4294967295 ≤ s .births) in
+    (apply s (Allocate n k r p) .reply ≡ answer (Refused 16) → there) × (there → apply s (Allocate n k r p) .reply ≡ answer (Refused 16))
+
 -- the current half's used words
 abbrev pub usedWords : Store → ℕ
 usedWords s = frontier (s .memory) (s .current)
@@ -341,14 +378,14 @@ unfoldable pub LinksCounted : Type 0
 LinksCounted =
     (s : Store) (n k count : ℕ) (xs : List Link)
     → ((r : ℕ) → sessionOf s n ≡ refused r → apply s (StoreLinks n k count xs) .reply ≡ answer (Refused r))
-    × (sessionOf s n ≡ passed (sessionAt s n) → mostLinks < count → apply s (StoreLinks n k count xs) .reply ≡ answer (Refused 10))
+    × (sessionOf s n ≡ passed (sessionAt s n) → 8 < count → apply s (StoreLinks n k count xs) .reply ≡ answer (Refused 10))
     × (sessionOf s n ≡ passed (sessionAt s n) → apply s (StoreLinks n k 0 xs) ≡ record { store = s; reply = answer Done })
 
 -- "Otherwise the refusal is the first that a single store, in list order, would meet, the pairs before it done": on every store the answer is that of
 -- the single stores made one after another, each on what those before it left, up to the first refusal
 unfoldable pub LinksAnswer : Type 0
 LinksAnswer =
-    (s : Store) (n k count : ℕ) (xs : List Link) → sessionOf s n ≡ passed (sessionAt s n) → count ≤ mostLinks
+    (s : Store) (n k count : ℕ) (xs : List Link) → sessionOf s n ≡ passed (sessionAt s n) → count ≤ 8
     → apply s (StoreLinks n k count xs) .reply ≡ firstRefusal (run s (singleStores n k (take count xs)))
 
 -- "stores all or none; the result is that of single stores in list order, a repeated field included": on every store, where the call is done. Where

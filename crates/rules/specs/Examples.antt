@@ -1,6 +1,7 @@
 -- Examples: the starred ones as one table. Each row has what the rules give and what document 01 says, with what request [6] changes of
 -- it ("list of 4 made, of 3: 3; the third record: 14; 12 and 4 words fit"). Each attach has the share of a script, which is never passed here.
 use Prim.Native.Nat.{ℕ}
+use mathlib.Core.Path.{_≡_}
 use mathlib.Core.List.{List, [], _∷_, map}
 use lib.ListN.{replicate}
 use Rattle.rules.specs.Refusals.{Reply, answer, words, refusalOf, numberOf, valueOf}
@@ -12,6 +13,10 @@ use Rattle.rules.specs.Script.{scriptShare}
 pub record Example : Type 0 where
   pub given : List ℕ
   pub expected : List ℕ
+
+-- of every row of a table what is given is what is expected
+abbrev pub Computed : List Example → Type 0
+Computed xs = map (λ x. x .given) xs ≡ map (λ x. x .expected) xs
 
 -- the refusal of a making
 unfoldable pub makingOf : ℕ → ℕ → ℕ → ℕ

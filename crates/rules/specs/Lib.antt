@@ -20,5 +20,8 @@ pub mod Tracking
 pub mod Script
 -- Examples
 pub mod Examples
+-- The numbers and orders of all of it
+pub mod Samples
+pub mod Limits
 -- What is claimed of all of it, and what crates above may go by
 pub mod Claims

@@ -10,3 +10,5 @@ pub mod Contracts
 pub mod Example
 -- claim 10
 pub mod Shares
+-- claim 1 of the code
+pub mod Refusals

@@ -15,7 +15,8 @@ use Rattle.rules.specs.Free.{newFree, freeRun}
 use Rattle.rules.specs.Tracking.{Beside, newBeside, beside, recordsOf}
 use Rattle.rules.specs.Claims.{FilledFrom, Living, placesIn, FreedBetween, leftIn, scansAndMove, usedWords, allShares}
 use Rattle.rules.specs.declared.Answer.the-variants.{Refused}
-use Rattle.store.specs.CodeRuns.{Lent, viewed, CodeMade, Called, CodeRun, ended, next}
+use Rattle.store.specs.CodeRuns.{Lent, lent, viewed, CodeMade, Called, CodeRun, ended, next}
+use Rattle.store.specs.declared.Control.{Control}
 
 -- the session answers among the replies of calls
 abbrev pub sessionReplies : List Call → List Reply → List Reply
@@ -28,6 +29,13 @@ abbrev pub fedReplies : List Call → List Reply → List Fed
 fedReplies [] rs = []
 fedReplies (c ∷ cs) [] = []
 fedReplies (c ∷ cs) (r ∷ rs) = cond (isAllocation c) (fedBy r ∷ fedReplies cs rs) (fedReplies cs rs)
+
+-- ---- 1. Refusals keep everything
+-- on any control record and any words: a refused call hands the control record back as it came, and has written no word
+unfoldable pub CodeRefusalsKeep : Type 0
+CodeRefusalsKeep =
+    (self : Control) (h0 h1 list : List ℕ) (c : Call) (n : ℕ) (b : Lent)
+    → Called self h0 h1 list c (answer (Refused n)) b → b ≡ lent self h0 h1 list
 
 -- ---- 2. Answers
 unfoldable pub CodeAnswers : Type 0

@@ -15,7 +15,7 @@ fn write_load(load: workload::Rest, out: &mut [u8]) -> bool
     while workload::any_left(rest) {
         let piece = workload::fill(rest, out);
         let end = piece.end;
-        if !io::write_all(STDOUT_FILENO, &out[..end]) {
+        if !streams::write_all(STDOUT_FILENO, &out[..end]) {
             return false;
         }
         let next = piece.rest;
@@ -29,7 +29,7 @@ fn write_load(load: workload::Rest, out: &mut [u8]) -> bool
 fn main() {
     let mut input = [0u8; 9];
     let mut out = io::buffer();
-    let got = io::read_full(STDIN_FILENO, &mut input);
+    let got = streams::read_full(STDIN_FILENO, &mut input);
     let load = workload::start(&input[..got]);
     write_load(load, &mut out);
 }

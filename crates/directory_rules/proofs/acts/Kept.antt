@@ -32,8 +32,8 @@ program-keeps : (s : Store) (half : ℕ) (q : Request) → Keeps Beyond s (perfo
 unfolding program
 program-keeps s half q =
     let o = apply s (callOf (firstAsk q)) in
-    or-stop-either (λ a. Keeps Beyond s (perform (o .store) a)) (λ u. inner half q) (early-fits (o .reply))
-    (λ n e t. rw (ask-keeps s (firstAsk q) n e) (beyond-same s)) (rest-keeps s half q)
+    or-stop-either (λ a. Keeps Beyond s (perform (o .store) a)) (λ u. inner half q) (early-fits s (callOf (firstAsk q)))
+    (λ n i e t. rw (ask-keeps s (firstAsk q) n e) (beyond-same s)) (rest-keeps s half q)
 
 pub tests-keep : TestsKeep
 unfolding TestsKeep directoryCall

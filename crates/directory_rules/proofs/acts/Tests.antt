@@ -1,4 +1,4 @@
--- Directory calls write only after all their tests; each allocates at most one record, of few fields, some none.
+-- Directory calls write only after all their tests; each that isn't refused allocates one record, of few fields, some none.
 use Prim.Native.Nat.{ℕ, zero, suc, _+_, _≤_}
 use mathlib.Core.Bool.{Bool, true, false}
 use mathlib.Core.List.{List}
@@ -6,12 +6,12 @@ use native.Mathlib.Omega.{arith}
 use Rattle.directory_rules.specs.Table.{Request, Open, Add, Remove, Make, Join, Leave, Members}
 use Rattle.directory_rules.specs.Acts.{Act, must, allocate, Found}
 use Rattle.directory_rules.specs.Directory.{inner, noneLeft, judged, seek, otherOf, entries, members, link, fresh, append, adding, making, grouping, pairing, joining, leaving, cutFound, noGroupLeft, eachGroup, leavingAll, keepBefore, linkPerson, removing, noneCounted, counted, counting, taken, taking, takingFirst, least, listing}
-use Rattle.directory_rules.specs.Claims.{mostFields, allocating}
+use Rattle.directory_rules.specs.Claims.{allocating}
 use Rattle.directory_rules.specs.declared.Place.{Place}
 use Rattle.directory_rules.specs.declared.Via.{Via}
 use Rattle.directory_rules.specs.declared.Via.the-variants.{Next, First, Top}
 use Rattle.directory_rules.proofs.acts.Replies.{FoundFits, at-end, at-failure, at-word, found-fits}
-use Rattle.directory_rules.proofs.acts.Careful.{Steady, stops, gives, asks, steady-then, steady-either, steady-demand, steady-or-stop, steady-other, Careful, fails, makes, late, steady-careful, careful-late, careful-ending}
+use Rattle.directory_rules.proofs.acts.Careful.{mostFields, Steady, stops, gives, asks, steady-then, steady-either, steady-demand, steady-or-stop, steady-other, Careful, fails, makes, late, steady-careful, careful-late, careful-ending}
 
 ruleset steady = (stops, gives, asks, steady-then, steady-either, steady-demand, steady-or-stop, found-fits)
 
@@ -114,7 +114,7 @@ steady-link-person Top = search steady
 
 -- refused, it is the end; or else something is written
 careful-allocate : (k r p : ℕ) → r + p ≤ mostFields → Careful 1 (must (allocate k r p))
-careful-allocate k r p h = makes k r p h (λ n. fails n) (λ x e. steady-other x e)
+careful-allocate k r p h = makes k r p h (λ n e. fails n e) (λ x e. steady-other x e)
 
 -- one plain field and r others
 careful-fresh : (k r w : ℕ) → r + 1 ≤ mostFields → Careful 1 (fresh k r w)

@@ -13,12 +13,13 @@ use Rattle.rules.specs.Free.{Free}
 use Rattle.directory_rules.specs.Table.{Table, Add, among, isNumber, lastNumber, unknown, already, withPeople, tableNext}
 use Rattle.directory_rules.specs.Acts.{_>>=_, _>>_}
 use Rattle.directory_rules.specs.Directory.{entries, absent, append, adding, plainly, program}
-use Rattle.directory_rules.proofs.free.Slots.{top, slotOf, slotAfter}
+use Rattle.directory_rules.proofs.free.Slots.{top, slotOf, slotAfter, newPlace}
 use Rattle.directory_rules.proofs.free.Registers.{only-there}
 use Rattle.directory_rules.proofs.free.Perform.{freePerform}
 use Rattle.directory_rules.proofs.free.Sequence.{then-passed}
-use Rattle.directory_rules.proofs.chains.Core.{Layout, Short, Represents}
+use Rattle.directory_rules.proofs.chains.Core.{entryLabel, Layout, Short, Represents}
 use Rattle.directory_rules.proofs.chains.Entries.{entries-there, group-high}
+use Rattle.directory_rules.proofs.chains.New.{stays-new}
 use Rattle.directory_rules.proofs.chains.Growing.{core-person}
 use Rattle.directory_rules.proofs.walks.Walked.{Walked, placeOf}
 use Rattle.directory_rules.proofs.calls.Kept.{RequestKept, Within, within-regs}
@@ -43,7 +44,7 @@ module _ {m half : ℕ} (fed : ℕ) {f : Free} {y : Layout} {t : Table} (two : 2
       (λ e.
       let s : slotOf (w .after) (w .at) (w .via) ≡ slotAfter top all = w .slot ∙ ap (slotAfter top) (passed-all w e) in
       append-ends h two few (w .at) (w .via) n (w .low) s (only-there (w .regs) (slotAfter top all) (entries-there c all [] (sym (append-nil all))))
-      (within .opened) (core-person (h .core) n small (sym found ∙ e)) fed (w .found) (half - length (w .xs))))
+      (stays-new (y .label) (newPlace (w .after)) entryLabel (λ z. omega arith)) (within .opened) (core-person (h .core) n small (sym found ∙ e)) fed (w .found) (half - length (w .xs))))
 
   adding-alike : Carries m y t (freePerform fed f (adding half n))
       (check (isNumber n) unknown >>> (check (not (among n (t .people))) already >>> (check (eqb fed 0) fed >>> passed (withPeople t (t .people ++ (n ∷ []))))))
@@ -52,7 +53,7 @@ module _ {m half : ℕ} (fed : ℕ) {f : Free} {y : Layout} {t : Table} (two : 2
       (λ e. behind-entries (entries-walked fed within short n 0) (leb-true n lastNumber e))
 
 pub adding-kept : {half : ℕ} (fed : ℕ) {f : Free} {y : Layout} {t : Table} → Represents f y t → Short half y → (n : ℕ)
-    → RequestKept half fed f t (Add n)
+    → RequestKept half fed f y t (Add n)
 unfolding program tableNext
 adding-kept {half} fed {f} r short n =
     around fed f (Add n) (omega arith) (plainly (adding half n)) r (λ h. alike-plainly fed f (adding half n) (adding-alike fed (omega arith) (omega arith) short h n))

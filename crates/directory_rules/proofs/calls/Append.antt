@@ -21,7 +21,7 @@ use Rattle.directory_rules.proofs.free.Grown.{grown, grown-only, grown-
 use Rattle.directory_rules.proofs.free.Perform.{freePerform}
 use Rattle.directory_rules.proofs.free.Steps.{link-step, fresh-grows, fresh-refused}
 use Rattle.directory_rules.proofs.free.Sequence.{then-passed, then-refused}
-use Rattle.directory_rules.proofs.chains.Core.{Layout, Core}
+use Rattle.directory_rules.proofs.chains.Core.{Layout, Core, Stays}
 use Rattle.directory_rules.proofs.chains.Registers.{core-regs}
 use Rattle.directory_rules.proofs.walks.Slots.{slot-same}
 use Rattle.directory_rules.proofs.calls.Kept.{Within, within-ready}
@@ -29,7 +29,7 @@ use Rattle.directory_rules.proofs.calls.Alike.{refuse, pass}
 use Rattle.directory_rules.proofs.calls.Around.{Carries}
 
 module _ {m : ℕ} {f : Free} {y : Layout} {t : Table} (within : Within m f y t) (two : 2 ≤ m) (few : m ≤ registerCount) (at : ℕ) (via : Via) (n : ℕ) (low : at ≤ 1)
-    {sl : Slot} (slot : slotOf f at via ≡ sl) (there : There f sl) {z : Layout} {u : Table} (is-open : u .opened ≡ true)
+    {sl : Slot} (slot : slotOf f at via ≡ sl) (there : There f sl) {z : Layout} (stays : Stays y z) {u : Table} (is-open : u .opened ≡ true)
     (core : Core (written (grow f 1 n) sl (newPlace f)) z u) where
   ready : Ready f
   ready = within-ready within
@@ -57,6 +57,6 @@ module _ {m : ℕ} {f : Free} {y : Layout} {t : Table} (within : Within m f y t)
   unfolding append
   append-ends fed b left = eq-or fed 0
       (λ e. rw e (pass (then-passed 0 f (fresh at 1 n) (λ x. link at via at) (fresh-grows ready at 1 n (omega arith) (omega arith)) ∙ linked)
-      (record { is = refl; layout = z; within = ends })))
+      (record { is = refl; layout = z; stays = stays; within = ends })))
       (λ d. rw (ne-eqb fed 0 d)
       (refuse (then-refused fed f (fresh at 1 n) (λ x. link at via at) (fresh-refused d ready at 1 n (omega arith) (omega arith))) within))

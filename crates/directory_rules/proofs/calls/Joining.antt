@@ -13,10 +13,11 @@ use Rattle.directory_rules.specs.Acts.{_>>_}
 use Rattle.directory_rules.specs.Directory.{absent, append, pairing, joining, plainly, program, groupRegister, firstField}
 use Rattle.directory_rules.specs.declared.Place.{Place}
 use Rattle.directory_rules.proofs.tables.Pairs.{paired-members}
-use Rattle.directory_rules.proofs.free.Slots.{field, slotAfter}
+use Rattle.directory_rules.proofs.free.Slots.{field, slotAfter, newPlace}
 use Rattle.directory_rules.proofs.free.Perform.{freePerform}
-use Rattle.directory_rules.proofs.chains.Core.{Layout, Short, Represents}
+use Rattle.directory_rules.proofs.chains.Core.{linkLabel, Layout, Short, Represents}
 use Rattle.directory_rules.proofs.chains.Entries.{links-there}
+use Rattle.directory_rules.proofs.chains.New.{stays-new}
 use Rattle.directory_rules.proofs.chains.Growing.{core-link}
 use Rattle.directory_rules.proofs.calls.Kept.{RequestKept, Within}
 use Rattle.directory_rules.proofs.calls.Alike.{alike-then, alike-absent}
@@ -37,8 +38,9 @@ module _ {m : ℕ} (fed : ℕ) (many : groupRegister < m) (few : m ≤ registerC
       let found : x .found ≡ paired n g (t .pairs) = member-paired n g (r .within) (r .member) (r .number) (r .at) in
       alike-absent fed (r .within) x (paired n g (t .pairs)) already found (append x n)
       (λ e. append-ends (r .within) (omega arith) few (x .at) (x .via) n (r .at .low)
-      (r .at .slot ∙ ap (slotAfter (field (r .group) firstField)) (r .at .absent e)) (links-there c (r .member) links [] (sym (append-nil links))) (r .within .opened)
-      (core-link c n g (r .group) (r .member) (r .number) (sym (paired-members n g (t .pairs)) ∙ sym found ∙ e)) fed (x .found) (x .left))
+      (r .at .slot ∙ ap (slotAfter (field (r .group) firstField)) (r .at .absent e)) (links-there c (r .member) links [] (sym (append-nil links)))
+      (stays-new (y .label) (newPlace h) (linkLabel (r .group)) (λ z. omega arith)) (r .within .opened)
+      (core-link c n g (r .group) (r .small) (r .member) (r .number) (sym (paired-members n g (t .pairs)) ∙ sym found ∙ e)) fed (x .found) (x .left))
 
   joining-alike : {half : ℕ} {f : Free} → Short half y → Within m f y t → Carries m y t (freePerform fed f (joining half n g)) (pairTests t n g >>> joined t n g fed)
   unfolding joining
@@ -46,7 +48,7 @@ module _ {m : ℕ} (fed : ℕ) (many : groupRegister < m) (few : m ≤ registerC
       alike-then fed f (pairing half n g) (λ w. absent w already >> append w n) (pairing-alike fed many few short within n g) behind-members
 
 pub joining-kept : {half : ℕ} (fed : ℕ) {f : Free} {y : Layout} {t : Table} → Represents f y t → Short half y → (n g : ℕ)
-    → RequestKept half fed f t (Join n g)
+    → RequestKept half fed f y t (Join n g)
 unfolding program tableNext
 joining-kept {half} fed {f} {y} {t} r short n g =
     rw (known-first t n g (joined t n g fed))

@@ -11,18 +11,19 @@ use Rattle.directory_rules.specs.Acts.{ownSession, Performed}
 use Rattle.directory_rules.specs.Directory.{program, givenOf}
 use Rattle.directory_rules.proofs.free.Perform.{freePerform}
 use Rattle.directory_rules.proofs.free.Session.{reg, Ready, OnlyRegs}
-use Rattle.directory_rules.proofs.chains.Core.{Layout, Core, Represents}
+use Rattle.directory_rules.proofs.chains.Core.{Layout, Core, Represents, Stays}
 use Rattle.directory_rules.proofs.chains.Registers.{core-regs}
 
 -- an act that answers what the table says, and leaves the table after it carried
-pub record Kept (q : Request) (t : Table) (next : Tested Table) (p : Performed Free Given) : Type 0 where
+pub record Kept (y : Layout) (q : Request) (t : Table) (next : Tested Table) (p : Performed Free Given) : Type 0 where
   pub given : givenOf q (p .result) ≡ tableGiven q next
   pub layout : Layout
+  pub stays : Stays y layout
   pub represents : Represents (p .store) layout (tableAfter t next)
 
 -- such is a call; its allocation is fed the number that the table is fed
-abbrev pub RequestKept : ℕ → ℕ → Free → Table → Request → Type 0
-RequestKept half fed f t q = Kept q t (tableNext t q fed) (freePerform fed f (program half q))
+abbrev pub RequestKept : ℕ → ℕ → Free → Layout → Table → Request → Type 0
+RequestKept half fed f y t q = Kept y q t (tableNext t q fed) (freePerform fed f (program half q))
 
 -- within a call that uses n registers: the table is carried, the session is attached, its other registers are null
 pub record Within (n : ℕ) (f : Free) (y : Layout) (t : Table) : Type 0 where

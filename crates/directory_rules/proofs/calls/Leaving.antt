@@ -28,7 +28,7 @@ module _ {m : ℕ} (fed : ℕ) (many : groupRegister < m) (few : m ≤ registerC
       alike-present fed (r .within) x (paired n g (t .pairs)) notMember (member-paired n g (r .within) (r .member) (r .number) (r .at)) (cut (x .at) (x .via))
       (λ e. let c : CutEnds m y t h n g (r .group) (freePerform fed h (cut (x .at) (x .via))) =
       cut-ends (r .within) (omega arith) few n g (r .group) (r .member) (r .number) x (r .at) (r .at .present e) fed in
-      pass (c .ended) (record { is = refl; layout = withLinks y (r .group) (c .links); within = c .within }))
+      pass (c .ended) (record { is = refl; layout = withLinks y (r .group) (c .links); stays = λ q o. o; within = c .within }))
 
   leaving-alike : {half : ℕ} {f : Free} → Short half y → Within m f y t → Carries m y t (freePerform fed f (leaving half n g)) (pairTests t n g >>> left t n g)
   unfolding leaving
@@ -36,7 +36,7 @@ module _ {m : ℕ} (fed : ℕ) (many : groupRegister < m) (few : m ≤ registerC
       alike-then fed f (pairing half n g) (λ w. present w notMember >> cut (w .at) (w .via)) (pairing-alike fed many few short within n g) behind-members
 
 pub leaving-kept : {half : ℕ} (fed : ℕ) {f : Free} {y : Layout} {t : Table} → Represents f y t → Short half y → (n g : ℕ)
-    → RequestKept half fed f t (Leave n g)
+    → RequestKept half fed f y t (Leave n g)
 unfolding program tableNext
 leaving-kept {half} fed {f} {y} {t} r short n g =
     rw (known-first t n g (left t n g))

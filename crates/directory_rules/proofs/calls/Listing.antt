@@ -117,7 +117,7 @@ module _ {m half : ℕ} (fed : ℕ) (many : groupRegister < m) {y : Layout} {t :
   member = found-in (r .group)
 
   all-listed : (c : Gave (withFirst q h) size (freePerform fed (withFirst q h) (counting half 0)))
-      → Alike m y t (Result (givenBy (Members g out)) m) (freePerform fed h (listingFor half out)) (passed t)
+      → Alike m y t (Result y (givenBy (Members g out)) m) (freePerform fed h (listingFor half out)) (passed t)
   all-listed c =
       let o : OnlyRegs 1 h (c .after) = only-then (first-only fed many short q member (r .within) (r .own)) (c .regs) in
       let k : Within m (c .after) y t = within-regs o (omega arith) (r .within) in
@@ -129,14 +129,15 @@ module _ {m half : ℕ} (fed : ℕ) (many : groupRegister < m) {y : Layout} {t :
       (record {
         is = given-words (numberAt (c .after)) (y .links q) (membersOf g (t .pairs)) out (group-words (k .core) member g (only-number o q ∙ r .group .number));
         layout = y;
+        stays = λ q o. o;
         within = within-regs (w .regs) (omega arith) k;
       })
 
-  behind-group : Alike m y t (Result (givenBy (Members g out)) m) (freePerform fed h (listingFor half out)) (passed t)
+  behind-group : Alike m y t (Result y (givenBy (Members g out)) m) (freePerform fed h (listingFor half out)) (passed t)
   behind-group = all-listed (counted fed many short q member (r .within) (r .own))
 
 listing-alike : {m half : ℕ} (fed : ℕ) → groupRegister < m → m ≤ registerCount → {f : Free} {y : Layout} {t : Table} → Short half y → Within m f y t → (g : ℕ) (out : List ℕ)
-    → Alike m y t (Result (givenBy (Members g out)) m) (freePerform fed f (listing half g out))
+    → Alike m y t (Result y (givenBy (Members g out)) m) (freePerform fed f (listing half g out))
     (check (isNumber g) unknown >>> (check (among g (t .groups)) unknown >>> passed t))
 unfolding listing
 listing-alike {half = half} fed many few {f} short within g out =
@@ -144,7 +145,7 @@ listing-alike {half = half} fed many few {f} short within g out =
     (λ e. alike-then fed f (grouping half g) (λ w. listingFor half out) (grouping-alike fed many few short within g) (behind-group fed many short g out))
 
 pub listing-kept : {half : ℕ} (fed : ℕ) {f : Free} {y : Layout} {t : Table} → Represents f y t → Short half y → (g : ℕ) (out : List ℕ)
-    → RequestKept half fed f t (Members g out)
+    → RequestKept half fed f y t (Members g out)
 unfolding program tableNext
 listing-kept {half} fed {f} r short g out =
     around fed f (Members g out) (omega arith) (listing half g out) r (λ h. listing-alike fed (omega arith) (omega arith) short h g out)

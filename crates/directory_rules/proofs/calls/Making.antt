@@ -27,10 +27,10 @@ use Rattle.directory_rules.proofs.free.Perform.{freeAsk, freePerform}
 use Rattle.directory_rules.proofs.free.Must.{must-done}
 use Rattle.directory_rules.proofs.free.Steps.{store-step, link-step, fresh-grows, fresh-refused}
 use Rattle.directory_rules.proofs.free.Sequence.{then-passed, then-refused}
-use Rattle.directory_rules.proofs.chains.Core.{Layout, Short, Represents, withGroup}
+use Rattle.directory_rules.proofs.chains.Core.{entryLabel, Layout, Short, Represents, withGroup}
 use Rattle.directory_rules.proofs.chains.Entries.{entries-there}
 use Rattle.directory_rules.proofs.chains.Registers.{core-regs}
-use Rattle.directory_rules.proofs.chains.New.{new-grow, new-there}
+use Rattle.directory_rules.proofs.chains.New.{new-grow, new-there, stays-new}
 use Rattle.directory_rules.proofs.chains.Growing.{core-group}
 use Rattle.directory_rules.proofs.walks.Walked.{Walked, placeOf}
 use Rattle.directory_rules.proofs.walks.Slots.{entry-slot}
@@ -112,7 +112,7 @@ module _ {m : ℕ} (many : groupRegister < m) (few : m ≤ registerCount) {f : F
       (λ e. rw e (pass
       (then-passed 0 f (fresh groupRegister 2 word) (λ x. naming at via) (fresh-grows ready groupRegister 2 word (omega arith) (omega arith))
       ∙ must-done 0 first (store groupRegister nextField at) (λ x. link at via groupRegister) named ∙ linked)
-      (record { is = refl; layout = withGroup y (newPlace f); within = ends })))
+      (record { is = refl; layout = withGroup y (newPlace f); stays = stays-new (y .label) (newPlace f) entryLabel (λ z. omega arith); within = ends })))
       (λ d. rw (ne-eqb fed 0 d)
       (refuse (then-refused fed f (fresh groupRegister 2 word) (λ x. naming at via) (fresh-refused d ready groupRegister 2 word (omega arith) (omega arith))) within))
 
@@ -142,7 +142,7 @@ module _ {m half : ℕ} (fed : ℕ) {f : Free} {y : Layout} {t : Table} (many : 
       (λ e. behind-groups (entries-walked fed within short (groupMark + g) groupMark))
 
 pub making-kept : {half : ℕ} (fed : ℕ) {f : Free} {y : Layout} {t : Table} → Represents f y t → Short half y → (g : ℕ)
-    → RequestKept half fed f t (Make g)
+    → RequestKept half fed f y t (Make g)
 unfolding program tableNext
 making-kept {half} fed {f} r short g =
     around fed f (Make g) (omega arith) (plainly (making half g)) r

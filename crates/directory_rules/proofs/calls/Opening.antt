@@ -26,7 +26,7 @@ use Rattle.directory_rules.proofs.calls.Kept.{Kept, RequestKept}
 core-opened : {f : Free} {y : Layout} {t : Table} → Core f y t → Core f y (openedTable t)
 core-opened c = record {
   store = c .store;
-  sound = record { people = c .sound .people; groups = c .sound .groups; small = c .sound .small; members = c .sound .members; unknown = c .sound .unknown };
+  sound = record { people = c .sound .people; groups = c .sound .groups; small = c .sound .small; members = c .sound .members; low = c .sound .low; unknown = c .sound .unknown };
   entries = c .entries;
   groups = c .groups;
   people = c .people;
@@ -73,15 +73,15 @@ module _ (fed : ℕ) (f : Free) (share : ℕ) where
   attach-first e = rw e
 
   open-kept : {y : Layout} {t : Table} → Represents f y t
-      → Kept (Open share) t (check (not (t .opened)) openAlready >>> passed (openedTable t)) (freePerform fed f (must (attach share) >> give nothing))
+      → Kept y (Open share) t (check (not (t .opened)) openAlready >>> passed (openedTable t)) (freePerform fed f (must (attach share) >> give nothing))
   open-kept {y} {t} r = go (t .opened) refl
     where
-      go : (b : Bool) → t .opened ≡ b → Kept (Open share) t (check (not b) openAlready >>> passed (openedTable t)) (freePerform fed f (must (attach share) >> give nothing))
+      go : (b : Bool) → t .opened ≡ b → Kept y (Open share) t (check (not b) openAlready >>> passed (openedTable t)) (freePerform fed f (must (attach share) >> give nothing))
       go true e = rw (must-refused fed f (attach share) (λ u. give nothing) (attach-again (r .opened ∙ e)))
-          (record { given = refl; layout = y; represents = r })
+          (record { given = refl; layout = y; stays = λ q o. o; represents = r })
       go false e = rw (must-done fed f (attach share) (λ u. give nothing) (attach-first (r .opened ∙ e)))
-          (record { given = refl; layout = y; represents = opened-represents r })
+          (record { given = refl; layout = y; stays = λ q o. o; represents = opened-represents r })
 
-pub opening-kept : (half fed share : ℕ) {f : Free} {y : Layout} {t : Table} → Represents f y t → RequestKept half fed f t (Open share)
+pub opening-kept : (half fed share : ℕ) {f : Free} {y : Layout} {t : Table} → Represents f y t → RequestKept half fed f y t (Open share)
 unfolding program tableNext
 opening-kept half fed share {f} r = open-kept fed f share r

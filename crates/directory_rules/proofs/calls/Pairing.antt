@@ -103,6 +103,7 @@ pub record Paired (m : ℕ) (y : Layout) (t : Table) (n g : ℕ) (h : Free) (x :
   pub group : ℕ
   pub member : List·Memᴰ group (y .groups)
   pub number : numberAt h group ≡ groupMark + g
+  pub small : n ≤ lastNumber
   pub within : Within m h y t
   pub at : MemberAt h n group (y .links group) x
 
@@ -137,6 +138,7 @@ module _ {m half : ℕ} (fed : ℕ) (many : groupRegister < m) {y : Layout} {t :
         group = q;
         member = found-in (r .group);
         number = only-number (s .regs) q ∙ only-number (w .regs) q ∙ r .group .number;
+        small = small;
         within = s .within;
         at = s .at;
       }))))

@@ -68,12 +68,13 @@ module _ {r half n : ℕ} {f g : Free} {y : Layout} {t : Table} (fed : ℕ) (man
         (before-same (gone .kept beforeRegister (omega arith)) before)
         (entries-there (gone .within .core) (y .groups ++ xs) (q ∷ ys) (ap (λ (l : List ℕ). y .groups ++ l) split ∙ sym (append-assoc (y .groups) xs (q ∷ ys))))
 
-    last-alike : {z : Layout} {u : Table} → Carries r z u (freePerform fed g (last via)) (passed (removed t n))
+    last-alike : {u : Table} → Carries r y u (freePerform fed g (last via)) (passed (removed t n))
     last-alike =
         let h = last-writes in
         pass (h .ended) (record {
           is = refl;
           layout = withPlaces (withAllLinks y (gone .links)) (xs ++ ys);
+          stays = λ p o. o;
           within = record {
             core = core-regs (h .regs) last-core;
             attached = h .regs .attached ∙ written-ready g slot next (within-ready (gone .within)) .attached;
@@ -119,7 +120,7 @@ module _ {r half : ℕ} (fed : ℕ) (many : personRegister < r) (few : r ≤ reg
       (λ e. behind-entries (entries-walked fed within short n 0) (leb-true n lastNumber e))
 
 pub removing-kept : {half : ℕ} (fed : ℕ) {f : Free} {y : Layout} {t : Table} → Represents f y t → Short half y → (n : ℕ)
-    → RequestKept half fed f t (Remove n)
+    → RequestKept half fed f y t (Remove n)
 unfolding program tableNext
 removing-kept {half} fed {f} r short n =
     around fed f (Remove n) (omega arith) (plainly (removing half n)) r

@@ -13,7 +13,7 @@ use Rattle.directory_rules.proofs.calls.Leaving.{leaving-kept}
 use Rattle.directory_rules.proofs.calls.Removing.{removing-kept}
 use Rattle.directory_rules.proofs.calls.Listing.{listing-kept}
 
-pub request-kept : {half : ℕ} (fed : ℕ) {f : Free} {y : Layout} {t : Table} → Represents f y t → Short half y → (q : Request) → RequestKept half fed f t q
+pub request-kept : {half : ℕ} (fed : ℕ) {f : Free} {y : Layout} {t : Table} → Represents f y t → Short half y → (q : Request) → RequestKept half fed f y t q
 request-kept fed r short (Open share) = opening-kept _ fed share r
 request-kept fed r short (Add m) = adding-kept fed r short m
 request-kept fed r short (Remove m) = removing-kept fed r short m

@@ -1,10 +1,10 @@
 -- The table as chains of records of the collector-free store.
-use Prim.Native.Nat.{ℕ, suc, _+_, _-_, _≤_, _<_}
+use Prim.Native.Nat.{ℕ, suc, _+_, _-_, _≤_}
 use mathlib.Core.Path.{_≡_}
 use mathlib.Core.Logic.{_≢_}
 use mathlib.Core.List.{List, [], _∷_, _++_, map, List·Memᴰ}
 use mathlib.Core.Bool.{cond}
-use lib.Dec.{eqb}
+use lib.Dec.{leb, eqb}
 use lib.ListN.{getD, length}
 use Rattle.rules.specs.Memory.{null}
 use Rattle.rules.specs.Free.{Free, recordAt, freeSession, freeRegister}
@@ -29,12 +29,16 @@ entryLabel = 1
 abbrev pub linkLabel : ℕ → ℕ
 linkLabel g = suc g
 
--- a record of the directory: there, with one plain field and a first reference field
+-- how many reference fields the record with that word has: a group two, a person and a link one
+abbrev pub refsFor : ℕ → ℕ
+refsFor w = cond (leb groupMark w) 2 1
+
+-- a record of the directory: there, with one plain field and its reference fields
 pub record Good (f : Free) (q : ℕ) : Type 0 where
   pub some : 1 ≤ q
   pub within : q ≤ length (f .records)
   pub plain : length (recordAt f q .plains) ≡ 1
-  pub next : 0 < length (recordAt f q .refs)
+  pub refs : length (recordAt f q .refs) ≡ refsFor (numberAt f q)
 
 abbrev pub Owned : Free → (ℕ → ℕ) → Type 0
 Owned f lab = (q : ℕ) → lab q ≢ othersLabel → Good f q
@@ -67,7 +71,6 @@ pub record Layout : Type 0 where
 
 -- the links of the group at place g
 pub record Linked (f : Free) (y : Layout) (pairs : List Pair) (g : ℕ) : Type 0 where
-  pub two : 1 < length (recordAt f g .refs)
   pub chain : Chain f (y .label) (linkLabel g) (field g firstField) (y .links g)
   pub words : map (numberAt f) (y .links g) ≡ membersOf (numberAt f g - groupMark) pairs
 
@@ -89,6 +92,10 @@ pub record Represents (f : Free) (y : Layout) (t : Table) : Type 0 where
   pub core : Core f y t
   pub opened : freeSession f ownSession .attached ≡ t .opened
   pub cleared : (k : ℕ) → reg f k ≡ null
+
+-- every place that was the directory's still is
+abbrev pub Stays : Layout → Layout → Type 0
+Stays y z = (q : ℕ) → y .label q ≢ othersLabel → z .label q ≢ othersLabel
 
 -- ---- the layouts that calls leave
 

@@ -13,7 +13,7 @@ use Rattle.directory_rules.proofs.free.Slots.{Slot, top, field, numberA
 use Rattle.directory_rules.proofs.chains.Laws.{chain-label, chain-real}
 use Rattle.directory_rules.proofs.chains.Core.{othersLabel, entryLabel, linkLabel, Good, Layout, Core}
 use Rattle.directory_rules.proofs.chains.Labels.{Root, entries-root, links-root, Of, at-begin, at-place, of-after, root-place}
-use Rattle.directory_rules.proofs.chains.SoundStore.{good-there}
+use Rattle.directory_rules.proofs.chains.SoundStore.{refs-group, good-there}
 
 module _ {f : Free} {y : Layout} {t : Table} (c : Core f y t) where
   pub entry-own : {q : ℕ} → List·Memᴰ q (y .groups ++ y .people) → y .label q ≢ othersLabel
@@ -69,7 +69,10 @@ module _ {f : Free} {y : Layout} {t : Table} (c : Core f y t) where
     group-words g e = let z : numberAt f q - groupMark ≡ g = omega arith in rw z at (c .linked q i .words)
 
     pub first-there : There f (field q firstField)
-    first-there = let h = c .store .own q group-own in (h .some, h .within, c .linked q i .two)
+    first-there =
+        let h = c .store .own q group-own in
+        let two = h .refs ∙ refs-group group-high in
+        (h .some, h .within, omega arith)
 
     pub links-there : (xs ys : List ℕ) → y .links q ≡ xs ++ ys → There f (slotAfter (field q firstField) xs)
     links-there xs ys e = of-there group-root first-there (of-after xs ys (rw e at (c .linked q i .chain)))

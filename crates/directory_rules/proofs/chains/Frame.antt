@@ -42,7 +42,6 @@ module _ {f : Free} {y : Layout} {t : Table} (c : Core f y t)
       let o = group-own c m in
       let r = group-root c m in
       record {
-        two = rw (kept q o) (h .two);
         chain = chain-kept r (h .chain);
         words = map-same (y .links q) (λ x i. number-kept x (root-place r x (chain-label (h .chain) i))) ∙ rw (number-kept q o) (h .words);
       }

@@ -22,6 +22,7 @@ use Rattle.directory_rules.proofs.chains.Chain.{Chain, ends}
 use Rattle.directory_rules.proofs.chains.Laws.{chain-end, chain-rest}
 use Rattle.directory_rules.proofs.chains.Core.{othersLabel, entryLabel, linkLabel, Layout, Core, withPerson, withGroup, withLink}
 use Rattle.directory_rules.proofs.chains.Labels.{Root, entries-root, of-after, of-end, root-own}
+use Rattle.directory_rules.proofs.chains.SoundStore.{refs-low, refs-group}
 use Rattle.directory_rules.proofs.chains.Entries.{top-there, first-there, group-own, group-links, group-root, groups-among}
 use Rattle.directory_rules.proofs.chains.Frame.{relabelled}
 use Rattle.directory_rules.proofs.chains.New.{New, new-grow, new-field, update-new, core-new, new-word, new-there, new-number, new-away, new-held}
@@ -30,9 +31,9 @@ use Rattle.directory_rules.proofs.chains.Written.{written-kept, written
 module _ {f : Free} {y : Layout} {t : Table} (c : Core f y t) where
   -- ---- a person or a link, at the end of a chain
 
-  module _ (n l : ℕ) (d : l ≢ othersLabel) where
+  module _ (n l : ℕ) (small : n ≤ lastNumber) (d : l ≢ othersLabel) where
     core-grown : Core (grow f 1 n) (relabelled y (update (y .label) (newPlace f) l)) t
-    core-grown = core-new c (new-grow f 1 n) (omega arith) l d
+    core-grown = core-new c (new-grow f 1 n) (sym (refs-low small)) l d
 
     appended : {sl : Slot} → Root (y .label) sl l → Root (update (y .label) (newPlace f) l) sl l → There (grow f 1 n) sl → (xs : List ℕ)
         → Chain f (y .label) l sl xs → Chain (grow f 1 n) (update (y .label) (newPlace f) l) l sl xs
@@ -48,28 +49,28 @@ module _ {f : Free} {y : Layout} {t : Table} (c : Core f y t) where
   core-person n small new =
       let p = newPlace f in
       let d : entryLabel ≢ othersLabel = λ e. omega arith in
-      let c₁ = core-grown n entryLabel d in
+      let c₁ = core-grown n entryLabel small d in
       let o = of-end (y .groups ++ y .people) (c₁ .entries) in
       core-entries c₁ o p (sound-person (c .sound) n small new)
-      (rw append-assoc at (appended n entryLabel d entries-root entries-root (top-there c₁) (y .groups ++ y .people) (c .entries) (c₁ .entries)))
+      (rw append-assoc at (appended n entryLabel small d entries-root entries-root (top-there c₁) (y .groups ++ y .people) (c .entries) (c₁ .entries)))
       (c₁ .groups)
       (rw (map-append (numberAt (grow f 1 n)) (y .people) (p ∷ []), c₁ .people, new-word (new-grow f 1 n)))
       (λ x m. written-old c₁ entries-root o p (t .pairs) x m (group-links c m) refl refl)
 
-  pub core-link : (n g q : ℕ) → List·Memᴰ q (y .groups) → numberAt f q ≡ groupMark + g → among n (membersOf g (t .pairs)) ≡ false
+  pub core-link : (n g q : ℕ) → n ≤ lastNumber → List·Memᴰ q (y .groups) → numberAt f q ≡ groupMark + g → among n (membersOf g (t .pairs)) ≡ false
       → Core (written (grow f 1 n) (slotAfter (field q firstField) (y .links q)) (newPlace f)) (withLink y q (newPlace f))
       (withPairs t (t .pairs ++ (record { person = n; group = g } ∷ [])))
-  core-link n g q i e new =
+  core-link n g q small i e new =
       let p = newPlace f in
       let d : linkLabel q ≢ othersLabel = λ z. omega arith in
-      let c₁ = core-grown n (linkLabel q) d in
+      let c₁ = core-grown n (linkLabel q) small d in
       let h = c₁ .linked q i in
       let same : numberAt (grow f 1 n) q ≡ numberAt f q = new-number c (new-grow f 1 n) q (group-own c i) in
       let is : numberAt (grow f 1 n) q - groupMark ≡ g = omega arith in
       let words : map (numberAt (grow f 1 n)) (y .links q) ≡ membersOf g (t .pairs) = rw is at (h .words) in
       core-links c₁ i (of-end (y .links q) (h .chain)) p (t .pairs ++ (record { person = n; group = g } ∷ []))
-      (sound-pair (c .sound) n g (sym (groups-among c g) ∙ among-map (numberAt f) i e) new)
-      (appended n (linkLabel q) d (group-root c i) (group-root c₁ i) (first-there c₁ i) (y .links q) (c .linked q i .chain) (h .chain))
+      (sound-pair (c .sound) n g small (sym (groups-among c g) ∙ among-map (numberAt f) i e) new)
+      (appended n (linkLabel q) small d (group-root c i) (group-root c₁ i) (first-there c₁ i) (y .links q) (c .linked q i .chain) (h .chain))
       (rw (is, map-append (numberAt (grow f 1 n)) (y .links q) (p ∷ []), words, new-word (new-grow f 1 n), members-pair n g (t .pairs)))
       (λ k z. members-pair-other n g (t .pairs) k (λ a. z (a ∙ sym is)))
 
@@ -98,7 +99,7 @@ module _ {f : Free} {y : Layout} {t : Table} (c : Core f y t) where
   core-group g new =
       let p = newPlace f in
       let w = slotAfter top (y .groups) in
-      let c₁ : Core (made g) (relabelled y (update (y .label) p entryLabel)) t = core-new c (made-new g) (omega arith) entryLabel (λ e. omega arith) in
+      let c₁ : Core (made g) (relabelled y (update (y .label) p entryLabel)) t = core-new c (made-new g) (sym (refs-group {w = groupMark + g} (omega arith))) entryLabel (λ e. omega arith) in
       let own = root-own {lab = y .label} entries-root (of-after (y .groups) (y .people) (c .entries)) in
       let o = of-after (y .groups) (y .people) (c₁ .entries) in
       let number : numberAt (made g) p ≡ groupMark + g = new-word (made-new g) in
@@ -111,6 +112,6 @@ module _ {f : Free} {y : Layout} {t : Table} (c : Core f y t) where
       (λ x m. either (List·Memᴰ·append-cases (y .groups) m)
       (λ a. written-old c₁ entries-root o p (t .pairs) x a (group-links c a)
       (update-else (y .links) p x [] (λ e. new-away c (made-new g) (field x 0) (group-own c a) 0 (ap (λ z. field z 0) (sym e)))) refl)
-      (λ a. rw (List·Memᴰ·eq-of-singleton a) (written-linked c₁ entries-root o p (t .pairs) p [] (update-at (y .links) p []) (rw ((made-new g) .refs) (omega arith))
+      (λ a. rw (List·Memᴰ·eq-of-singleton a) (written-linked c₁ entries-root o p (t .pairs) p [] (update-at (y .links) p [])
       (ends (written-kept c₁ entries-root o p (field p firstField) (λ e. omega arith) (new-away c (made-new g) w own firstField) ∙ made-first g))
       (rw is (sym (c .sound .unknown g new))))))

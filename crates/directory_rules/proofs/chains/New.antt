@@ -16,7 +16,7 @@ use Rattle.directory_rules.specs.Directory.{numberField}
 use Rattle.directory_rules.proofs.free.Session.{same-session, shaped-from}
 use Rattle.directory_rules.proofs.free.Slots.{Slot, top, field, held, written, numberAt, grow, newPlace, There}
 use Rattle.directory_rules.proofs.free.Held.{written-sessions, written-field-globals, written-records, written-plains, written-refs, written-record, grow-record, grow-new, grow-length}
-use Rattle.directory_rules.proofs.chains.Core.{othersLabel, Good, SoundStore, Layout, Core}
+use Rattle.directory_rules.proofs.chains.Core.{othersLabel, refsFor, Good, SoundStore, Layout, Core}
 use Rattle.directory_rules.proofs.chains.Labels.{Own}
 use Rattle.directory_rules.proofs.chains.SoundStore.{good-from, apart-from}
 use Rattle.directory_rules.proofs.chains.Frame.{relabelled, core-frame}
@@ -71,6 +71,12 @@ update-old : (m : ℕ → ℕ) (p l q : ℕ) → q ≢ p → update m p l q ≡ 
 unfolding update
 update-old m p l q d = rw (ne-eqb q p d)
 
+-- a place more with a label of the directory
+pub stays-new : (lab : ℕ → ℕ) (p l : ℕ) → l ≢ othersLabel → (q : ℕ) → lab q ≢ othersLabel → update lab p l q ≢ othersLabel
+stays-new lab p l d q o e = eq-or q p
+    (λ z. d (sym (update-new lab p l) ∙ (rw z at e)))
+    (λ z. o (sym (update-old lab p l q z) ∙ e))
+
 -- ---- the new record is the directory's
 
 module _ {f g : Free} {lab : ℕ → ℕ} (h : SoundStore f lab) {r n : ℕ} (new : New f g r n) where
@@ -80,11 +86,11 @@ module _ {f g : Free} {lab : ℕ → ℕ} (h : SoundStore f lab) {r n : ℕ} (ne
   own-record : (q : ℕ) → lab q ≢ othersLabel → recordAt g q ≡ recordAt f q
   own-record q o = new .old q (λ e. let some = h .own q o .some in omega arith) (own-old q o)
 
-  module _ (some : 0 < r) (l : ℕ) (d : l ≢ othersLabel) where
+  module _ (fields : r ≡ refsFor n) (l : ℕ) (d : l ≢ othersLabel) where
     new-good : Good g (newPlace f)
     new-good =
         let size = new .records in
-        record { some = omega arith; within = omega arith; plain = ap length (new .word); next = rw (new .refs) some }
+        record { some = omega arith; within = omega arith; plain = ap length (new .word); refs = new .refs ∙ fields ∙ ap refsFor (sym (new-word new)) }
 
     not-new : (q : ℕ) → update lab (newPlace f) l q ≡ othersLabel → q ≢ newPlace f
     not-new q e z = d (sym (update-new lab (newPlace f) l) ∙ (rw z at e))
@@ -106,10 +112,10 @@ module _ {f g : Free} {lab : ℕ → ℕ} (h : SoundStore f lab) {r n : ℕ} (ne
         }
 
 module _ {f g : Free} {y : Layout} {t : Table} (c : Core f y t) {r n : ℕ} (new : New f g r n) where
-  pub core-new : 0 < r → (l : ℕ) → l ≢ othersLabel → Core g (relabelled y (update (y .label) (newPlace f) l)) t
-  core-new some l d =
+  pub core-new : r ≡ refsFor n → (l : ℕ) → l ≢ othersLabel → Core g (relabelled y (update (y .label) (newPlace f) l)) t
+  core-new fields l d =
       let h = c .store in
-      core-frame c (sound-grown h new some l d) (ap (λ x. getD x ownGlobal null) (new .globals)) (own-record h new)
+      core-frame c (sound-grown h new fields l d) (ap (λ x. getD x ownGlobal null) (new .globals)) (own-record h new)
       (λ q o. update-old (y .label) (newPlace f) l q (own-old h new q o))
 
   pub new-number : (q : ℕ) → y .label q ≢ othersLabel → numberAt g q ≡ numberAt f q

@@ -1,32 +1,46 @@
 -- The directory's records, and that the others hold none of them, after a change of the store.
-use Prim.Native.Nat.{ℕ, _≤_}
+use Prim.Native.Nat.{ℕ, _≤_, _<_}
 use mathlib.Core.Path.{_≡_, sym, ap, _∙_}
 use mathlib.Core.Logic.{_≢_}
+use mathlib.Core.Bool.{Bool, true, false, cond}
+use lib.Dec.{leb}
+use borrow.Author.Tests.{le-leb, lt-leb}
 use native.Mathlib.Omega.{arith}
 use lib.ListN.{getD, length}
 use Rattle.rules.specs.Memory.{null}
 use Rattle.rules.specs.Free.{Free, recordAt, freeSession}
 use Rattle.directory_rules.specs.Acts.{ownSession, ownGlobal}
-use Rattle.directory_rules.specs.Directory.{nextField}
+use Rattle.directory_rules.specs.Table.{lastNumber}
+use Rattle.directory_rules.specs.Directory.{groupMark, nextField, numberField}
 use Rattle.directory_rules.proofs.free.Session.{same-session, shaped-from}
-use Rattle.directory_rules.proofs.free.Slots.{Slot, field, written, There}
+use Rattle.directory_rules.proofs.free.Slots.{Slot, field, written, numberAt, There}
 use Rattle.directory_rules.proofs.free.Held.{written-sessions, written-globals, written-global, written-records, written-plains, written-refs, written-record}
-use Rattle.directory_rules.proofs.chains.Core.{othersLabel, Good, Owned, Foreign, Apart, SoundStore}
+use Rattle.directory_rules.proofs.chains.Core.{othersLabel, refsFor, Good, Owned, Foreign, Apart, SoundStore}
 use Rattle.directory_rules.proofs.chains.Labels.{Own, own-placed}
 
 -- a record of a chain is the directory's
 pub good-at : {f : Free} {lab : ℕ → ℕ} {l q : ℕ} → Owned f lab → l ≢ othersLabel → lab q ≡ l → Good f q
 good-at {q = q} own ours mine = own q (λ e. ours (sym mine ∙ e))
 
+pub refs-low : {w : ℕ} → w ≤ lastNumber → refsFor w ≡ 1
+refs-low {w} small = rw (lt-leb groupMark w (omega arith))
+
+pub refs-group : {w : ℕ} → groupMark ≤ w → refsFor w ≡ 2
+refs-group {w} high = rw (le-leb groupMark w high)
+
 pub good-there : {f : Free} {q : ℕ} → Good f q → There f (field q nextField)
-good-there g = (g .some, g .within, g .next)
+good-there {f} {q} g = (g .some, g .within, rw (g .refs) (some (leb groupMark (numberAt f q))))
+  where
+    some : (b : Bool) → 0 < cond b 2 1
+    some true = omega arith
+    some false = omega arith
 
 -- a record with as many fields as before
 pub good-from : {f g : Free} {q : ℕ} → length (f .records) ≤ length (g .records) → recordAt g q .plains ≡ recordAt f q .plains
     → length (recordAt g q .refs) ≡ length (recordAt f q .refs) → Good f q → Good g q
 good-from l p r h =
     let within = h .within in
-    record { some = h .some; within = omega arith; plain = ap length p ∙ h .plain; next = rw r (h .next) }
+    record { some = h .some; within = omega arith; plain = ap length p ∙ h .plain; refs = r ∙ h .refs ∙ ap (λ x. refsFor (getD x numberField 0)) (sym p) }
 
 -- the others hold what they held
 pub apart-from : {f g : Free} {lab lab′ : ℕ → ℕ} → Apart f lab

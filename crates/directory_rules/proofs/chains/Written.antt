@@ -48,18 +48,18 @@ module _ {f : Free} {y : Layout} {t : Table} (c : Core f y t) {sl w : Slot} {l :
       (λ q m. chain-label h m)
 
   -- the links of a group
-  pub written-linked : {gs ps : List ℕ} {ls : ℕ → List ℕ} (pairs : List Pair) (q : ℕ) (qs : List ℕ) → ls q ≡ qs → 1 < length (recordAt f q .refs)
+  pub written-linked : {gs ps : List ℕ} {ls : ℕ → List ℕ} (pairs : List Pair) (q : ℕ) (qs : List ℕ) → ls q ≡ qs
       → Chain (written f w v) (y .label) (linkLabel q) (field q firstField) qs
       → map (numberAt f) qs ≡ membersOf (numberAt f q - groupMark) pairs → Linked (written f w v) (arranged y gs ps ls) pairs q
-  written-linked pairs q qs e two chain words =
-      record { two = rw (written-refs f w v q) two; chain = rw e chain; words = rw (e, written-number q) (written-words qs ∙ words) }
+  written-linked pairs q qs e chain words =
+      record { chain = rw e chain; words = rw (e, written-number q) (written-words qs ∙ words) }
 
   -- those of a group whose chain isn't written
   pub written-old : {gs ps : List ℕ} {ls : ℕ → List ℕ} (pairs : List Pair) (q : ℕ) → List·Memᴰ q (y .groups) → linkLabel q ≢ l → ls q ≡ y .links q
       → membersOf (numberAt f q - groupMark) pairs ≡ membersOf (numberAt f q - groupMark) (t .pairs) → Linked (written f w v) (arranged y gs ps ls) pairs q
   written-old pairs q m d e s =
       let h = c .linked q m in
-      written-linked pairs q (y .links q) e (h .two) (written-chain (group-root c m) d (h .chain)) (h .words ∙ sym s)
+      written-linked pairs q (y .links q) e (written-chain (group-root c m) d (h .chain)) (h .words ∙ sym s)
 
 -- ---- the written chain
 
@@ -124,7 +124,7 @@ core-links {f} {y} {t} c {q} i {w} o v {qs} pairs s chain words others =
       groups = written-words c r o v (y .groups) ∙ c .groups;
       people = written-words c r o v (y .people) ∙ c .people;
       linked = λ x m. eq-or x q
-          (λ e. rw e (written-linked c r o v pairs q qs (update-at (y .links) q qs) (c .linked q i .two) chain words))
+          (λ e. rw e (written-linked c r o v pairs q qs (update-at (y .links) q qs) chain words))
           (λ d. written-old c r o v pairs x m (λ e. d (omega arith)) (update-else (y .links) q x qs d) (others (numberAt f x - groupMark) (λ e. d (same-group x m e))));
     }
   where

@@ -10,28 +10,23 @@ use Rattle.rules.specs.Refusals.{Tested, refused, passed, check, _>>=_, _>>_, O
 use Rattle.rules.specs.Calls.{isRegister, isShape, numberLeft}
 use Rattle.rules.specs.Runs.{Call, SafePoint, apply, after, isSession, isAllocation, Fed, fitted, fedBy}
 use Rattle.rules.specs.Free.{Free, newFree, freeApply, freeSessionOf, fedShare, fedRoom, freeAllocate}
-use Rattle.rules.specs.Tracking.{Beside, newBeside, besideCall, beside}
+use Rattle.rules.specs.Tracking.{newBeside}
 use Rattle.rules.specs.Claims.{Made, freeAfter, NextAnswer, SafePointAnswer}
 use Rattle.rules.proofs.relation.Kinds.{Kind, allocation, unfed, silent, kind}
-use Rattle.rules.proofs.runs.Runs.{beside-store, after-more}
+use Rattle.rules.proofs.runs.Runs.{beside-store, after-more, beside-more}
 use Rattle.rules.proofs.runs.Claims.{next-answer, safe-point-answer}
 use Rattle.directory_rules.specs.Acts.{ownSession, Ask, attach, safePoint, allocate, load, store, read, write, move, clear, get, put, callOf, refusedBy}
 use Rattle.directory_rules.proofs.free.Perform.{allocateFed, freeAsk}
 
--- t and f are what some calls leave of the store s and of the collector-free store
-pub record Here (s t : Store) (f : Free) : Type 0 where
-  pub calls : List Call
-  pub store : after s calls ≡ t
-  pub free : freeAfter s calls ≡ f
+-- t and f are what the calls cs leave of the store s and of the collector-free store
+pub record Here (s : Store) (cs : List Call) (t : Store) (f : Free) : Type 0 where
+  pub store : after s cs ≡ t
+  pub free : freeAfter s cs ≡ f
 
-pub here-new : (s : Store) → Here s s newFree
-here-new s = record { calls = []; store = refl; free = refl }
+pub here-new : (s : Store) → Here s [] s newFree
+here-new s = record { store = refl; free = refl }
 
 -- ---- one call more
-
-beside-more : (b : Beside) (cs : List Call) (c : Call) → beside b (cs ++ (c ∷ [])) ≡ besideCall (beside b cs) c
-beside-more b [] c = refl
-beside-more b (x ∷ cs) c = beside-more (besideCall b x) cs c
 
 -- what it leaves of the collector-free store, fed as it was answered
 abbrev pub freeNext : Store → Free → Call → Free
@@ -39,24 +34,23 @@ freeNext t f c = cond (isSession c) (freeApply f c (fedBy (apply t c .reply)) .s
 
 free-more : (s : Store) (cs : List Call) (c : Call) → freeAfter s (cs ++ (c ∷ [])) ≡ freeNext (after s cs) (freeAfter s cs) c
 free-more s cs c =
-    ap (λ b. b .free) (beside-more (newBeside s) cs c) ∙ ap (λ t. freeNext t (freeAfter s cs) c) (beside-store (newBeside s) cs)
+    ap (λ b. b .free) (beside-more (newBeside s) cs (c ∷ [])) ∙ ap (λ t. freeNext t (freeAfter s cs) c) (beside-store (newBeside s) cs)
 
-module _ {s t : Store} {f : Free} (here : Here s t f) where
-  pub here-call : (c : Call) → Here s (apply t c .store) (freeNext t f c)
+module _ {s t : Store} {cs : List Call} {f : Free} (here : Here s cs t f) where
+  pub here-call : (c : Call) → Here s (cs ++ (c ∷ [])) (apply t c .store) (freeNext t f c)
   here-call c = record {
-    calls = here .calls ++ (c ∷ []);
-    store = rw (after-more s (here .calls) (c ∷ []), here .store);
-    free = rw (free-more s (here .calls) c, here .store, here .free);
+    store = rw (after-more s cs (c ∷ []), here .store);
+    free = rw (free-more s cs c, here .store, here .free);
   }
 
   module _ (made : Made s) where
     session-reply : (c : Call) → isSession c ≡ true → apply t c .reply ≡ freeApply f c (fedBy (apply t c .reply)) .reply
     unfolding NextAnswer
-    session-reply c session = rw (here .store, here .free) at (next-answer s made (here .calls) c session)
+    session-reply c session = rw (here .store, here .free) at (next-answer s made cs c session)
 
     pub safe-point-reply : apply t (SafePoint ownSession) .reply ≡ answer (doneOr (freeSessionOf f ownSession))
     unfolding SafePointAnswer
-    safe-point-reply = rw (here .store, here .free) at (safe-point-answer s made (here .calls) ownSession)
+    safe-point-reply = rw (here .store, here .free) at (safe-point-answer s made cs ownSession)
 
 -- ---- one call of the directory's session
 
@@ -64,9 +58,9 @@ module _ {s t : Store} {f : Free} (here : Here s t f) where
 abbrev pub FedRight : ℕ → Store → Ask → Type 0
 FedRight fed t c = isAllocation (callOf c) ≡ true → fed ≡ refusedBy (apply t (callOf c) .reply)
 
-pub record AskedBoth (s t : Store) (f : Free) (fed : ℕ) (c : Ask) : Type 0 where
+pub record AskedBoth (s : Store) (cs : List Call) (t : Store) (f : Free) (fed : ℕ) (c : Ask) : Type 0 where
   pub reply : apply t (callOf c) .reply ≡ freeAsk fed f c .reply
-  pub here : Here s (apply t (callOf c) .store) (freeAsk fed f c .store)
+  pub here : Here s (cs ++ (callOf c ∷ [])) (apply t (callOf c) .store) (freeAsk fed f c .store)
 
 -- what isn't an allocation doesn't go by what is fed
 by-kind : (f : Free) (c : Ask) (fed : Fed) → Kind (callOf c) → isSession (callOf c) ≡ true → isAllocation (callOf c) ≡ false
@@ -95,18 +89,18 @@ unfolding freeAllocate allocateFed
 fed-same f k r p x = same-after f x (freeSessionOf f ownSession) _ _ (λ y. same-after f x (check (isRegister k) 8) _ _
     (λ u. same-after f x (check (isShape r p) 10) _ _ (λ w. last-tests f _ (fedShare (fedBy x)) (fedRoom (fedBy x)) (numberLeft (length (f .records))) x)))
 
-module _ {s t : Store} {f : Free} (here : Here s t f) (made : Made s) (fed : ℕ) where
+module _ {s t : Store} {cs : List Call} {f : Free} (here : Here s cs t f) (made : Made s) (fed : ℕ) where
   -- by what is asked there and what that does to the collector-free store
-  asked-by : (c : Ask) → isSession (callOf c) ≡ true → freeApply f (callOf c) (fedBy (apply t (callOf c) .reply)) ≡ freeAsk fed f c → AskedBoth s t f fed c
+  asked-by : (c : Ask) → isSession (callOf c) ≡ true → freeApply f (callOf c) (fedBy (apply t (callOf c) .reply)) ≡ freeAsk fed f c → AskedBoth s cs t f fed c
   asked-by c session e = record {
     reply = rw (← e) (session-reply here made (callOf c) session);
     here = rw (← e) (rw session at (here-call here (callOf c)));
   }
 
-  unfed-asked : (c : Ask) → isSession (callOf c) ≡ true → isAllocation (callOf c) ≡ false → freeApply f (callOf c) fitted ≡ freeAsk fed f c → AskedBoth s t f fed c
+  unfed-asked : (c : Ask) → isSession (callOf c) ≡ true → isAllocation (callOf c) ≡ false → freeApply f (callOf c) fitted ≡ freeAsk fed f c → AskedBoth s cs t f fed c
   unfed-asked c session other e = asked-by c session (by-kind f c _ (kind (callOf c)) session other ∙ e)
 
-  pub asked-both : (c : Ask) → FedRight fed t c → AskedBoth s t f fed c
+  pub asked-both : (c : Ask) → FedRight fed t c → AskedBoth s cs t f fed c
   asked-both (attach share) right = unfed-asked (attach share) refl refl refl
   asked-both safePoint right = record { reply = safe-point-reply here made; here = here-call here (SafePoint ownSession) }
   asked-both (allocate k r p) right = asked-by (allocate k r p) refl (rw (right refl) (fed-same f k r p _ (session-reply here made (callOf (allocate k r p)) refl)))

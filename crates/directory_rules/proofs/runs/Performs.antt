@@ -2,12 +2,13 @@
 use Prim.Native.Nat.{ℕ, _≤_}
 use mathlib.Core.Path.{_≡_, refl, sym, _∙_}
 use mathlib.Core.Bool.{true≢false}
+use mathlib.Core.List.{List, [], _∷_, _++_, append-nil, append-assoc}
 use native.Mathlib.Omega.{arith}
 use Rattle.rules.specs.Control.{Store}
-use Rattle.rules.specs.Runs.{apply}
+use Rattle.rules.specs.Runs.{Call, apply}
 use Rattle.rules.specs.Free.{Free}
 use Rattle.rules.specs.Claims.{Made}
-use Rattle.directory_rules.specs.Acts.{allocate, callOf, Act, stop, give, ask, perform, refusedBy, allocationNumber}
+use Rattle.directory_rules.specs.Acts.{allocate, callOf, Act, stop, give, ask, perform, callsMade, refusedBy, allocationNumber}
 use Rattle.directory_rules.proofs.acts.Few.{Few, few-stop, few-give, few-ask, few-make}
 use Rattle.directory_rules.proofs.free.Perform.{freePerform}
 use Rattle.directory_rules.proofs.runs.Beside.{Here, FedRight, asked-both}
@@ -20,17 +21,21 @@ FedAll fed t (stop n) = Unit {0}
 FedAll fed t (give x) = Unit {0}
 FedAll fed t (ask c k) = FedRight fed t c × FedAll fed (apply t (callOf c) .store) (k (apply t (callOf c) .reply))
 
-pub record Performs {A : Type 0} (s t : Store) (f : Free) (fed : ℕ) (a : Act A) : Type 0 where
+-- the calls that it makes come behind those before it
+pub record Performs {A : Type 0} (s : Store) (cs : List Call) (t : Store) (f : Free) (fed : ℕ) (a : Act A) : Type 0 where
   pub result : perform t a .result ≡ freePerform fed f a .result
-  pub here : Here s (perform t a .store) (freePerform fed f a .store)
+  pub here : Here s (cs ++ callsMade t a) (perform t a .store) (freePerform fed f a .store)
 
-pub performs : {A : Type 0} {s t : Store} {f : Free} → Here s t f → Made s → (fed : ℕ) (a : Act A) → FedAll fed t a → Performs s t f fed a
-performs here made fed (stop n) right = record { result = refl; here = here }
-performs here made fed (give x) right = record { result = refl; here = here }
-performs {t = t} here made fed (ask c k) right =
+pub performs : {A : Type 0} {s t : Store} {cs : List Call} {f : Free} → Here s cs t f → Made s → (fed : ℕ) (a : Act A) → FedAll fed t a
+    → Performs s cs t f fed a
+performs here made fed (stop n) right = record { result = refl; here = rw append-nil here }
+performs here made fed (give x) right = record { result = refl; here = rw append-nil here }
+performs {t = t} {cs = cs} here made fed (ask c k) right =
     let x = asked-both here made fed c (right .0) in
-    let p = performs (x .here) made fed (k (apply t (callOf c) .reply)) (right .1) in
-    record { result = rw (freePerform, ← x .reply) (p .result); here = rw (freePerform, ← x .reply) (p .here) }
+    let r = apply t (callOf c) .reply in
+    let p = performs (x .here) made fed (k r) (right .1) in
+    let joined = append-assoc cs (callOf c ∷ []) (callsMade (apply t (callOf c) .store) (k r)) in
+    record { result = rw (freePerform, ← x .reply) (p .result); here = rw (freePerform, ← x .reply) (rw joined at (p .here)) }
 
 -- ---- an act of at most one allocation
 

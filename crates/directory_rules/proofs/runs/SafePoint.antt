@@ -2,13 +2,14 @@
 use Prim.Native.Nat.{ℕ}
 use mathlib.Core.Path.{_≡_, refl, sym, ap, _∙_, subst}
 use mathlib.Core.Bool.{Bool, true, false, true≢false}
+use mathlib.Core.List.{List, [], _∷_, _++_}
 use lib.ListN.{getD}
 use lib.Seq.{ext-getD}
 use Rattle.rules.specs.Memory.{null}
 use Rattle.rules.specs.Control.{Store}
 use Rattle.rules.specs.Phases.{sessionAt}
 use Rattle.rules.specs.Refusals.{answer}
-use Rattle.rules.specs.Runs.{SafePoint, apply}
+use Rattle.rules.specs.Runs.{Call, SafePoint, apply}
 use Rattle.rules.specs.Free.{freeSession, freeSessionOf}
 use Rattle.rules.specs.Claims.{Made}
 use Rattle.rules.specs.declared.Answer.the-variants.{Refused, Done}
@@ -40,9 +41,9 @@ null-same {s} {t} o a b = only-all s t o (ext-getD null _ _ (o .registers) (λ k
 
 -- ---- a call whose safe point is not refused
 
-module _ {s t : Store} {u : Table} (made : Made s) (a : State s t u) where
+module _ {s t : Store} {cs : List Call} {u : Table} (made : Made s) (a : State s cs t u) where
   -- the store that the safe point leaves, with the same table
-  state-safe-point : State s (apply t (SafePoint ownSession) .store) u
+  state-safe-point : State s (cs ++ (SafePoint ownSession ∷ [])) (apply t (SafePoint ownSession) .store) u
   state-safe-point = record { free = a .free; here = here-call (a .here) (SafePoint ownSession); layout = a .layout; represents = a .represents }
 
   -- it is refused where the session isn't attached
@@ -94,4 +95,4 @@ module _ {s t : Store} {u : Table} (made : Made s) (a : State s t u) where
 
 pub safe-point-only : SafePointOnly
 unfolding SafePointOnly
-safe-point-only s made xs e q tests = request-only made (items-state made xs e .1) q tests
+safe-point-only s made xs e q tests = request-only made (items-state made xs e) q tests

@@ -1,13 +1,15 @@
 -- Pairs and the members of a group: who is paired, and pairs left out.
-use Prim.Native.Nat.{ℕ}
-use mathlib.Core.Path.{_≡_, refl, ap}
-use mathlib.Core.Bool.{Bool, true, false, cond, _&&_, _||_}
+use Prim.Native.Nat.{ℕ, suc, _+_}
+use mathlib.Core.Path.{_≡_, refl, ap, _∙_}
+use mathlib.Core.Bool.{Bool, true, false, cond, _&&_, _||_, false≢true}
 use mathlib.Core.List.{List, [], _∷_}
 use lib.Dec.{eqb}
-use borrow.Author.Tests.{eq-eqb}
+use lib.ListN.{length}
+use borrow.Author.Tests.{eqb-true, eq-eqb}
 use native.Mathlib.Omega.{arith}
 use Rattle.rules.proofs.memory.Cases.{bool-or, eqb-swap}
 use Rattle.directory_rules.specs.Table.{Pair, among, paired, unpair, withoutPerson, membersOf}
+use Rattle.directory_rules.proofs.tables.Numbers.{Distinct, one-more, or-parts}
 
 -- ---- paired
 
@@ -66,6 +68,39 @@ fewer false p ms e = e
 
 some-member : (g p : ℕ) (ms : List ℕ) → cond (eqb g g) (p ∷ ms) ms ≡ [] → ⊥
 some-member g p ms e = let q : eqb g g ≡ true = eq-eqb g g refl in let z : _≡_ {A = ℕ} 0 1 = cc (rw q at e) in omega arith
+
+-- ---- how many pairs there are
+
+-- the members of some groups, counted group by group
+abbrev pub memberCount : List ℕ → List Pair → ℕ
+memberCount [] ps = 0
+memberCount (g ∷ gs) ps = length (membersOf g ps) + memberCount gs ps
+
+none-counted : (gs : List ℕ) → memberCount gs [] ≡ 0
+none-counted [] = refl
+none-counted (g ∷ gs) = omega (arith, none-counted gs)
+
+-- a pair more counts where its group is, once
+counted-none : (x : Pair) (xs : List Pair) (gs : List ℕ) → among (x .group) gs ≡ false → memberCount gs (x ∷ xs) ≡ memberCount gs xs
+counted-none x xs [] e = refl
+counted-none x xs (g ∷ gs) e = or-parts (eqb (x .group) g) (among (x .group) gs) e
+    (λ a b. rw (eqb-swap g (x .group), a, counted-none x xs gs b))
+
+counted-one : (x : Pair) (xs : List Pair) (gs : List ℕ) → Distinct gs → among (x .group) gs ≡ true → memberCount gs (x ∷ xs) ≡ suc (memberCount gs xs)
+counted-one x xs [] d e = absurd (false≢true e)
+counted-one x xs (g ∷ gs) (one-more new d) e = bool-or (eqb (x .group) g)
+    (λ a. let z : x .group ≡ g = eqb-true (x .group) g a in
+    rw (eqb-swap g (x .group), a, counted-none x xs gs (rw z new)) (omega arith))
+    (λ a. rw (eqb-swap g (x .group), a, counted-one x xs gs d (rw a at e)) (omega arith))
+
+-- each pair is of one of the groups
+pub members-total : (gs : List ℕ) (ps : List Pair) → Distinct gs → ((g : ℕ) → among g gs ≡ false → membersOf g ps ≡ []) → memberCount gs ps ≡ length ps
+members-total gs [] d h = none-counted gs
+members-total gs (x ∷ xs) d h =
+    let e : among (x .group) gs ≡ true = bool-or (among (x .group) gs) (λ a. a) (λ a. absurd (some-member (x .group) (x .person) (membersOf (x .group) xs) (h (x .group) a))) in
+    counted-one x xs gs d e ∙ ap suc (members-total gs xs d (λ g a. fewer (eqb g (x .group)) (x .person) (membersOf g xs) (h g a)))
+
+-- ---- a person's pairs with all groups
 
 pub unpair-all : (n : ℕ) (gs : List ℕ) (ps : List Pair) → ((g : ℕ) → among g gs ≡ false → membersOf g ps ≡ []) → unpairAll n gs ps ≡ withoutPerson n ps
 unpair-all n gs [] h = unpair-all-none n gs

@@ -65,11 +65,11 @@ each-stored s n k (x ∷ xs) u e = stored-then _ (singleStores n k xs) (store-en
 
 pub links-counted : LinksCounted
 unfolding LinksCounted storeLinks isCount
-links-counted s n k count xs = (λ r e. rw e, λ e l. rw (e, lt-leb count mostLinks l), λ e. rw e)
+links-counted s n k count xs = (λ r e. rw e, λ e l. rw (e, lt-leb count mostLinks (omega arith)), λ e. rw e)
 
 pub links-answer : LinksAnswer
 unfolding LinksAnswer storeLinks isCount
-links-answer s n k count xs e l = rw (e, le-leb count mostLinks l) (each-answer s n k (take count xs))
+links-answer s n k count xs e l = rw (e, le-leb count mostLinks (omega arith)) (each-answer s n k (take count xs))
 
 pub links-stored : LinksStored
 unfolding LinksStored storeLinks

@@ -63,7 +63,7 @@ module _ {K : ℕ → Type 0} {m : ℕ → ℕ} {s : Store} {f : Free} (h : Sim 
 
 -- ---- different values weigh no more than the half
 
-abbrev Once : List ℕ → Type 0
+abbrev pub Once : List ℕ → Type 0
 Once qs = (i j : ℕ) → i < length qs → j < length qs → getD qs i 0 ≡ getD qs j 0 → i ≡ j
 
 member-at : {q : ℕ} (qs : List ℕ) → List·Memᴰ q qs → {C : Type 0} → ((i : ℕ) → i < length qs → q ≡ getD qs i 0 → C) → C

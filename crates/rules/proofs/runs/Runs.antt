@@ -37,6 +37,10 @@ pub after-more : (s : Store) (cs ds : List Call) → after s (cs ++ ds) ≡ afte
 after-more s [] ds = refl
 after-more s (c ∷ cs) ds = after-more (apply s c .store) cs ds
 
+pub beside-more : (b : Beside) (cs ds : List Call) → beside b (cs ++ ds) ≡ beside (beside b cs) ds
+beside-more b [] ds = refl
+beside-more b (c ∷ cs) ds = beside-more (besideCall b c) cs ds
+
 -- ---- session answers
 
 -- one call more: r is its reply, f′ what it leaves of the collector-free store, rs, cs and fs the run after it

@@ -9,10 +9,10 @@ use Rattle.rules.specs.Refusals.{passed, Reply}
 use Rattle.rules.specs.Memory.{frontier, birthNumber, followed}
 use Rattle.rules.specs.Control.{Store}
 use Rattle.rules.specs.Runs.{Call, Step, apply, run, after, isSession, isAllocation, sessionRun, fedBy, feeds, steps, spentBy, spent}
-use Rattle.rules.specs.Tracking.{Beside, besideCall, beside, newBeside, recordsOf}
+use Rattle.rules.specs.Tracking.{Beside, beside, newBeside, recordsOf}
 use Rattle.rules.specs.Cycle.{atRest, atReclaim}
 use Rattle.rules.specs.Claims.{Answers, NoDamage, FilledFrom, Filled, TwoRuns, Freed, FreedBetween, leftIn, placesIn, StaysFreed, scansAndMove, MarkingEnds, MarkingIsOver, RecordsFollowed, BirthNumbers}
-use Rattle.rules.proofs.runs.Runs.{beside-store}
+use Rattle.rules.proofs.runs.Runs.{beside-store, beside-more}
 use Rattle.rules.proofs.runs.Claims.{answers, no-damage, filled, two-runs, freed, stays-freed, records-followed, birth-numbers}
 use Rattle.rules.proofs.runs.MarkingEnds.{marking-ends, marking-is-over}
 use Rattle.store.specs.CodeRuns.{Lent, viewed, CodeRun, ended, next}
@@ -67,16 +67,12 @@ code-two-runs a d b e cs ds rs qs makes makes′ calls calls′ same =
     (two-runs (viewed a) (viewed b) (code-made makes) (code-made makes′) cs ds same)
 
 -- calls after calls
-beside-more : (b : Beside) (cs ds : List Call) → beside b (cs ++ ds) ≡ beside (beside b cs) ds
-beside-more b [] ds = refl
-beside-more b (c ∷ cs) ds = beside-more (besideCall b c) cs ds
-
 run-more : {a b e : Lent} {cs ds : List Call} {rs qs : List Reply}
     → CodeRun a cs rs b → CodeRun b ds qs e → CodeRun a (cs ++ ds) (rs ++ qs) e
 run-more ended calls′ = calls′
 run-more (next called calls) calls′ = next called (run-more calls calls′)
 
-freed-same : {b b′ e e′ : Beside} → b ≡ b′ → e ≡ e′ → FreedBetween b e (leftIn e) → FreedBetween b′ e′ (leftIn e′)
+pub freed-same : {b b′ e e′ : Beside} → b ≡ b′ → e ≡ e′ → FreedBetween b e (leftIn e) → FreedBetween b′ e′ (leftIn e′)
 freed-same x y k = subst (λ (z : Beside × Beside). FreedBetween (z .0) (z .1) (leftIn (z .1))) (ap₂ (λ u v. (u, v)) x y) k
 
 -- a collection that the calls ds after cs end, in the words of the rules
