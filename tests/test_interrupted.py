@@ -6,9 +6,9 @@ import errno
 import random
 from collections import Counter, namedtuple
 
+from models.free_store import ALLOCATE, ATTACH, STEP
 from models.load_model import asked
 from models.store_model import Sapphire
-from models.free_store import ALLOCATE, ATTACH, STEP
 from programs import built_programs, directory_scripts, probe_program, store_scripts, traced_program
 from programs.explain_tool import need
 
