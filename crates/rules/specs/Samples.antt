@@ -5,6 +5,7 @@ use mathlib.Core.List.{List, [], _∷_, _++_, map}
 use lib.ListN.{getD, take, replicate}
 use Rattle.rules.specs.Refusals.{refusalOf}
 use Rattle.rules.specs.Memory.{Memory, withFrontier, null, followed}
+use Rattle.rules.specs.Cycle.{atHeapMark}
 use Rattle.rules.specs.Control.{Lengths, Store, withMemory, withList, withGlobals, nobody, newStore}
 use Rattle.rules.specs.Phases.{withSession, withRegisters, attachedAt}
 use Rattle.rules.specs.Runs.{Call, Allocate, StoreRef, Step, apply, after}
@@ -27,8 +28,20 @@ stepped = map (λ s. number s Step)
 unfoldable pub following : List ℕ → ℕ → ℕ → ℕ
 following ws f v = refusalOf (followed (record { half0 = ws; half1 = ws; frontier0 = f; frontier1 = f }) v)
 
+-- the three lengths
 abbrev pub threeLengths : Lengths → List ℕ
 threeLengths n = n .half0 ∷ n .half1 ∷ n .list ∷ []
+
+-- level, share and registers of a session
+abbrev pub sessionWords : Session → List ℕ
+sessionWords x = x .level ∷ x .share ∷ x .registers
+
+-- a number at each level, and in each phase
+abbrev pub byLevel : (ℕ → ℕ) → List ℕ
+byLevel f = map f (0 ∷ 1 ∷ 2 ∷ 3 ∷ 4 ∷ 5 ∷ 6 ∷ [])
+
+abbrev pub byPhase : (ℕ → ℕ) → List ℕ
+byPhase f = map f (0 ∷ 1 ∷ 2 ∷ 3 ∷ 4 ∷ 5 ∷ 6 ∷ 7 ∷ 8 ∷ 9 ∷ 10 ∷ 11 ∷ 12 ∷ [])
 
 -- a store made with a, b and c words, to which x, y and z are lent
 unfoldable pub lending : ℕ → ℕ → ℕ → ℕ → ℕ → ℕ → Store
@@ -49,6 +62,10 @@ walking s k p =
       sessions = s .sessions;
     }
 
+-- an empty store in phase p at the end of its walk, with session 0 marked, and attached at level l
+unfoldable pub waiting : ℕ → ℕ → Store
+waiting l p = walking (withSession (lending 40 40 10 40 40 10) 0 (attachedAt nobody 0 l true)) 32 p
+
 -- the small store with frontier f of half h
 unfoldable pub reaching : ℕ → ℕ → Store
 reaching h f = withMemory small (withFrontier (small .memory) h f)
@@ -57,15 +74,7 @@ reaching h f = withMemory small (withFrontier (small .memory) h f)
 unfoldable pub levelled : Store → List ℕ → ℕ → Store
 levelled s vs l = withSession s 0 (withRegisters (attachedAt nobody scriptShare l false) vs)
 
--- an empty store in phase p at the end of its walk, with session 0 marked, and attached at level l
-unfoldable pub waiting : ℕ → ℕ → Store
-waiting l p = walking (withSession (lending 40 40 10 40 40 10) 0 (attachedAt nobody 0 l true)) 32 p
-
--- level, share and registers of a session
-abbrev pub sessionWords : Session → List ℕ
-sessionWords x = x .level ∷ x .share ∷ x .registers
-
--- the small store with session 0 so at level l, its registers null
+-- the small store with session 0 attached so, its registers null
 unfoldable pub opened : ℕ → Store
 opened = levelled small (replicate 8 null)
 
@@ -95,6 +104,14 @@ listing l j = withList (three l) (replicate 4 null) j j
 unfoldable pub listed : Store → Call → List ℕ
 listed s c = let t = apply s c .store in take (t .list .tail) (t .list .words)
 
+-- it after some calls in phase 4, with 2 listed
+unfoldable pub scanning : List Call → Store
+scanning cs = after (walking (withList (three 2) (2 ∷ replicate 3 null) 0 1) 0 atHeapMark) cs
+
+-- walk field, and place and end of the list
+abbrev pub progress : Store → List ℕ
+progress s = s .walk .field ∷ s .list .head ∷ s .list .tail ∷ []
+
 -- the records 2 and 14 with their replicas 3 and 15, and 22 without one. 2 has a reference field, which names 22, and a plain field; 22 has a
 -- reference field
 abbrev pub pairs : Memory
@@ -117,9 +134,3 @@ copies k c l = let M = apply (paired l) c .store .memory in getD (M .half0) k 0 
 -- what the fields of 2 and 3 hold after a store of 14, of 15 and of null into the one in register k
 unfoldable pub table : ℕ → ℕ → List ℕ
 table k l = copies 4 (StoreRef 0 k 0 2) l ++ copies 4 (StoreRef 0 k 0 3) l ++ copies 4 (StoreRef 0 k 0 4) l
-
-abbrev pub byLevel : (ℕ → ℕ) → List ℕ
-byLevel f = map f (0 ∷ 1 ∷ 2 ∷ 3 ∷ 4 ∷ 5 ∷ 6 ∷ [])
-
-abbrev pub byPhase : (ℕ → ℕ) → List ℕ
-byPhase f = map f (0 ∷ 1 ∷ 2 ∷ 3 ∷ 4 ∷ 5 ∷ 6 ∷ 7 ∷ 8 ∷ 9 ∷ 10 ∷ 11 ∷ 12 ∷ [])
