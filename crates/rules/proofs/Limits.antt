@@ -2,16 +2,16 @@
 use mathlib.Core.Path.{refl}
 use mathlib.Core.List.{map-append}
 use Rattle.rules.specs.Control.{make}
-use Rattle.rules.specs.Script.{kinds, kindOf, callOf}
+use Rattle.rules.specs.Script.{kinds, kindOf, callOf, decimal}
 use Rattle.rules.specs.Examples.{Computed}
-use Rattle.rules.specs.Samples.{number, value, following, lending, walking, reaching, levelled, waiting, opened, grown, three, listing, listed, paired, copies, table}
+use Rattle.rules.specs.Samples.{number, value, following, lending, walking, reaching, levelled, waiting, opened, grown, three, listing, listed, scanning, paired, copies, table}
 use Rattle.rules.specs.Limits.{makingRows, recordRows, controlRows, callRows, phaseRows, barrierRows, allocationRows, scriptRows, limits}
 use Rattle.rules.specs.Claims.{Limits}
 use Rattle.rules.proofs.Examples.{rules}
 
 -- opens what the rows look at, and the definitions of the script
 looks : Unit {0}
-unfolding number value following lending walking reaching levelled waiting opened grown three listing listed paired copies table make kinds kindOf callOf rules
+unfolding number value following lending walking reaching levelled waiting opened grown three listing listed scanning paired copies table make kinds kindOf callOf decimal rules
 looks = tt
 
 makings-hold : Computed makingRows

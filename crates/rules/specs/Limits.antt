@@ -5,14 +5,16 @@ use mathlib.Core.Bool.{false, cond}
 use mathlib.Core.List.{List, [], _∷_, _++_, map}
 use lib.ListN.{getD, take, length, replicate}
 use Rattle.rules.specs.Refusals.{refusalOf}
-use Rattle.rules.specs.Memory.{withFrontier, null, reference, white, grey, black}
-use Rattle.rules.specs.Cycle.{atHeapMark, atAllocate}
+use Rattle.rules.specs.Memory.{withFrontier, null, reference, refs, white, grey, black}
+use Rattle.rules.specs.Cycle.{atRootMark, atHeapMark, atAllocate, atReclaim, phaseCount, lastPhase}
 use Rattle.rules.specs.Control.{withMemory, withWalk, withList, withCurrent, withBirths, nobody, make}
 use Rattle.rules.specs.Phases.{fromspace, tospace, register, sessionAt, withSession, withRegisters, withLevel, attachedAt}
-use Rattle.rules.specs.Runs.{Attach, Detach, SafePoint, Allocate, Load, StoreRef, StoreLinks, Read, Write, Clear, SameAs, Get, Put, Companion, Birth, Step, after}
-use Rattle.rules.specs.Script.{kindOf, callOf}
+use Rattle.rules.specs.Barriers.{shadesAt, shadesOldAt, copiesAt, replicaFor}
+use Rattle.rules.specs.Collector.{copyRef, copyPlain}
+use Rattle.rules.specs.Runs.{Attach, Detach, SafePoint, Allocate, Load, StoreRef, StoreLinks, Read, Write, Move, Clear, SameAs, Get, Put, Companion, Birth, Step, after}
+use Rattle.rules.specs.Script.{kindOf, callOf, decimal}
 use Rattle.rules.specs.Examples.{Example, makingOf, small, values}
-use Rattle.rules.specs.Samples.{number, value, stepped, following, threeLengths, lending, walking, reaching, waiting, sessionWords, opened, grown, three, listing, listed, paired, copies, table, byLevel, byPhase}
+use Rattle.rules.specs.Samples.{number, value, stepped, following, threeLengths, lending, walking, reaching, waiting, sessionWords, opened, grown, three, listing, listed, scanning, progress, pairs, paired, copies, table, byLevel, byPhase}
 
 -- ---- the rows, by document 01's headings
 
@@ -105,10 +107,18 @@ controlRows =
 -- Session calls, and Refusal by place
 unfoldable pub callRows : List Example
 callRows =
-    -- "5 number above 15", of an attach, and of a session that isn't attached: 6
+    -- "5 number above 15; 6 not attached (all but attach); 7 attached already (attach)"
     record { given = map (number small) (Attach 15 0 ∷ Attach 16 0 ∷ Detach 15 ∷ Detach 16 ∷ []); expected = 0 ∷ 5 ∷ 6 ∷ 5 ∷ [] }
-    -- "8 register above 7; 9 global above 31"
-    ∷ record { given = map (number (opened 0)) (Clear 0 7 ∷ Clear 0 8 ∷ Get 0 0 31 ∷ Get 0 0 32 ∷ []); expected = 0 ∷ 8 ∷ 0 ∷ 9 ∷ [] }
+    ∷ record { given = map (number (opened 0)) (Detach 0 ∷ Attach 0 0 ∷ []); expected = 0 ∷ 7 ∷ [] }
+    -- "8 register above 7; 9 global above 31", then every call's registers and globals
+    ∷ record { given = map (number (opened 0)) (Clear 0 7 ∷ Clear 0 8 ∷ Get 0 0 31 ∷ Get 0 0 32 ∷ Put 0 31 0 ∷ Put 0 32 0 ∷ []); expected = 0 ∷ 8 ∷ 0 ∷ 9 ∷ 0 ∷ 9 ∷ [] }
+    ∷ record {
+      given =
+          map (number (opened 0))
+          (Allocate 0 8 0 0 ∷ Load 0 8 0 0 ∷ Load 0 0 8 0 ∷ StoreRef 0 8 0 0 ∷ StoreRef 0 0 0 8 ∷ Read 0 8 0 ∷ Write 0 8 0 0 ∷ Move 0 8 0
+          ∷ Move 0 0 8 ∷ SameAs 0 8 0 ∷ SameAs 0 0 8 ∷ Get 0 8 0 ∷ Put 0 0 8 ∷ Companion 0 8 ∷ Birth 0 8 ∷ []);
+      expected = replicate 15 8;
+    }
     -- "13 field number not below the count"
     ∷ record {
       given = map (number (paired 0)) (Load 0 0 0 0 ∷ Load 0 0 0 1 ∷ StoreRef 0 0 1 0 ∷ Read 0 0 0 ∷ Read 0 0 1 ∷ Write 0 0 1 0 ∷ []);
@@ -127,12 +137,9 @@ callRows =
     }
     -- "detach (registers null, level 0)"; request [7]: "A share .. stays until its number's next attach"
     ∷ record { given = sessionWords (sessionAt (after (paired 3) (Detach 0 ∷ [])) 0); expected = 0 ∷ 4294967295 ∷ replicate 8 0 }
-    -- "Place, in order": 4 before 5, 6 before 8; 8 before 9, before 10 and before 11
-    ∷ record { given = number (withWalk small 0 511) (Attach 16 0) ∷ number small (Clear 0 8) ∷ []; expected = 4 ∷ 6 ∷ [] }
-    ∷ record {
-      given = map (number (opened 0)) (Get 0 8 32 ∷ Put 0 32 8 ∷ Allocate 0 8 256 0 ∷ Load 0 8 0 0 ∷ StoreRef 0 0 0 8 ∷ []);
-      expected = replicate 5 8;
-    }
+    -- "Place, in order": 4 before 5, 6 before 8; 8 before 9 and before 10 (and, above, before 11)
+    ∷ record { given = map (number (withWalk small 0 511)) (Attach 16 0 ∷ Detach 16 ∷ []) ++ map (number small) (Clear 0 8 ∷ []); expected = 4 ∷ 4 ∷ 6 ∷ [] }
+    ∷ record { given = map (number (opened 0)) (Get 0 8 32 ∷ Put 0 32 8 ∷ Allocate 0 8 256 0 ∷ []); expected = replicate 3 8 }
     -- 11 and 12 before 13, and 13 before 12 for "other followed references"
     ∷ record {
       given = map (number (paired 1)) (Load 0 0 4 9 ∷ Read 0 4 9 ∷ Load 0 0 6 9 ∷ Read 0 6 9 ∷ StoreRef 0 0 9 6 ∷ StoreRef 0 0 0 6 ∷ []);
@@ -149,8 +156,9 @@ callRows =
 -- Phases and levels: the phases
 unfoldable pub phaseRows : List Example
 phaseRows =
-    -- "Number, name, level", as attach and safe point take it
-    record {
+    -- thirteen phases; "Number, name, level", as attach and safe point take it
+    record { given = phaseCount ∷ lastPhase ∷ []; expected = 13 ∷ 12 ∷ [] }
+    ∷ record {
       given = byPhase (λ p. sessionAt (after (walking small 0 p) (Attach 0 0 ∷ [])) 0 .level);
       expected = 0 ∷ 1 ∷ 2 ∷ 2 ∷ 2 ∷ 3 ∷ 4 ∷ 4 ∷ 5 ∷ 6 ∷ 6 ∷ 6 ∷ 0 ∷ [];
     }
@@ -180,8 +188,14 @@ phaseRows =
       given = listed (walking (withSession (three 2) 1 (withRegisters (attachedAt nobody 0 2 false) (20 ∷ []))) 0 atHeapMark) Step;
       expected = 2 ∷ 12 ∷ 20 ∷ [];
     }
-    -- "12 .. a shell or list entry doesn't fit": three entries in a list of four, a shell of five words in a half of 16
+    -- "shade its next reference field, or, none left, colour it black": walk field, list place and end at first, after a step, and after two
+    ∷ record { given = progress (scanning []) ++ progress (scanning (Step ∷ [])) ++ progress (scanning (Step ∷ Step ∷ [])); expected = 0 ∷ 0 ∷ 1 ∷ 1 ∷ 0 ∷ 2 ∷ 0 ∷ 1 ∷ 2 ∷ [] }
+    -- "12 .. a shell or list entry doesn't fit": three entries in a list of four, then one and none, and a shell of five words in a half of 16
     ∷ record { given = stepped (walking (listing 2 1) 0 atHeapMark ∷ walking (listing 2 2) 0 atHeapMark ∷ []); expected = 0 ∷ 12 ∷ [] }
+    ∷ record {
+      given = stepped (walking (listing 2 3) 0 atRootMark ∷ walking (listing 2 4) 0 atRootMark ∷ walking (listing 2 4) 1 atRootMark ∷ []);
+      expected = 0 ∷ 12 ∷ 0 ∷ [];
+    }
     ∷ record {
       given = stepped (map (λ f. walking (withMemory small (withFrontier (grown 2 .memory) 1 f)) 0 atAllocate) (11 ∷ 12 ∷ []));
       expected = 0 ∷ 12 ∷ [];
@@ -191,9 +205,13 @@ phaseRows =
 -- Phases and levels: stores, puts and same by level
 unfoldable pub barrierRows : List Example
 barrierRows =
+    -- the levels that shade the stored record, those that shade the overwritten one, and those that write to the replica
+    record { given = byLevel (λ l. cond (shadesAt l) 1 0); expected = 0 ∷ 1 ∷ 1 ∷ 1 ∷ 0 ∷ 0 ∷ 0 ∷ [] }
+    ∷ record { given = byLevel (λ l. cond (shadesOldAt l) 1 0); expected = 0 ∷ 0 ∷ 1 ∷ 1 ∷ 0 ∷ 0 ∷ 0 ∷ [] }
+    ∷ record { given = byLevel (λ l. cond (copiesAt l) 1 0); expected = 0 ∷ 0 ∷ 0 ∷ 0 ∷ 1 ∷ 1 ∷ 1 ∷ [] }
     -- "1 to 3 first shade the stored record"; request [3]: "Stores and puts at levels 2 and 3 now also shade the reference they overwrite, before the
     -- stored one": the first listed record and the second, of a store and of a put of 20 over 12
-    record { given = byLevel (λ l. getD (listed (three l) (StoreRef 0 0 0 2)) 0 null); expected = 0 ∷ 20 ∷ 12 ∷ 12 ∷ 0 ∷ 0 ∷ 0 ∷ [] }
+    ∷ record { given = byLevel (λ l. getD (listed (three l) (StoreRef 0 0 0 2)) 0 null); expected = 0 ∷ 20 ∷ 12 ∷ 12 ∷ 0 ∷ 0 ∷ 0 ∷ [] }
     ∷ record { given = byLevel (λ l. getD (listed (three l) (StoreRef 0 0 0 2)) 1 null); expected = 0 ∷ 0 ∷ 20 ∷ 20 ∷ 0 ∷ 0 ∷ 0 ∷ [] }
     ∷ record { given = byLevel (λ l. getD (listed (three l) (Put 0 0 2)) 0 null); expected = 0 ∷ 20 ∷ 12 ∷ 12 ∷ 0 ∷ 0 ∷ 0 ∷ [] }
     ∷ record { given = byLevel (λ l. getD (listed (three l) (Put 0 0 2)) 1 null); expected = 0 ∷ 0 ∷ 20 ∷ 20 ∷ 0 ∷ 0 ∷ 0 ∷ [] }
@@ -216,6 +234,10 @@ barrierRows =
     ∷ record { given = copies 4 (StoreRef 0 0 0 0) 5 ++ copies 4 (StoreRef 0 1 0 6) 5; expected = 2 ∷ 3 ∷ 1 ∷ 1 ∷ [] }
     -- "Where a table wants the other copy's reference of a record without replica, its own is written": 22
     ∷ record { given = copies 4 (StoreRef 0 0 0 5) 5 ++ copies 4 (StoreRef 0 1 0 5) 5; expected = replicate 4 22 }
+    -- "a replica without that field is damage too", in a store or write and in Copy: fields 0 and 1 of 2
+    ∷ record { given = map (λ i. refusalOf (replicaFor pairs refs 4 2 i)) (0 ∷ 1 ∷ []); expected = 0 ∷ 12 ∷ [] }
+    ∷ record { given = map (λ i. refusalOf (copyRef (paired 4) 2 3 i)) (0 ∷ 1 ∷ []); expected = 0 ∷ 12 ∷ [] }
+    ∷ record { given = map (λ i. refusalOf (copyPlain (paired 4) 2 3 i)) (0 ∷ 1 ∷ []); expected = 0 ∷ 12 ∷ [] }
     -- "a missing replica isn't written": 14 into 22
     ∷ record { given = byLevel (λ l. getD (copies 14 (StoreRef 0 5 0 2) l) 0 0); expected = 14 ∷ 14 ∷ 14 ∷ 14 ∷ 14 ∷ 14 ∷ 15 ∷ [] }
     ∷ record { given = byLevel (λ l. getD (copies 14 (StoreRef 0 5 0 2) l) 1 0); expected = replicate 7 0 }
@@ -241,11 +263,17 @@ allocationRows =
     ∷ record { given = byLevel (λ l. getD (grown l .memory .half1) 2 0); expected = 0 ∷ 0 ∷ 0 ∷ 2 ∷ 2 ∷ 2 ∷ 2 ∷ [] }
     -- "3 to 5 give the fromspace reference, 6 the tospace one"
     ∷ record { given = byLevel (λ l. register (sessionAt (grown l) 0) 0); expected = 2 ∷ 2 ∷ 2 ∷ 2 ∷ 2 ∷ 2 ∷ 3 ∷ [] }
-    -- "14 a half that this allocation writes": with the other half full
+    -- the same in phase 12, where tospace is the current half
+    ∷ record {
+      given = byLevel (λ l. register (sessionAt (after (walking (opened l) 0 atReclaim) (Allocate 0 0 1 0 ∷ [])) 0) 0);
+      expected = 2 ∷ 2 ∷ 2 ∷ 3 ∷ 3 ∷ 3 ∷ 2 ∷ [];
+    }
+    -- "14 a half that this allocation writes": with the other half full, and with the current one
     ∷ record {
       given = byLevel (λ l. number (withMemory (opened l) (withFrontier (small .memory) 1 16)) (Allocate 0 0 0 0));
       expected = 0 ∷ 0 ∷ 0 ∷ 14 ∷ 14 ∷ 14 ∷ 14 ∷ [];
     }
+    ∷ record { given = byLevel (λ l. number (withMemory (opened l) (withFrontier (small .memory) 0 16)) (Allocate 0 0 0 0)); expected = replicate 7 14 }
     ∷ []
 
 -- The script program
@@ -261,6 +289,8 @@ scriptRows =
       given = map (λ b. refusalOf (callOf b)) ((0 ∷ []) ∷ (1 ∷ 0 ∷ []) ∷ (14 ∷ []) ∷ (15 ∷ []) ∷ (1 ∷ 0 ∷ 0 ∷ []) ∷ (1 ∷ []) ∷ []);
       expected = 15 ∷ 0 ∷ 0 ∷ 15 ∷ 15 ∷ 15 ∷ [];
     }
+    -- numbers in decimal: 0, 9, 10 and 109
+    ∷ record { given = decimal 0 ++ decimal 9 ++ decimal 10 ++ decimal 109; expected = 48 ∷ 57 ∷ 49 ∷ 48 ∷ 49 ∷ 48 ∷ 57 ∷ [] }
     -- request [7], of a share: "in a script it is 4,294,967,295"
     ∷ record { given = sessionAt (after small (kindOf (1 ∷ 0 ∷ []) 1 .call ∷ [])) 0 .share ∷ []; expected = 4294967295 ∷ [] }
     ∷ []

@@ -5,6 +5,7 @@ use mathlib.Core.List.{List, [], _∷_, _++_, map}
 use lib.ListN.{getD, take, replicate}
 use Rattle.rules.specs.Refusals.{refusalOf}
 use Rattle.rules.specs.Memory.{Memory, withFrontier, null, followed}
+use Rattle.rules.specs.Cycle.{atHeapMark}
 use Rattle.rules.specs.Control.{Lengths, Store, withMemory, withList, withGlobals, nobody, newStore}
 use Rattle.rules.specs.Phases.{withSession, withRegisters, attachedAt}
 use Rattle.rules.specs.Runs.{Call, Allocate, StoreRef, Step, apply, after}
@@ -102,6 +103,14 @@ listing l j = withList (three l) (replicate 4 null) j j
 -- the listed records after a call
 unfoldable pub listed : Store → Call → List ℕ
 listed s c = let t = apply s c .store in take (t .list .tail) (t .list .words)
+
+-- it after some calls in phase 4, with 2 listed
+unfoldable pub scanning : List Call → Store
+scanning cs = after (walking (withList (three 2) (2 ∷ replicate 3 null) 0 1) 0 atHeapMark) cs
+
+-- walk field, and place and end of the list
+abbrev pub progress : Store → List ℕ
+progress s = s .walk .field ∷ s .list .head ∷ s .list .tail ∷ []
 
 -- the records 2 and 14 with their replicas 3 and 15, and 22 without one. 2 has a reference field, which names 22, and a plain field; 22 has a
 -- reference field
