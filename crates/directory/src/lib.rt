@@ -1,5 +1,8 @@
 // The school directory: people, groups and who is in which, kept in the store's records by session 15 and global 31.
 // Each call takes the control record by value with the lent halves and grey list, as the store's calls do.
+
+#![tactic(auto)]
+
 mod walks; // walks.rt: the record at hand, and walks over the entries and over a group's members
 mod chains; // chains.rt: changes of a chain
 mod people; // people.rt: adding a person
@@ -11,7 +14,7 @@ mod calls; // calls.rt: the calls
 pub use calls::{add, join, leave, list_members, make_group, open, remove};
 
 // What a call leaves: the next control record, the number of its refusal or 0, and, of a list, how many members there are.
-#[derive(Drop)]
+#[derive(Clone, Copy)]
 pub struct Reply {
     pub control: store::Control,
     pub number: u32,
@@ -19,7 +22,7 @@ pub struct Reply {
 }
 
 // What is asked to be changed: a person added or removed, a group made, a person in a group or out of it.
-#[derive(Drop)]
+#[derive(Clone, Copy)]
 pub enum Change {
     Add(u32),
     Remove(u32),
@@ -29,7 +32,7 @@ pub enum Change {
 }
 
 // What a walk finds at a place: the chain's end, a refusal, or the record's word.
-#[derive(Drop)]
+#[derive(Clone, Copy)]
 pub enum Found {
     Ended,
     Failed(u32),
@@ -37,28 +40,28 @@ pub enum Found {
 }
 
 // What passing a record leaves.
-#[derive(Drop)]
+#[derive(Clone, Copy)]
 pub struct Passed {
     pub control: store::Control,
     pub found: Found,
 }
 
 // How a walk ends: refused, or at a place.
-#[derive(Drop)]
+#[derive(Clone, Copy)]
 pub enum Walk {
     Stopped(u32),
     Ended(directory_rules::Place),
 }
 
 // Whether a walk ends at a place, and how.
-#[derive(Drop)]
+#[derive(Clone, Copy)]
 pub enum Judged {
     End(Walk),
     On,
 }
 
 // What a walk leaves.
-#[derive(Drop)]
+#[derive(Clone, Copy)]
 pub struct Sought {
     pub control: store::Control,
     pub walk: Walk,
@@ -66,21 +69,21 @@ pub struct Sought {
 
 // What stands at a place of the entries, for one who goes through the groups: another group, or the end of the groups or a
 // refusal.
-#[derive(Drop)]
+#[derive(Clone, Copy)]
 pub enum Entry {
     End(rules::Answer),
     Group,
 }
 
 // How a count ends: refused, or with a number.
-#[derive(Drop)]
+#[derive(Clone, Copy)]
 pub enum Tally {
     Stopped(u32),
     Count(usize),
 }
 
 // What a count leaves.
-#[derive(Drop)]
+#[derive(Clone, Copy)]
 pub struct Counted {
     pub control: store::Control,
     pub tally: Tally,

@@ -6,7 +6,7 @@ ghost use Rattle.directory_main.specs.Window.{end_of};
 
 // A call of the directory, a variant for each kind, with its arguments in the script's order; of list, the group and how
 // many words are lent.
-#[derive(Drop)]
+#[derive(Clone, Copy)]
 pub(crate) enum Request {
     Open,
     Add(u32),
@@ -18,7 +18,7 @@ pub(crate) enum Request {
 }
 
 // What an entry is: a call of the directory, or something else, which the script knows or is 15.
-#[derive(Drop)]
+#[derive(Clone, Copy)]
 pub(crate) enum Entry {
     Own(Request),
     Other,

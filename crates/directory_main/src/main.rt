@@ -1,5 +1,8 @@
 // The directory's program: does the script on standard input, with calls of the directory among its entries, on a store
 // over its own halves and list, and writes a line for each entry to standard output.
+
+#![tactic(auto)]
+
 mod entries; // entries.rt: the entries of the directory's own kinds
 mod lines; // lines.rt: the text of their lines
 mod turns; // turns.rt: one entry, its call and its line
@@ -14,14 +17,14 @@ use libc::{STDIN_FILENO, STDOUT_FILENO};
 const LONGEST_ENTRY: usize = 10;
 
 // Where the next entry starts in the input buffer, and how many bytes of the buffer are filled.
-#[derive(Drop)]
+#[derive(Clone, Copy)]
 struct Window {
     at: usize,
     filled: usize,
 }
 
 // Where the next line goes, and whether the output so far could be written.
-#[derive(Drop)]
+#[derive(Clone, Copy)]
 struct Room {
     at: usize,
     written: bool,

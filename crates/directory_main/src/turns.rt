@@ -11,7 +11,7 @@ use crate::entries::{Entry, Request, lent_by, read_entry};
 use crate::lines::write_line;
 
 // What is left after an entry: the control record, the end of the output so far, and whether there may be more to do.
-#[derive(Drop)]
+#[derive(Clone, Copy)]
 pub(crate) struct Turn {
     pub control: store::Control,
     pub end: usize,

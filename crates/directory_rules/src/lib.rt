@@ -1,8 +1,10 @@
 // The plain types that the directory's rules (specs/) and its code share. This crate has no function.
 
+#![tactic(auto)]
+
 // What names the record at hand of a walk: field 0 of the record before it, field 1 of the group, or the directory's
 // global.
-#[derive(Drop)]
+#[derive(Clone, Copy)]
 pub enum Via {
     Next,
     First,
@@ -11,7 +13,7 @@ pub enum Via {
 
 // Where a walk ended: whether at the record that it looked for, the register of the record at hand, what names that
 // record, and how many links the walk had left.
-#[derive(Drop)]
+#[derive(Clone, Copy)]
 pub struct Place {
     pub found: bool,
     pub at: u32,

@@ -1,4 +1,7 @@
 // Checks the example of document 01 that is not starred: in an empty store without sessions a collection takes 77 steps.
+
+#![tactic(auto)]
+
 use libc::STDOUT_FILENO;
 use store::Control;
 

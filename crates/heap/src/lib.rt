@@ -3,6 +3,8 @@
 // The contract of each function that another crate calls is one equation with a definition of the crate rules, or with a
 // part of one that `View.antt` names.
 
+#![tactic(auto)]
+
 pub mod following;
 pub mod forwarding;
 pub mod pending;
@@ -33,7 +35,7 @@ pub const BLACK: u32 = 2;
 pub const MOST_SHAPE: u32 = 65535;
 
 // Where the records of each half end, which half is fromspace, and the end and the length of the grey list.
-#[derive(Drop)]
+#[derive(Clone, Copy)]
 pub struct Bounds {
     pub frontier0: usize,
     pub frontier1: usize,
@@ -43,21 +45,21 @@ pub struct Bounds {
 }
 
 // A reference or a word after its tests, or damage.
-#[derive(Drop)]
+#[derive(Clone, Copy)]
 pub enum Checked {
     Word(u32),
     Damage,
 }
 
 // What comparing two references answers, or damage.
-#[derive(Drop)]
+#[derive(Clone, Copy)]
 pub enum Compared {
     Equal(bool),
     Damage,
 }
 
 // What a store or a put writes, or damage.
-#[derive(Drop)]
+#[derive(Clone, Copy)]
 pub enum Planned {
     Plan(rules::Writes),
     Damage,

@@ -11,7 +11,7 @@ use crate::{Bounds, COLOUR_AT, Checked, WHITE};
 use rules::Followed;
 
 // The records that a store or a put shades, one after the other (0: none), or damage.
-#[derive(Drop)]
+#[derive(Clone, Copy)]
 pub enum Shaded {
     Records(u32, u32),
     Damage,

@@ -4,6 +4,9 @@
 // each case it writes REPLY words (refusal number, value, control record), the lent words, and a count with the words of
 // a stretch, or with those that a list of the directory was lent. tests/programs/probe_program.py has both layouts. A case that is cut
 // short or lends too much ends the program.
+
+#![tactic(auto)]
+
 mod words; // words.rt: words read from the input and written to the output
 mod records; // records.rt: the control record out of the words of a case, and into those of a reply
 mod calls; // calls.rt: the call of a case, of the store

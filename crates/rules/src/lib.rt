@@ -1,5 +1,7 @@
 // The plain types that the rules (specs/) and the code above share. This crate has no function.
 
+#![tactic(auto)]
+
 // "eight registers"
 pub const REGISTERS: usize = 8;
 
@@ -8,7 +10,7 @@ pub const LINKS: usize = 8;
 
 // A session: "eight registers, a level and a scanned mark", and whether it is attached. Request [7]: its share in words, and the
 // words charged to it.
-#[derive(Drop)]
+#[derive(Clone, Copy)]
 pub struct Session {
     pub registers: [u32; REGISTERS],
     pub level: u32,
@@ -20,14 +22,14 @@ pub struct Session {
 
 // What following a reference ends in: the place of the record in its half with its counts of reference and plain
 // fields, or damage.
-#[derive(Drop)]
+#[derive(Clone, Copy)]
 pub enum Followed {
     Sound(usize, u32, u32),
     Damage,
 }
 
 // What a call answers: the number of its refusal, or what the call hands out.
-#[derive(Drop)]
+#[derive(Clone, Copy)]
 pub enum Answer {
     Refused(u32),
     Done,
@@ -38,7 +40,7 @@ pub enum Answer {
 
 // What a call on the record in a register works with: the session's level, the reference in the register of the record
 // worked on, and what its other register argument holds.
-#[derive(Drop)]
+#[derive(Clone, Copy)]
 pub struct Operands {
     pub level: u32,
     pub own: u32,
@@ -47,7 +49,7 @@ pub struct Operands {
 
 // What a store or a put writes: the records that it shades, one after the other (0: none), the word for the record itself
 // or the global, the replica that is written as well (0: none) and the word for it.
-#[derive(Drop)]
+#[derive(Clone, Copy)]
 pub struct Writes {
     pub first: u32,
     pub second: u32,
@@ -57,7 +59,7 @@ pub struct Writes {
 }
 
 // One of several links to store: the number of the reference field, and the register whose reference it gets.
-#[derive(Drop)]
+#[derive(Clone, Copy)]
 pub struct Link {
     pub field: u32,
     pub from: u32,

@@ -4,7 +4,7 @@ ghost use Rattle.rules.specs.Script.{call_of, kind_of, big_endian, entry_at};
 ghost use Rattle.script.specs.Commands.{calling, tested, found};
 
 // A call that touches no record, a variant for each kind, with its arguments in the script's order.
-#[derive(Drop)]
+#[derive(Clone, Copy)]
 pub enum SessionCall {
     Attach(u32),
     Detach(u32),
@@ -15,7 +15,7 @@ pub enum SessionCall {
 }
 
 // The call of an entry: one that touches no record, or a variant for each other kind.
-#[derive(Drop)]
+#[derive(Clone, Copy)]
 pub enum Command {
     Session(SessionCall),
     Allocate(u32, u32, u32, u32),
@@ -29,14 +29,14 @@ pub enum Command {
 }
 
 // What an entry's body is: a call, or 15.
-#[derive(Drop)]
+#[derive(Clone, Copy)]
 pub enum Decoded {
     Call(Command),
     Bad,
 }
 
 // What stands at a place of the input: nothing more, an entry that is 15, or a call and the place of the next entry.
-#[derive(Drop)]
+#[derive(Clone, Copy)]
 pub enum Parsed {
     Ended,
     Bad,

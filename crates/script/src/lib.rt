@@ -1,4 +1,7 @@
 // The script: the entries of an input, the call of each, and the line that it gives.
+
+#![tactic(auto)]
+
 mod entries; // entries.rt: what stands at a place of the input
 mod calls; // calls.rt: the calls that touch no record
 mod lines; // lines.rt: the text of a line

@@ -9,7 +9,7 @@ use crate::{Command, LONGEST_LINE, Parsed, number_of, parse, value_of};
 
 // What is left after some entries: the control record, the place and the number of the next entry, the end of the output
 // so far, and whether there may be more to do.
-#[derive(Drop)]
+#[derive(Clone, Copy)]
 pub struct Turn {
     pub control: store::Control,
     pub at: usize,

@@ -1,5 +1,8 @@
 // The script program: does the script on standard input on a store over its own halves and list, and writes a line for
 // each entry to standard output.
+
+#![tactic(auto)]
+
 ghost use Rattle.std.specs.Prelude.{◌≤◌, length};
 ghost use Rattle.script.specs.Lines.{longest, Flushed};
 ghost use Rattle.script.specs.Window.{Fetched};
@@ -7,14 +10,14 @@ ghost use Rattle.script.specs.Window.{Fetched};
 use libc::{STDIN_FILENO, STDOUT_FILENO};
 
 // Where the next entry starts in the input buffer, and how many bytes of the buffer are filled.
-#[derive(Drop)]
+#[derive(Clone, Copy)]
 struct Window {
     at: usize,
     filled: usize,
 }
 
 // Where the next line goes, and whether the output so far could be written.
-#[derive(Drop)]
+#[derive(Clone, Copy)]
 struct Room {
     at: usize,
     written: bool,

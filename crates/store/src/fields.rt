@@ -17,7 +17,7 @@ use heap::words::get_word;
 use rules::Followed;
 
 // The number of the first test that fails, or what the field holds.
-#[derive(Drop)]
+#[derive(Clone, Copy)]
 pub enum Loading {
     Refusal(u32),
     Word(u32),

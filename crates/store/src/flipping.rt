@@ -19,7 +19,7 @@ use heap::forwarding::{forward, other_half};
 use heap::{Bounds, Checked};
 
 // The registers of a session forwarded, where each of them could be followed.
-#[derive(Drop)]
+#[derive(Clone, Copy)]
 pub struct Registers {
     pub followed: bool,
     pub words: [u32; Control::REGISTERS],

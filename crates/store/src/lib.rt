@@ -1,6 +1,9 @@
 // The record store: the control record and its calls. Each call takes the control record by value with the lent
 // halves and grey list, and hands the next control record back with its answer; the stretch and its companion, which only
 // read, hand none back.
+
+#![tactic(auto)]
+
 ghost use Rattle.std.specs.Prelude.{◌≡◌, ℕ, ◌≤◌, List};
 ghost use Rattle.rules.specs.Control.{new_store, nobody};
 ghost use Rattle.rules.specs.Cycle.{last_phase, level_of};
@@ -35,7 +38,7 @@ mod step; // step.rt: the collector step
 
 // The collector's own numbers: current half, frontiers, phase, walk place, walk field, the grey list's place (head) and
 // end (tail).
-#[derive(Drop)]
+#[derive(Clone, Copy)]
 pub struct Cursor {
     pub current: u32,
     pub frontier0: usize,
@@ -49,7 +52,7 @@ pub struct Cursor {
 
 // Document 01's list: the three lent lengths, the collector's numbers, 32 global references and the sessions; and how many
 // birth numbers are used.
-#[derive(Drop)]
+#[derive(Clone, Copy)]
 pub struct Control {
     pub length0: usize,
     pub length1: usize,
@@ -61,7 +64,7 @@ pub struct Control {
 }
 
 // The next control record, and what the call answers.
-#[derive(Drop)]
+#[derive(Clone, Copy)]
 pub struct Reply {
     pub control: Control,
     pub answer: rules::Answer,

@@ -24,7 +24,7 @@ const PENDING: usize = NUMBERS * rules::LINKS;
 const ENTRIES: usize = 2 * rules::LINKS;
 
 // The number of the first test that fails, or the list's end after the entries.
-#[derive(Drop)]
+#[derive(Clone, Copy)]
 pub enum Linked {
     Refusal(u32),
     End(usize),

@@ -10,7 +10,7 @@ use rules::Followed;
 
 // What the call needs of its session, or the number of the first test that fails. It is handed out at once: each
 // further read of a session would copy all sixteen.
-#[derive(Drop)]
+#[derive(Clone, Copy)]
 pub enum Held {
     Refusal(u32),
     Operands(rules::Operands),

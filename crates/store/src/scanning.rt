@@ -19,7 +19,7 @@ use heap::shades::{if_white, to_shade};
 use heap::{Bounds, Checked};
 
 // How many different white records the registers of a session name, or damage.
-#[derive(Drop)]
+#[derive(Clone, Copy)]
 pub enum Counted {
     Whites(usize),
     Damage,

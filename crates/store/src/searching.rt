@@ -7,7 +7,7 @@ ghost use Rattle.store.specs.Searching.{is_wanted};
 use crate::Control;
 
 // The sessions that are looked for.
-#[derive(Drop)]
+#[derive(Clone, Copy)]
 pub enum Wanted {
     // those with a scanned mark
     Scanned,

@@ -16,7 +16,7 @@ use heap::{HEADER, Planned};
 use rules::Followed;
 
 // The number of the first test that fails, or the record that is written (null for a global) and what is written.
-#[derive(Drop)]
+#[derive(Clone, Copy)]
 pub enum Storing {
     Refusal(u32),
     Into(u32, rules::Writes),

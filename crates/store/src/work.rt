@@ -7,7 +7,7 @@ ghost use Rattle.store.specs.Work.{registers, with_forwarded};
 use crate::{Control, Cursor};
 
 // The eight registers of a session, one by one: an enum holds no array.
-#[derive(Drop)]
+#[derive(Clone, Copy)]
 pub struct Stack {
     pub r0: u32,
     pub r1: u32,
@@ -47,7 +47,7 @@ impl Stack {
 }
 
 // What of a session was forwarded: nothing, or its registers.
-#[derive(Drop)]
+#[derive(Clone, Copy)]
 pub enum Forwarded {
     Nothing,
     Registers(Stack),
@@ -72,7 +72,7 @@ impl Forwarded {
 }
 
 // What is touched beside the collector's own numbers.
-#[derive(Drop)]
+#[derive(Clone, Copy)]
 pub enum Touch {
     Nothing,
     // all scanned marks, cleared
@@ -87,7 +87,7 @@ pub enum Touch {
 
 // What a unit of work hands out, its words being written already: the number of the refusal, or the collector's next
 // numbers and what is touched beside them.
-#[derive(Drop)]
+#[derive(Clone, Copy)]
 pub enum Work {
     Refused(u32),
     Next(Cursor, Touch),

@@ -15,7 +15,7 @@ use rules::Followed;
 
 // Where a write of a plain field goes: the record, its count of reference fields, and its replica, or null where none
 // is written; or the number of the first test that fails.
-#[derive(Drop)]
+#[derive(Clone, Copy)]
 pub enum Target {
     Refusal(u32),
     Copies(u32, u32, u32),

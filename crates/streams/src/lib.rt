@@ -1,5 +1,8 @@
 // What the programs read and write by: `io`'s read_full and write_all, but a call that a signal interrupts before it has
 // moved a byte is made again. No function has a `requires`.
+
+#![tactic(auto)]
+
 ghost use Rattle.io.specs.Counts.{IsPrefixLen};
 
 // Whether a read or a write that answered this was interrupted; to be asked just after it.

@@ -8,7 +8,7 @@ ghost use Rattle.workload.specs.Pieces.{longest_entry};
 use crate::generator::xorshift32;
 
 // What an argument is: the number of a session, of a register or of a global; a field, r or p; or a whole value.
-#[derive(Drop)]
+#[derive(Clone, Copy)]
 pub(crate) enum Class {
     Session,
     Register,
@@ -18,7 +18,7 @@ pub(crate) enum Class {
 }
 
 // After arguments or an entry were put into a buffer: the value after them, and the place after their bytes.
-#[derive(Drop)]
+#[derive(Clone, Copy)]
 pub(crate) struct After {
     pub(crate) next: u32,
     pub(crate) end: usize,

@@ -1,4 +1,7 @@
 // The test load: a script that everyone can make again from a seed and a count.
+
+#![tactic(auto)]
+
 mod generator; // generator.rt: the values
 mod entries; // entries.rt: the entries drawn from them
 mod pieces; // pieces.rt: the load, piece by piece

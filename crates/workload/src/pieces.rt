@@ -18,7 +18,7 @@ pub const LONGEST_ENTRY: usize = 9;
 
 // What is still to come of a load: the version byte or not, and how many entries, the first of them drawn from a value
 // on.
-#[derive(Drop)]
+#[derive(Clone, Copy)]
 pub struct Rest {
     pub version: bool,
     pub value: u32,
@@ -26,7 +26,7 @@ pub struct Rest {
 }
 
 // What is still to come after a buffer was filled, and the end of the bytes put into it.
-#[derive(Drop)]
+#[derive(Clone, Copy)]
 pub struct Piece {
     pub rest: Rest,
     pub end: usize,

@@ -1,5 +1,8 @@
 // The load program: reads a seed and a count from standard input, four big-endian bytes each, and writes the load that
 // they give to standard output.
+
+#![tactic(auto)]
+
 ghost use Rattle.std.specs.Prelude.{◌≤◌, length};
 ghost use Rattle.workload.specs.Pieces.{longest_entry};
 

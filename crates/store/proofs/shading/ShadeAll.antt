@@ -18,7 +18,7 @@ use Rattle.heap.proofs.ToShade.{null-white, white-named}
 use Rattle.store.specs.Marking.{among, whites_among, ending}
 use Rattle.store.proofs.collector.Numbers.{some}
 use Rattle.store.proofs.shading.Shade.{shade-null, shade_record, shade-tail}
-use Rattle.store.proofs.shading.Whites.{among-more, added, one_counted, up_to, up_to-next, up_to-all, none_left_lem}
+use Rattle.store.proofs.shading.Whites.{among-more, added, one_counted, up_to, up_to-next, up_to-all, none_left}
 use Rattle.store.proofs.shading.Colours.{coloured}
 
 -- ---- shading, one record more
@@ -89,7 +89,7 @@ module _ {a0 a1 a h0 h1 l vs : List ℕ} {tail end i : ℕ} (k : Turn a0 a1 a h0
     -- where it does, all of them are shaded
     pub last_turn : last ≤ end → (s : Store) → ending s h0 h1 l last ≡ shade_all (ending s a0 a1 a tail) (whites_among before vs)
     last_turn o s =
-        let d = none_left_lem before vs i k.index (omega (arith, k.ended)) in
+        let d = none_left before vs i k.index (omega (arith, k.ended)) in
         let m = ap length d in
         let q : last ≡ end = omega (arith, k.ended) in
         rw (q, ← d) (k.shaded s)

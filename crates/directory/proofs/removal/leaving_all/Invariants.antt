@@ -1,0 +1,16 @@
+use mathlib.Core.Path.{◌≡◌, refl, sym, ◌∙◌}
+use native.Mathlib.Omega.{arith}
+use lib.ListN.{length}
+use Rattle.store.specs.View.{view}
+use Rattle.directory_rules.specs.Acts.{perform}
+use Rattle.directory_rules.specs.Directory.{leaving_all}
+use Rattle.directory.proofs.acts.Calling.{act_halts, act_next}
+use Rattle.directory.specs.Parts.{leaving_one}
+use Rattle.directory.proofs.acts.Groups.{groups-end, groups_go, has_left}
+use Rattle.directory.proofs.removal.leaving_all.Given as goal
+
+abbrev pub invariant-loop-answer : goal.invariant-loop-answer
+invariant-loop-answer l = (perform (view l.initial.control l.initial.h0 l.initial.h1 l.initial.list) (leaving_all l.half l.half l.person) ≡ perform (view l.control l.h0 l.h1 l.list) (leaving_all l.left l.half l.person)) × (length l.h0 ≡ length l.initial.h0) × (length l.h1 ≡ length l.initial.h1) × (length l.list ≡ length l.initial.list)
+
+abbrev pub decreases-loop-answer : goal.decreases-loop-answer
+decreases-loop-answer l = l.left

@@ -1,0 +1,25 @@
+-- Detach: refused with the number of the session tests, or the session written anew.
+use native.Mathlib.Omega.{arith}
+use Rattle.rules.specs.Phases.{with_session, session_at}
+use Rattle.rules.specs.Calls.{detach}
+use Rattle.store.proofs.tests.Numbers.{turned_away, let_in, known}
+use borrow.Author.Rules.{rules}
+use Rattle.store.proofs.Control.detach.Goals as goal
+
+pub returns-then-refusal-ne0 : goal.returns-then-refusal-ne0
+unfolding detach
+returns-then-refusal-ne0 c = rw (turned_away _ _ c.session_tests-refusal.ensures c.if-refusal-ne0.true)
+
+pub bounds-self-i : goal.bounds-self-i
+bounds-self-i c =
+    let k = known _ _ c.session_tests-refusal.ensures c.if-refusal-ne0.false in
+    omega arith
+
+pub bounds-self-i-2 : goal.bounds-self-i-2
+bounds-self-i-2 c =
+    let k = known _ _ c.session_tests-refusal.ensures c.if-refusal-ne0.false in
+    omega arith
+
+pub returns : goal.returns
+unfolding detach with_session session_at
+returns c = rw (let_in _ _ c.session_tests-refusal.ensures c.if-refusal-ne0.false, c.cleared-left.ensures)

@@ -1,0 +1,11 @@
+-- The record written at the frontier, which moves past it.
+use native.Mathlib.Omega.{arith}
+use Rattle.store.proofs.allocation.Record.{room_at, below_at, placed_at}
+use borrow.Author.Rules.{rules}
+use Rattle.store.proofs.Control.placed.Goals as goal
+
+pub append_record-requires : goal.append_record-requires
+append_record-requires c = room_at _ _ _ _ _ _ (c.frontier-at.ensures _ _) c.requires.above
+
+pub returns : goal.returns
+returns c = λ l. placed_at _ _ _ _ _ _ _ (c.frontier-at.ensures _ _) (c.append_record.ensures _ _) (c.with_frontier.ensures _ _ l)

@@ -1,0 +1,17 @@
+use Prim.Native.Nat.{◌≤◌, ◌-◌}
+use mathlib.Core.Path.{◌≡◌, refl}
+use native.Mathlib.Omega.{arith}
+use lib.ListN.{length, drop, take}
+use borrow.Author.Tests.{eq-eqb}
+use Rattle.rules.specs.Control.{register_count}
+use Rattle.store.specs.Marking.{among}
+use Rattle.store.proofs.shading.Counting.{search_found, search_on, search_ended}
+use borrow.Author.Rules.{rules}
+use Rattle.store.proofs.scanning.new_white.Given as goal
+
+abbrev pub invariant-loop-j : goal.invariant-loop-j
+invariant-loop-j l = (length l.registers ≡ register_count) × (l.i ≤ register_count) × (l.j ≤ l.i) × (among l.v (take l.i l.registers) ≡ among l.v (drop l.j (take l.i l.registers)))
+
+-- proposed from the loop's first test
+abbrev pub decreases-loop-j : goal.decreases-loop-j
+decreases-loop-j l = l.i - l.j
