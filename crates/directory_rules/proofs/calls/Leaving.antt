@@ -5,13 +5,13 @@ use native.Mathlib.Omega.{arith}
 use Rattle.rules.specs.Control.{register_count}
 use Rattle.rules.specs.Refusals.{Tested, passed, check, ◌>>◌ as ◌>>>◌}
 use Rattle.rules.specs.Free.{Free}
-use Rattle.directory_rules.specs.Table.{Table, Leave, paired, unpair, not_member, with_pairs, table_next}
-use Rattle.directory_rules.specs.Acts.{◌>>◌}
-use Rattle.directory_rules.specs.Directory.{present, cut, pairing, leaving, plainly, group_registers, program, group_register}
+use Rattle.directory_rules.specs.Table.{Table, Leave, paired, unpair, not_member, not_open, with_pairs, table_next}
+use Rattle.directory_rules.specs.Acts.{◌>>◌, must, safe_point, ending}
+use Rattle.directory_rules.specs.Directory.{present, cut, pairing, leaving, plainly, program, group_register}
 use Rattle.directory_rules.specs.declared.Place.{Place}
 use Rattle.directory_rules.proofs.free.Perform.{free_perform}
 use Rattle.directory_rules.proofs.chains.Core.{Layout, Short, Represents, with_links}
-use Rattle.directory_rules.proofs.calls.Kept.{RequestKept, Within}
+use Rattle.directory_rules.proofs.calls.Kept.{Kept, RequestKept, Within}
 use Rattle.directory_rules.proofs.calls.Alike.{pass, alike_then, alike_present}
 use Rattle.directory_rules.proofs.calls.Around.{Carries, alike_plainly, around}
 use Rattle.directory_rules.proofs.calls.Members.{CutEnds, member_paired, cut_ends}
@@ -35,10 +35,17 @@ module _ {m : ℕ} (fed : ℕ) (many : group_register < m) (few : m ≤ register
   leaving_alike {half} {f} short within =
       alike_then fed f (pairing half n g) (λ w. present w not_member >> cut w.at w.via) (pairing_alike fed many few short within n g) behind_members
 
+-- with any number of registers that has the group's among them
+leaving_around : {half : ℕ} (fed : ℕ) {f : Free} {y : Layout} {t : Table} → Represents f y t → Short half y → (n g m : ℕ)
+    → group_register < m → m ≤ register_count
+    → Kept y (Leave n g) t (check t.opened not_open >>> (pair_tests t n g >>> left t n g)) (free_perform fed f (must safe_point >> ending m (plainly (leaving half n g))))
+leaving_around {half} fed {f} r short n g m many few =
+    around fed f (Leave n g) few (plainly (leaving half n g)) r
+    (λ h. alike_plainly fed f (leaving half n g) (leaving_alike fed many few n g short h))
+
 pub leaving-kept : {half : ℕ} (fed : ℕ) {f : Free} {y : Layout} {t : Table} → Represents f y t → Short half y → (n g : ℕ)
     → RequestKept half fed f y t (Leave n g)
 unfolding program table_next
 leaving-kept {half} fed {f} {y} {t} r short n g =
     rw (known-first t n g (left t n g))
-    (around {n = group_registers} fed f (Leave n g) (omega arith) (plainly (leaving half n g)) r
-    (λ h. alike_plainly fed f (leaving half n g) (leaving_alike fed (omega arith) (omega arith) n g short h)))
+    (search (arith, leaving_around fed r short n g))
