@@ -16,9 +16,9 @@ use Rattle.store.proofs.Control.plan_link.Goals as goal
 pub put_link-requires : goal.put_link-requires
 put_link-requires c =
     let asked : let a = c.args in storing c.store_plan-plan.result ≡ store_plan (view_with (tailed a.self a.tail) (take (link_numbers * a.i) a.pending.now) a.h0.now a.h1.now a.list.now) a.s a.register a.link.field a.link.from =
-        c.store_plan-plan.ensures in
+    c.store_plan-plan.ensures in
     let placed : Placeable c.in-Into.v c.args.link.field c.in-Into.w =
-        let a = c.args in
+    let a = c.args in
     link_placeable _ a.self _ (take (a.tail - a.self.cursor.tail) a.entries.now) a.h0.now a.h1.now a.list.now a.tail a.s a.register a.link.field a.link.from
     asked c.in-Into.is in
     (c.requires.0, placed)
@@ -26,9 +26,9 @@ put_link-requires c =
 pub overflow_add-result : goal.overflow_add-result
 overflow_add-result c =
     let asked : let a = c.args in storing c.store_plan-plan.result ≡ store_plan (view_with (tailed a.self a.tail) (take (link_numbers * a.i) a.pending.now) a.h0.now a.h1.now a.list.now) a.s a.register a.link.field a.link.from =
-        c.store_plan-plan.ensures in
+    c.store_plan-plan.ensures in
     let grown : let a = c.args in let end = a.self.cursor.tail + c.enter-m.result in (a.tail ≤ end) × (end ≤ a.tail + link_entries) × (end ≤ length a.list.now) =
-        let a = c.args in
+    let a = c.args in
     link-after _ a.self a.pending.now a.entries.now a.h0.now a.h1.now a.list.now a.i a.tail a.s a.register a.link.field a.link.from
     c.requires.1 c.requires.0 c.requires.2 asked c.in-Into.is c.put_link.ensures c.enter-n.ensures.0 c.enter-n.ensures.1 c.enter-m.ensures.0 c.enter-m.ensures.1 in
     omega (arith, grown.2, c.well_formed.1.1.1.0)
@@ -36,7 +36,7 @@ overflow_add-result c =
 pub returns-in-Refusal : goal.returns-in-Refusal
 returns-in-Refusal c =
     let asked : let a = c.args in storing c.store_plan-plan.result ≡ store_plan (view_with (tailed a.self a.tail) (take (link_numbers * a.i) a.pending.now) a.h0.now a.h1.now a.list.now) a.s a.register a.link.field a.link.from =
-        c.store_plan-plan.ensures in
+    c.store_plan-plan.ensures in
     let a = c.args in (
       link_away _ a.self _ (take (a.tail - a.self.cursor.tail) a.entries.now) a.h0.now a.h1.now a.list.now a.tail a.s a.register a.link.field a.link.from asked c.in-Refusal.is,
       ends_refused _ _ _ _,
@@ -45,13 +45,12 @@ returns-in-Refusal c =
 pub returns-in-Into : goal.returns-in-Into
 returns-in-Into c =
     let asked : let a = c.args in storing c.store_plan-plan.result ≡ store_plan (view_with (tailed a.self a.tail) (take (link_numbers * a.i) a.pending.now) a.h0.now a.h1.now a.list.now) a.s a.register a.link.field a.link.from =
-        c.store_plan-plan.ensures in
+    c.store_plan-plan.ensures in
     let grown : let a = c.args in let end = a.self.cursor.tail + c.enter-m.result in (a.tail ≤ end) × (end ≤ a.tail + link_entries) × (end ≤ length a.list.now) =
-        let a = c.args in
+    let a = c.args in
     link-after _ a.self a.pending.now a.entries.now a.h0.now a.h1.now a.list.now a.i a.tail a.s a.register a.link.field a.link.from
     c.requires.1 c.requires.0 c.requires.2 asked c.in-Into.is c.put_link.ensures c.enter-n.ensures.0 c.enter-n.ensures.1 c.enter-m.ensures.0 c.enter-m.ensures.1 in
-    let a = c.args in
-    (
+    let a = c.args in (
       link_made _ a.self a.pending.now a.entries.now a.h0.now a.h1.now a.list.now a.i a.tail a.s a.register a.link.field a.link.from
           c.requires.1 c.requires.0 c.requires.2 asked c.in-Into.is c.put_link.ensures c.enter-n.ensures.0 c.enter-n.ensures.1 c.enter-m.ensures.0 c.enter-m.ensures.1,
       ends_at _ _ _ _ grown,

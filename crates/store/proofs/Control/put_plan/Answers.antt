@@ -33,31 +33,31 @@ bounds-sessions-i c =
 pub put_writes-requires : goal.put_writes-requires
 put_writes-requires c =
     let session : session_of (view c.args.self c.args.h0.now c.args.h1.now c.args.list.now) c.args.s ≡ passed (session_at (view c.args.self c.args.h0.now c.args.h1.now c.args.list.now) c.args.s) =
-        let_in _ _ c.session_tests-refusal.ensures c.if-refusal-ne0.false in
+    let_in _ _ c.session_tests-refusal.ensures c.if-refusal-ne0.false in
     let ranges : InRange (view c.args.self c.args.h0.now c.args.h1.now c.args.list.now) =
-        (in_session _ _ session).known in
+    (in_session _ _ session).known in
     let bounded : heap c.bounds-b.result c.args.h0.now c.args.h1.now ≡ heap_of (view c.args.self c.args.h0.now c.args.h1.now c.args.list.now) =
-        c.bounds-b.ensures _ _ _ ranges.lent2 in
+    c.bounds-b.ensures _ _ _ ranges.lent2 in
     within _ _ bounded ranges
 
 pub returns-in_default : goal.returns-in_default
 unfolding register session_at
 returns-in_default c =
     let session : session_of (view c.args.self c.args.h0.now c.args.h1.now c.args.list.now) c.args.s ≡ passed (session_at (view c.args.self c.args.h0.now c.args.h1.now c.args.list.now) c.args.s) =
-        let_in _ _ c.session_tests-refusal.ensures c.if-refusal-ne0.false in
+    let_in _ _ c.session_tests-refusal.ensures c.if-refusal-ne0.false in
     let ranges : InRange (view c.args.self c.args.h0.now c.args.h1.now c.args.list.now) =
-        (in_session _ _ session).known in
+    (in_session _ _ session).known in
     let bounded : heap c.bounds-b.result c.args.h0.now c.args.h1.now ≡ heap_of (view c.args.self c.args.h0.now c.args.h1.now c.args.list.now) =
-        c.bounds-b.ensures _ _ _ ranges.lent2 in
+    c.bounds-b.ensures _ _ _ ranges.lent2 in
     put_unwritable _ _ _ _ session c.if-from-gt-LAST_REGISTER.false c.if-global-gt-LAST_GLOBAL.false bounded c.put_writes.ensures c.in_default.is
 
 pub returns : goal.returns
 unfolding register session_at
 returns c =
     let session : session_of (view c.args.self c.args.h0.now c.args.h1.now c.args.list.now) c.args.s ≡ passed (session_at (view c.args.self c.args.h0.now c.args.h1.now c.args.list.now) c.args.s) =
-        let_in _ _ c.session_tests-refusal.ensures c.if-refusal-ne0.false in
+    let_in _ _ c.session_tests-refusal.ensures c.if-refusal-ne0.false in
     let ranges : InRange (view c.args.self c.args.h0.now c.args.h1.now c.args.list.now) =
-        (in_session _ _ session).known in
+    (in_session _ _ session).known in
     let bounded : heap c.bounds-b.result c.args.h0.now c.args.h1.now ≡ heap_of (view c.args.self c.args.h0.now c.args.h1.now c.args.list.now) =
-        c.bounds-b.ensures _ _ _ ranges.lent2 in
+    c.bounds-b.ensures _ _ _ ranges.lent2 in
     put_made _ _ _ _ session c.if-from-gt-LAST_REGISTER.false c.if-global-gt-LAST_GLOBAL.false bounded c.put_writes.ensures c.in-Plan.is

@@ -29,24 +29,24 @@ returns-then-not-registers c =
 pub bounds-sessions-s : goal.bounds-sessions-s
 bounds-sessions-s c =
     let admitted : session_of (view c.args.self c.args.h0.now c.args.h1.now c.args.list.now) c.args.s ≡ passed (session_at (view c.args.self c.args.h0.now c.args.h1.now c.args.list.now) c.args.s) =
-        let_in _ _ c.session_tests-refusal.ensures c.if-refusal-ne0.false in
+    let_in _ _ c.session_tests-refusal.ensures c.if-refusal-ne0.false in
     omega (arith, (in_session _ _ admitted).number)
 
 pub same_at-requires : goal.same_at-requires
 same_at-requires c =
     let admitted : session_of (view c.args.self c.args.h0.now c.args.h1.now c.args.list.now) c.args.s ≡ passed (session_at (view c.args.self c.args.h0.now c.args.h1.now c.args.list.now) c.args.s) =
-        let_in _ _ c.session_tests-refusal.ensures c.if-refusal-ne0.false in
+    let_in _ _ c.session_tests-refusal.ensures c.if-refusal-ne0.false in
     let bounded : let a = c.args in heap c.bounds-bounds.result a.h0.now a.h1.now ≡ heap_of (view c.args.self c.args.h0.now c.args.h1.now c.args.list.now) =
-        c.bounds-bounds.ensures _ _ _ (in_session _ _ admitted).known.lent2 in
+    c.bounds-bounds.ensures _ _ _ (in_session _ _ admitted).known.lent2 in
     within _ _ bounded (in_session _ _ admitted).known
 
 pub returns-in_default : goal.returns-in_default
 unfolding register session_at
 returns-in_default c =
     let admitted : session_of (view c.args.self c.args.h0.now c.args.h1.now c.args.list.now) c.args.s ≡ passed (session_at (view c.args.self c.args.h0.now c.args.h1.now c.args.list.now) c.args.s) =
-        let_in _ _ c.session_tests-refusal.ensures c.if-refusal-ne0.false in
+    let_in _ _ c.session_tests-refusal.ensures c.if-refusal-ne0.false in
     let bounded : let a = c.args in heap c.bounds-bounds.result a.h0.now a.h1.now ≡ heap_of (view c.args.self c.args.h0.now c.args.h1.now c.args.list.now) =
-        c.bounds-bounds.ensures _ _ _ (in_session _ _ admitted).known.lent2 in
+    c.bounds-bounds.ensures _ _ _ (in_session _ _ admitted).known.lent2 in
     let a = c.args in
     rw
     (same_lost _ _ a.a a.b admitted (registers_in a.a a.b (ap not c.if-not-registers.false)) bounded
@@ -56,9 +56,9 @@ pub returns : goal.returns
 unfolding register session_at
 returns c =
     let admitted : session_of (view c.args.self c.args.h0.now c.args.h1.now c.args.list.now) c.args.s ≡ passed (session_at (view c.args.self c.args.h0.now c.args.h1.now c.args.list.now) c.args.s) =
-        let_in _ _ c.session_tests-refusal.ensures c.if-refusal-ne0.false in
+    let_in _ _ c.session_tests-refusal.ensures c.if-refusal-ne0.false in
     let bounded : let a = c.args in heap c.bounds-bounds.result a.h0.now a.h1.now ≡ heap_of (view c.args.self c.args.h0.now c.args.h1.now c.args.list.now) =
-        c.bounds-bounds.ensures _ _ _ (in_session _ _ admitted).known.lent2 in
+    c.bounds-bounds.ensures _ _ _ (in_session _ _ admitted).known.lent2 in
     let a = c.args in
     rw
     (same-answered _ _ a.a a.b admitted (registers_in a.a a.b (ap not c.if-not-registers.false)) bounded

@@ -13,6 +13,5 @@ use Rattle.store.proofs.scanning.shade_registers.Given as goal
 abbrev pub invariant-loop-end : goal.invariant-loop-end
 invariant-loop-end l = Turn l.initial.h0 l.initial.h1 l.initial.list l.h0 l.h1 l.list l.registers l.tail l.end l.i
 
--- proposed from the loop's first test
 abbrev pub decreases-loop-end : goal.decreases-loop-end
-decreases-loop-end l = l.last - l.end
+decreases-loop-end l = register_count - l.i
