@@ -6,7 +6,7 @@ use mathlib.Core.Bool.{true}
 use mathlib.Core.List.{List}
 use native.Mathlib.Omega.{arith}
 use lib.ListN.{length, take}
-use Rattle.rules.specs.Memory.{Memory, half, frontier, half_of, word_of, header, most_count, shape_at, colour_at, replica_at, size, sound}
+use Rattle.rules.specs.Memory.{half, frontier, half_of, word_of, header, most_count, shape_at, colour_at, replica_at, size, sound}
 use Rattle.rules.proofs.memory.Records.{size-fields}
 use Rattle.heap.specs.View.{memory}
 use Rattle.heap.specs.Pending.{laid, memory_with}

@@ -8,7 +8,6 @@ use Rattle.heap.specs.Pending.{memory_with}
 use Rattle.heap.proofs.Halves.{frontier-within}
 use Rattle.heap.proofs.Laid.{word-laid}
 use Rattle.heap.proofs.Soundness.{sound_none, sound-short, sound_passes, sound_fails}
-use borrow.Author.Rules.{rules}
 use Rattle.heap.proofs.following.sound_at.Goals as goal
 
 pub returns-then-v-lt2 : goal.returns-then-v-lt2

@@ -4,7 +4,6 @@ use native.Mathlib.Omega.{arith}
 use lib.ListN.{length}
 use Rattle.rules.specs.Memory.{header}
 use Rattle.heap.proofs.Written.{placed-low, placed-high, room-low, room-high}
-use borrow.Author.Rules.{rules}
 use Rattle.heap.proofs.records.append_record.Goals as goal
 
 pub offset_bounds-h0-at : goal.offset_bounds-h0-at

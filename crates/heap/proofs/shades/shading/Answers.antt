@@ -5,7 +5,6 @@ use Rattle.rules.specs.Refusals.{passed}
 use Rattle.heap.proofs.Answers.{word-passed, word-refused}
 use Rattle.heap.proofs.Shadings.{shading_none, shading_full, shading-room}
 use Rattle.heap.specs.View.{memory}
-use borrow.Author.Rules.{rules}
 use Rattle.heap.proofs.shades.shading.Goals as goal
 
 pub returns-in_default : goal.returns-in_default

@@ -6,7 +6,6 @@ use Rattle.rules.specs.Barriers.{to_shade}
 use Rattle.heap.proofs.Answers.{word-passed, word-refused}
 use Rattle.heap.proofs.Shadings.{first_damage, second_damage, shading-once, shading_twice}
 use Rattle.heap.specs.Pending.{heap_with}
-use borrow.Author.Rules.{rules}
 use Rattle.heap.proofs.shades.shading_both.Goals as goal
 
 pub returns-in_default : goal.returns-in_default
