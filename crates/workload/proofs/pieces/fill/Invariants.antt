@@ -1,6 +1,4 @@
-use mathlib.Core.Path.{◌∙◌}
-use native.Mathlib.Omega.{arith}
-use Rattle.workload.proofs.Filling.{Going, next-room, one_more, no_more, begun, all_in, nothing_in}
+use Rattle.workload.proofs.Filling.{Going}
 use Rattle.workload.proofs.pieces.fill.Given as goal
 
 abbrev pub invariant-loop-left : goal.invariant-loop-left
