@@ -7,7 +7,7 @@ use native.Mathlib.Omega.{arith}
 use lib.Dec.{leb, ltb, eqb}
 use lib.ListN.{length}
 use borrow.Author.Tests.{leb-true, le-leb, lt-ltb, le-ltb}
-use Rattle.rules.specs.Refusals.{Tested, refused, passed, check, refusal_of, ◌>>=◌, ◌>>◌, Outcome, answered}
+use Rattle.rules.specs.Refusals.{Tested, refused, passed, check, refusal_of, ◌>>=◌, ◌>>◌, answered}
 use Rattle.rules.specs.Memory.{Memory, null, word, refs, plains, ref_field, plain_field, followed}
 use Rattle.rules.specs.Control.{Store}
 use Rattle.rules.specs.Phases.{register}

@@ -5,10 +5,8 @@ use mathlib.Core.List.{[]}
 use borrow.Author.Tests.{leb-true}
 use Rattle.rules.specs.Control.{Store}
 use Rattle.rules.specs.Phases.{session_at}
-use Rattle.rules.specs.Calls.{within_share, allocate}
-use Rattle.store.proofs.tests.Numbers.{refused_by}
+use Rattle.rules.specs.Calls.{within_share}
 use Rattle.store.proofs.allocation.Tests.{Allocating, allocating, allocate-done}
-use borrow.Author.Rules.{rules}
 use Rattle.store.proofs.Control.allocate.Goals as goal
 
 pub bounds-self-i : goal.bounds-self-i

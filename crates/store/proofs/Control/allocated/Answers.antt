@@ -3,7 +3,6 @@ use Prim.Native.Nat.{◌≤◌}
 use mathlib.Core.List.{[]}
 use native.Mathlib.Omega.{arith}
 use Rattle.store.proofs.allocation.Record.{below_at, other_small, fromspace-small, frontier-small, room_one, room_each, room-second, allocated-white, allocated-black, allocated_both}
-use borrow.Author.Rules.{rules}
 use Rattle.store.proofs.Control.allocated.Goals as goal
 
 pub placed-requires : goal.placed-requires

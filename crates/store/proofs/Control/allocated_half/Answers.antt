@@ -1,7 +1,6 @@
 -- The half by the session's level.
 use mathlib.Core.List.{[]}
 use Rattle.store.proofs.allocation.Record.{below_at, other_small, fromspace-small, given-current, given-from, given_to}
-use borrow.Author.Rules.{rules}
 use Rattle.store.proofs.Control.allocated_half.Goals as goal
 
 pub returns-then-level-le2 : goal.returns-then-level-le2

@@ -5,14 +5,12 @@ use native.Mathlib.Omega.{arith}
 use lib.Dec.{leb}
 use borrow.Author.Tests.{le-leb, lt-leb, not-true, not-false}
 use Rattle.rules.specs.Refusals.{passed}
-use Rattle.rules.specs.Control.{Store}
 use Rattle.rules.specs.Phases.{session_at}
 use Rattle.rules.specs.Calls.{session_of, allocate}
 use Rattle.rules.proofs.Ranges.{in_session}
 use Rattle.store.specs.View.{view}
 use Rattle.store.proofs.tests.Numbers.{turned_away, let_in}
 use Rattle.store.proofs.allocation.Tests.{fits, small, last_decide}
-use borrow.Author.Rules.{rules}
 use mathlib.Core.Bool.{not}
 use mathlib.Core.Path.{ap}
 use Rattle.store.proofs.Control.allocation_tests.Goals as goal

@@ -7,7 +7,6 @@ use Rattle.rules.specs.Calls.{session_of, store_links}
 use Rattle.store.specs.View.{view}
 use Rattle.store.proofs.tests.Numbers.{turned_away, let_in}
 use Rattle.store.proofs.calls.Links.{links_many, links_each, tail_within, ends_refused}
-use borrow.Author.Rules.{rules}
 use Rattle.store.proofs.Control.links_plan.Goals as goal
 
 pub returns-then-refusal-ne0 : goal.returns-then-refusal-ne0

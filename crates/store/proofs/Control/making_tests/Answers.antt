@@ -3,7 +3,6 @@ use mathlib.Core.Bool.{◌&&◌, true}
 use mathlib.Core.Path.{◌≡◌}
 use borrow.Author.Tests.{not-true, not-false, eq-eqb, ne_eqb, le-leb, lt-leb}
 use Rattle.rules.specs.Control.{making, list_allowed}
-use borrow.Author.Rules.{rules}
 use mathlib.Core.Bool.{not}
 use mathlib.Core.Path.{ap}
 use Rattle.store.proofs.Control.making_tests.Goals as goal

@@ -1,16 +1,13 @@
 -- The plan's refusal; or what it says, added to the pending words and to the entries.
 use Prim.Native.Nat.{◌+◌, ◌-◌, ◌*◌, ◌≤◌}
-use mathlib.Core.Path.{◌≡◌, ap}
+use mathlib.Core.Path.{◌≡◌}
 use native.Mathlib.Omega.{arith}
 use lib.ListN.{length, take}
-use lib.Seq.{length-sets}
 use Rattle.rules.specs.Calls.{store_plan}
-use Rattle.rules.specs.declared.Writes.{Writes}
 use Rattle.store.specs.View.{view_with}
 use Rattle.store.specs.Plans.{storing}
-use Rattle.store.specs.Links.{link_numbers, link_entries, Placeable, entry_of, tailed}
-use Rattle.store.proofs.calls.Links.{link_away, link_placeable, link_made, link-after, entry-few, ends_at, ends_refused}
-use borrow.Author.Rules.{rules}
+use Rattle.store.specs.Links.{link_numbers, link_entries, Placeable, tailed}
+use Rattle.store.proofs.calls.Links.{link_away, link_placeable, link_made, link-after, ends_at, ends_refused}
 use Rattle.store.proofs.Control.plan_link.Goals as goal
 
 pub put_link-requires : goal.put_link-requires

@@ -1,10 +1,9 @@
 -- The plan's refusal, or what it says written: the records shaded, then the global.
 use Prim.Native.Nat.{◌≤◌}
 use native.Mathlib.Omega.{arith}
-use Rattle.rules.specs.Control.{Store, last_global}
+use Rattle.rules.specs.Control.{last_global}
 use Rattle.store.specs.View.{view}
 use Rattle.store.proofs.calls.Store.{Listable, put_away, put-known_by, put-done}
-use borrow.Author.Rules.{rules}
 use Rattle.store.proofs.Control.put.Goals as goal
 
 pub shade_both-tail-requires : goal.shade_both-tail-requires

@@ -2,7 +2,6 @@
 use mathlib.Core.Path.{◌≡◌}
 use native.Mathlib.Omega.{arith}
 use Rattle.rules.specs.Refusals.{passed}
-use Rattle.rules.specs.Control.{Store}
 use Rattle.rules.specs.Phases.{register, session_at}
 use Rattle.rules.specs.Barriers.{heap_of}
 use Rattle.rules.specs.Calls.{session_of, put_plan}
@@ -12,7 +11,6 @@ use Rattle.store.specs.View.{view}
 use Rattle.store.proofs.tests.Numbers.{turned_away, let_in, known}
 use Rattle.store.proofs.shading.Shade.{within}
 use Rattle.store.proofs.calls.Store.{put-register, put_global, put_unwritable, put_made}
-use borrow.Author.Rules.{rules}
 use Rattle.store.proofs.Control.put_plan.Goals as goal
 
 pub returns-then-refusal-ne0 : goal.returns-then-refusal-ne0

@@ -1,6 +1,5 @@
 -- What a read answers: the tests, then what its field holds.
-use mathlib.Core.Path.{◌≡◌, ◌∙◌, sym, ap}
-use Rattle.rules.specs.Refusals.{Tested}
+use mathlib.Core.Path.{◌∙◌, sym, ap}
 use Rattle.rules.specs.Calls.{read}
 use Rattle.store.specs.View.{view}
 use Rattle.store.specs.Plans.{tested, loading}

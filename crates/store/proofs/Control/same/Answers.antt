@@ -2,17 +2,15 @@
 use mathlib.Core.Path.{◌≡◌, ◌∙◌, sym, ap}
 use native.Mathlib.Omega.{arith}
 use Rattle.rules.specs.Refusals.{passed}
-use Rattle.rules.specs.Control.{Store}
 use Rattle.rules.specs.Phases.{register, session_at}
 use Rattle.rules.specs.Barriers.{heap_of}
 use Rattle.rules.specs.Calls.{session_of, same}
 use Rattle.rules.proofs.Ranges.{in_session}
 use Rattle.heap.specs.View.{heap, compared}
 use Rattle.store.specs.View.{view}
-use Rattle.store.proofs.tests.Numbers.{turned_away, let_in, registers-out, registers_in, registers-known}
+use Rattle.store.proofs.tests.Numbers.{turned_away, let_in, registers-out, registers_in}
 use Rattle.store.proofs.shading.Shade.{within}
 use Rattle.store.proofs.calls.Same.{same_lost, same-answered}
-use borrow.Author.Rules.{rules}
 use mathlib.Core.Bool.{not}
 use Rattle.store.proofs.Control.same.Goals as goal
 

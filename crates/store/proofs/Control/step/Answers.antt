@@ -3,7 +3,7 @@ use mathlib.Core.Path.{◌≡◌}
 use native.Mathlib.Omega.{arith}
 use lib.ListN.{length}
 use lib.Seq.{set_out}
-use Rattle.rules.specs.Control.{global_count, session_count}
+use Rattle.rules.specs.Control.{session_count}
 use Rattle.rules.specs.Phases.{session_at, with_session}
 use Rattle.store.proofs.shading.Phases.{unmapped}
 use borrow.Author.Rules.{rules}

@@ -1,13 +1,11 @@
 -- The plan's refusal, or what it says written: the records shaded, then the field of the two copies.
 use mathlib.Core.Path.{◌≡◌}
-use Rattle.rules.specs.Control.{Store}
 use Rattle.rules.specs.Calls.{store_plan}
 use Rattle.heap.proofs.Halves.{inside_kept}
 use Rattle.heap.proofs.Laid.{laid_none}
 use Rattle.store.specs.View.{view}
 use Rattle.store.specs.Plans.{storing}
 use Rattle.store.proofs.calls.Store.{Storable, store_away, store-known_by, store-done}
-use borrow.Author.Rules.{rules}
 use Rattle.store.proofs.Control.store.Goals as goal
 
 pub shade_both-tail-requires : goal.shade_both-tail-requires

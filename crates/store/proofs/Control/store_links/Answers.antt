@@ -4,8 +4,7 @@ use native.Mathlib.Omega.{arith}
 use lib.ListN.{length-replicate}
 use Rattle.rules.specs.Calls.{most_links}
 use Rattle.store.specs.View.{view}
-use Rattle.store.proofs.calls.Links.{links_away, links_few, links_done}
-use borrow.Author.Rules.{rules}
+use Rattle.store.proofs.calls.Links.{links_few}
 use Rattle.store.proofs.Control.store_links.Goals as goal
 
 pub put_links-requires : goal.put_links-requires

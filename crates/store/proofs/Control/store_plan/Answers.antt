@@ -8,7 +8,6 @@ use Rattle.store.proofs.shading.Shade.{within}
 use Rattle.store.proofs.tests.Opening.{Opened, away, lent, unsound, opened, ref_out}
 use Rattle.store.proofs.calls.Pending.{held_laid, within-laid}
 use Rattle.store.proofs.calls.Store.{store_ready, plan_unwritable, plan_made}
-use borrow.Author.Rules.{rules}
 use Rattle.store.proofs.Control.store_plan.Goals as goal
 
 pub returns-in-Refusal : goal.returns-in-Refusal

@@ -4,7 +4,6 @@ use Rattle.rules.specs.Calls.{stretch}
 use Rattle.store.specs.View.{view}
 use Rattle.store.proofs.tests.Opening.{Opened, away, lent, unsound, opened}
 use Rattle.store.proofs.calls.Stretch.{span, stretch-within, stretch-small, stretched}
-use borrow.Author.Rules.{rules}
 use Rattle.store.proofs.Control.stretch.Goals as goal
 
 pub returns-in_default : goal.returns-in_default

@@ -13,7 +13,6 @@ use Rattle.rules.proofs.Ranges.{InRange, in_range_lem}
 use Rattle.store.specs.View.{view}
 use Rattle.store.proofs.collector.Numbers.{ready, ends}
 use Rattle.store.proofs.collector.Step.{waits, step-refused, step-done, step_waits}
-use borrow.Author.Rules.{rules}
 use Rattle.store.proofs.Control.work.Goals as goal
 
 module _ {A : Type 0} (x : A) where

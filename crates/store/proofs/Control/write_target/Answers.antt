@@ -5,7 +5,6 @@ use Rattle.rules.specs.Calls.{write_plan}
 use Rattle.store.specs.View.{view}
 use Rattle.store.proofs.tests.Opening.{Opened, away, lent, unsound, opened, plain_out}
 use Rattle.store.proofs.calls.Write.{target}
-use borrow.Author.Rules.{rules}
 use Rattle.store.proofs.Control.write_target.Goals as goal
 
 pub returns-in-Refusal : goal.returns-in-Refusal

@@ -7,7 +7,6 @@ use Rattle.store.proofs.tests.Flags.{no, yes}
 use Rattle.store.proofs.collector.Numbers.{goes, shells}
 use Rattle.store.proofs.collector.Walk.{AtWalk, AtRecord, at_walk, at_record, header_of, past}
 use Rattle.store.proofs.collector.Shells.{AtShell, front-small, shell_ready, shells_done, shells_lost, shells_passed, shells_full, shells_made}
-use borrow.Author.Rules.{rules}
 use mathlib.Core.Bool.{not}
 use mathlib.Core.Path.{ap}
 use Rattle.store.proofs.Cursor.allocate_shells.Goals as goal

@@ -6,7 +6,6 @@ use Rattle.store.proofs.tests.Flags.{no}
 use Rattle.store.proofs.collector.Numbers.{goes, moves}
 use Rattle.store.proofs.collector.Walk.{AtWalk, AtRecord, at_walk, at_record, header_of, past}
 use Rattle.store.proofs.collector.Copy.{AtReplica, replica_word, copying, copy_ends, copy_lost, copy_passes, copy-copies}
-use borrow.Author.Rules.{rules}
 use mathlib.Core.Bool.{not}
 use mathlib.Core.Path.{ap}
 use Rattle.store.proofs.Cursor.copy.Goals as goal

@@ -1,5 +1,4 @@
 -- The tests before it, and then the field.
-use mathlib.Core.Path.{◌∙◌, sym}
 use Rattle.store.specs.Fields.{field_reference}
 use Rattle.store.proofs.calls.Fields.{unnamed, is-named}
 use Rattle.store.proofs.Cursor.field_reference.Goals as goal

@@ -1,5 +1,4 @@
 -- The tests before it, and then the field.
-use mathlib.Core.Path.{◌∙◌, sym}
 use Rattle.store.specs.Fields.{field_word}
 use Rattle.store.proofs.calls.Fields.{unnamed, is-named}
 use Rattle.store.proofs.Cursor.field_word.Goals as goal

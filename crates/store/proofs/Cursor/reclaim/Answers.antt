@@ -5,7 +5,6 @@ use Rattle.heap.proofs.Soundness.{lost}
 use Rattle.store.proofs.tests.Flags.{no, yes}
 use Rattle.store.proofs.collector.Numbers.{goes, empties}
 use Rattle.store.proofs.collector.Walk.{AtWalk, AtRecord, at_walk, at_record, header_of, past, reclaim_waits, reclaim_ends, reclaim_lost, reclaim_clears}
-use borrow.Author.Rules.{rules}
 use mathlib.Core.Bool.{not}
 use mathlib.Core.Path.{ap}
 use Rattle.store.proofs.Cursor.reclaim.Goals as goal

@@ -1,6 +1,5 @@
 -- The tests in order.
-use mathlib.Core.Path.{◌≡◌}
-use borrow.Author.Tests.{eq-eqb, ne_eqb}
+use borrow.Author.Tests.{ne_eqb}
 use Rattle.store.specs.Fields.{named}
 use Rattle.store.proofs.Cursor.reference_tests.Goals as goal
 

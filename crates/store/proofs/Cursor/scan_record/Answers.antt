@@ -1,11 +1,8 @@
 -- Damage is refused; else the next reference field is shaded, or the record coloured black.
-use native.Mathlib.Omega.{arith}
-use Rattle.rules.specs.Control.{Store}
 use Rattle.heap.specs.View.{memory}
 use Rattle.heap.proofs.Soundness.{Found, found, lost}
 use Rattle.store.specs.Cursors.{having}
 use Rattle.store.proofs.shading.Phases.{record_damage, colour_inside, field_inside, field_next, record_done}
-use borrow.Author.Rules.{rules}
 use Rattle.store.proofs.Cursor.scan_record.Goals as goal
 
 pub returns-in_default : goal.returns-in_default

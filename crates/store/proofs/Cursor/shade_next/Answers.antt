@@ -1,13 +1,11 @@
 -- Damage is refused; with nothing to shade the walk goes on; else the record is shaded as well.
 use mathlib.Core.Path.{◌≡◌, ◌∙◌, ap, refl}
-use native.Mathlib.Omega.{arith}
 use Rattle.rules.specs.Control.{Store}
 use Rattle.rules.specs.Barriers.{Heap, heap_of, shading}
 use Rattle.heap.specs.View.{checked}
 use Rattle.store.specs.Cursors.{having}
 use Rattle.store.proofs.collector.Numbers.{some, bounds_within}
 use Rattle.store.proofs.shading.Phases.{next_damage, next-walked, next-shaded, next-allowed}
-use borrow.Author.Rules.{rules}
 use Rattle.store.proofs.Cursor.shade_next.Goals as goal
 
 pub shading-requires : goal.shading-requires

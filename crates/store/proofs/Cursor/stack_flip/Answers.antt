@@ -12,7 +12,6 @@ use Rattle.store.proofs.collector.Flip.{stacks_done, stack_lost, stack_flips, mo
 use Rattle.store.proofs.shading.Phases.{unmapped}
 use Rattle.store.proofs.session.Search.{lowest_of_lem}
 use borrow.Author.Rules.{rules}
-use mathlib.Core.Bool.{not}
 use Rattle.store.proofs.Cursor.stack_flip.Goals as goal
 
 pub returns-then-n-ge-SESSIONS : goal.returns-then-n-ge-SESSIONS

@@ -1,7 +1,6 @@
 -- By what following found.
 use mathlib.Core.Path.{sym}
-use Rattle.heap.specs.View.{memory}
-use Rattle.heap.proofs.Soundness.{Found, found, lost}
+use Rattle.heap.proofs.Soundness.{found, lost}
 use Rattle.heap.proofs.Fields.{found_plain}
 use Rattle.store.proofs.calls.Fields.{word_lost, word_past, word-here}
 use Rattle.store.proofs.fields.word_in.Goals as goal

@@ -1,13 +1,12 @@
 -- Invariant: the records found among the registers before register i are shaded, and the colours are those that this leaves.
-use Prim.Native.Nat.{◌-◌, ◌<◌}
+use Prim.Native.Nat.{◌<◌}
 use mathlib.Core.Path.{◌≡◌}
 use native.Mathlib.Omega.{arith}
 use lib.ListN.{length, get_or}
 use Rattle.rules.specs.Memory.{colour_at}
-use Rattle.rules.specs.Control.{register_count}
 use Rattle.heap.specs.View.{Inside}
 use Rattle.heap.proofs.Halves.{inside_kept}
-use Rattle.store.proofs.shading.ShadeAll.{Turn, first-turn, turn-left, turn_inside, next-turn, last_turn}
+use Rattle.store.proofs.shading.ShadeAll.{first-turn, turn-left, turn_inside, next-turn, last_turn}
 use borrow.Author.Rules.{rules}
 use Rattle.store.proofs.scanning.shade_registers.Goals as goal
 

@@ -7,7 +7,6 @@ use Rattle.heap.proofs.Halves.{inside_kept}
 use Rattle.store.specs.Marking.{ending}
 use Rattle.store.proofs.collector.Numbers.{some}
 use Rattle.store.proofs.shading.Shade.{shade-end}
-use borrow.Author.Rules.{rules}
 use Rattle.store.proofs.shade.shade_both.Goals as goal
 
 pub shade_one-requires : goal.shade_one-requires
