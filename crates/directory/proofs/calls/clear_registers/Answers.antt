@@ -1,10 +1,7 @@
 -- Invariant: what is left to clear from here gives what all gives.
-use Prim.Native.Nat.{◌-◌, ◌≤◌}
-use mathlib.Core.Path.{◌≡◌}
 use native.Mathlib.Omega.{arith}
-use borrow.Author.Rules.{rules}
 use Rattle.store.specs.View.{view}
-use Rattle.directory.proofs.acts.Ending.{cleared, cleared-begun, cleared_more, cleared-all}
+use Rattle.directory.proofs.acts.Ending.{cleared-begun, cleared_more, cleared-all}
 use Rattle.directory.proofs.calls.clear_registers.Goals as goal
 
 pub loop-k-init : goal.loop-k-init

@@ -1,9 +1,7 @@
 use Prim.Native.Nat.{◌-◌, ◌≤◌}
 use mathlib.Core.Path.{◌≡◌}
-use native.Mathlib.Omega.{arith}
-use borrow.Author.Rules.{rules}
 use Rattle.store.specs.View.{view}
-use Rattle.directory.proofs.acts.Ending.{cleared, cleared-begun, cleared_more, cleared-all}
+use Rattle.directory.proofs.acts.Ending.{cleared}
 use Rattle.directory.proofs.calls.clear_registers.Given as goal
 
 abbrev pub invariant-loop-k : goal.invariant-loop-k

@@ -1,5 +1,4 @@
 -- A new record, then linked.
-use mathlib.Core.Path.{refl, ◌∙◌}
 use Rattle.directory_rules.specs.Directory.{fresh, append}
 use Rattle.directory.proofs.acts.Calling.{act_halts, act_goes}
 use Rattle.directory.proofs.chains.append.Goals as goal

@@ -4,7 +4,6 @@ use Rattle.directory_rules.specs.Acts as acts
 use Rattle.directory_rules.specs.Directory.{entries, grouping}
 use Rattle.directory.proofs.acts.Calling.{must_stops, must_goes}
 use Rattle.directory.proofs.acts.Found.{standing_halts, standing_goes}
-use borrow.Author.Rules.{rules}
 use Rattle.directory.proofs.groups.grouping.Goals as goal
 
 pub returns-in_default : goal.returns-in_default

@@ -1,5 +1,4 @@
 -- A new group, its next entry stored, then linked.
-use mathlib.Core.Path.{refl, ◌∙◌}
 use Rattle.directory_rules.specs.Acts as acts
 use Rattle.directory.proofs.acts.Calling.{act_halts, act_goes, must_halts, must_goes}
 use Rattle.directory_rules.specs.Directory.{fresh}

@@ -1,5 +1,4 @@
 -- The pair looked for, then a new link.
-use mathlib.Core.Path.{refl}
 use Rattle.directory_rules.specs.Directory.{pairing, joining}
 use Rattle.directory.proofs.acts.Found.{vacant_stops, vacant_goes}
 use Rattle.directory.proofs.groups.joining.Goals as goal

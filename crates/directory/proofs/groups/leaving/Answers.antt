@@ -1,5 +1,4 @@
 -- The pair looked for, then the link cut.
-use mathlib.Core.Path.{refl}
 use Rattle.directory_rules.specs.Directory.{pairing, leaving}
 use Rattle.directory.proofs.acts.Found.{standing_stops, standing_goes}
 use Rattle.directory.proofs.groups.leaving.Goals as goal

@@ -1,11 +1,9 @@
 -- The number tested, the entries walked, then a new group.
-use mathlib.Core.Path.{refl}
 use borrow.Author.Tests.{le-leb, lt-leb}
 use Rattle.directory_rules.specs.Directory.{entries, making}
 use Rattle.directory.specs.Parts.{inserting}
 use Rattle.directory.proofs.acts.Tests.{demand_stops, demand_goes}
 use Rattle.directory.proofs.acts.Found.{vacant_stops, vacant_goes}
-use borrow.Author.Rules.{rules}
 use Rattle.directory.proofs.groups.making.Goals as goal
 
 pub returns-then-group-gt-LAST_NUMBER : goal.returns-then-group-gt-LAST_NUMBER

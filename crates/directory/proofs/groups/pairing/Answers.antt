@@ -6,7 +6,6 @@ use Rattle.directory_rules.specs.Directory.{grouping, pairing}
 use Rattle.directory.specs.Parts.{pairing_in}
 use Rattle.directory.proofs.acts.Results.{walk_halts, walk_goes}
 use Rattle.directory.proofs.acts.Tests.{demand_stops, demand_goes}
-use borrow.Author.Rules.{rules}
 use Rattle.directory.proofs.groups.pairing.Goals as goal
 
 pub returns-then-person-gt-LAST_NUMBER : goal.returns-then-person-gt-LAST_NUMBER

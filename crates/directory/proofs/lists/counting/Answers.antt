@@ -1,10 +1,6 @@
 -- Invariant: what is left to perform from here is what was to be performed at the start.
-use Prim.Native.Nat.{◌+◌}
-use mathlib.Core.Path.{◌≡◌, refl, sym, ◌∙◌}
+use mathlib.Core.Path.{refl, sym, ◌∙◌}
 use native.Mathlib.Omega.{arith}
-use Rattle.store.specs.View.{view}
-use Rattle.directory_rules.specs.Acts.{perform}
-use Rattle.directory_rules.specs.Directory.{counting}
 use Rattle.directory.proofs.acts.Counting.{passed-left, count-ended, count-failed, count_next}
 use Rattle.directory.proofs.lists.counting.Goals as goal
 

@@ -1,10 +1,8 @@
 use Prim.Native.Nat.{◌+◌}
-use mathlib.Core.Path.{◌≡◌, refl, sym, ◌∙◌}
-use native.Mathlib.Omega.{arith}
+use mathlib.Core.Path.{◌≡◌}
 use Rattle.store.specs.View.{view}
 use Rattle.directory_rules.specs.Acts.{perform}
 use Rattle.directory_rules.specs.Directory.{counting}
-use Rattle.directory.proofs.acts.Counting.{passed-left, count-ended, count-failed, count_next}
 use Rattle.directory.proofs.lists.counting.Given as goal
 
 abbrev pub invariant-loop-n : goal.invariant-loop-n

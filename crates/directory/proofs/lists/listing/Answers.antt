@@ -6,7 +6,6 @@ use Rattle.directory.specs.View.{left_by}
 use Rattle.directory.proofs.acts.Results.{walk_stops, walk_goes}
 use Rattle.directory.proofs.acts.Tests.{demand_stops, demand_goes}
 use Rattle.directory.proofs.acts.Listing.{listing_as}
-use borrow.Author.Rules.{rules}
 use Rattle.directory.proofs.lists.listing.Goals as goal
 
 pub returns-then-group-gt-LAST_NUMBER : goal.returns-then-group-gt-LAST_NUMBER

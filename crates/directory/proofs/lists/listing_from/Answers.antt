@@ -3,8 +3,7 @@ use mathlib.Core.Path.{ap}
 use Rattle.directory.specs.Parts.{counting_members, listing_from}
 use Rattle.directory.specs.View.{left_by}
 use Rattle.directory.proofs.acts.Results.{count_stops}
-use Rattle.directory.proofs.acts.Listing.{least-second, listed}
-use borrow.Author.Rules.{rules}
+use Rattle.directory.proofs.acts.Listing.{listed}
 use Rattle.directory.proofs.lists.listing_from.Goals as goal
 
 pub returns-in-Stopped : goal.returns-in-Stopped

@@ -1,12 +1,7 @@
 -- Invariant: the words taken so far, before those that are left to take from here, are all that were to be taken.
-use Prim.Native.Nat.{◌-◌, ◌≤◌}
 use mathlib.Core.Path.{refl}
 use native.Mathlib.Omega.{arith}
-use borrow.Author.Rules.{rules}
-use Rattle.store.specs.View.{view}
-use Rattle.directory_rules.specs.Acts.{perform}
-use Rattle.directory_rules.specs.Directory.{taking}
-use Rattle.directory.proofs.acts.Taking.{Underway, under_way, taken_none, taking-failed, taking-ended, taking-word, taken-all}
+use Rattle.directory.proofs.acts.Taking.{under_way, taken_none, taking-failed, taking-ended, taking-word, taken-all}
 use Rattle.directory.proofs.lists.taking.Goals as goal
 
 pub loop-i-init : goal.loop-i-init

@@ -1,11 +1,8 @@
 use Prim.Native.Nat.{◌-◌, ◌≤◌}
-use mathlib.Core.Path.{refl}
-use native.Mathlib.Omega.{arith}
-use borrow.Author.Rules.{rules}
 use Rattle.store.specs.View.{view}
 use Rattle.directory_rules.specs.Acts.{perform}
 use Rattle.directory_rules.specs.Directory.{taking}
-use Rattle.directory.proofs.acts.Taking.{Underway, under_way, taken_none, taking-failed, taking-ended, taking-word, taken-all}
+use Rattle.directory.proofs.acts.Taking.{Underway}
 use Rattle.directory.proofs.lists.taking.Given as goal
 
 abbrev pub invariant-loop-i : goal.invariant-loop-i

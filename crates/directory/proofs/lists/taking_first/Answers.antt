@@ -1,6 +1,5 @@
 -- None to take; or the group's first link loaded, and then all taken.
-use Rattle.directory.proofs.acts.Taking.{first_none, first-refused, first_taken}
-use borrow.Author.Rules.{rules}
+use Rattle.directory.proofs.acts.Taking.{first_taken}
 use Rattle.directory.proofs.lists.taking_first.Goals as goal
 
 pub returns : goal.returns

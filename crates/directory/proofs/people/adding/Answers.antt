@@ -1,5 +1,4 @@
 -- The number tested, the entries walked, then a new person.
-use mathlib.Core.Path.{refl}
 use borrow.Author.Tests.{le-leb, lt-leb}
 use Rattle.directory_rules.specs.Directory.{entries, adding}
 use Rattle.directory.proofs.acts.Tests.{demand_stops, demand_goes}

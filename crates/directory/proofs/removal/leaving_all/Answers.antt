@@ -1,10 +1,6 @@
 -- Invariant: what is left to perform from here is what was to be performed at the start.
-use mathlib.Core.Path.{◌≡◌, refl, sym, ◌∙◌}
+use mathlib.Core.Path.{refl, sym, ◌∙◌}
 use native.Mathlib.Omega.{arith}
-use lib.ListN.{length}
-use Rattle.store.specs.View.{view}
-use Rattle.directory_rules.specs.Acts.{perform}
-use Rattle.directory_rules.specs.Directory.{leaving_all}
 use Rattle.directory.proofs.acts.Calling.{act_halts, act_next}
 use Rattle.directory.specs.Parts.{leaving_one}
 use Rattle.directory.proofs.acts.Groups.{groups-end, groups_go, has_left}

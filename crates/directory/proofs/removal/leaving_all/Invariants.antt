@@ -1,12 +1,8 @@
-use mathlib.Core.Path.{◌≡◌, refl, sym, ◌∙◌}
-use native.Mathlib.Omega.{arith}
+use mathlib.Core.Path.{◌≡◌}
 use lib.ListN.{length}
 use Rattle.store.specs.View.{view}
 use Rattle.directory_rules.specs.Acts.{perform}
 use Rattle.directory_rules.specs.Directory.{leaving_all}
-use Rattle.directory.proofs.acts.Calling.{act_halts, act_next}
-use Rattle.directory.specs.Parts.{leaving_one}
-use Rattle.directory.proofs.acts.Groups.{groups-end, groups_go, has_left}
 use Rattle.directory.proofs.removal.leaving_all.Given as goal
 
 abbrev pub invariant-loop-answer : goal.invariant-loop-answer

@@ -1,7 +1,7 @@
 -- The number tested, the entries walked, then the person removed.
 use borrow.Author.Tests.{le-leb, lt-leb}
 use Rattle.directory_rules.specs.Directory.{entries, removing}
-use mathlib.Core.Path.{refl, ◌∙◌}
+use mathlib.Core.Path.{◌∙◌}
 use Rattle.directory.proofs.acts.Groups.{removed_as}
 use Rattle.directory.proofs.acts.Tests.{demand_stops, demand_goes}
 use Rattle.directory.proofs.acts.Found.{standing_stops, standing_goes}

@@ -1,5 +1,4 @@
 -- Three acts in a row.
-use mathlib.Core.Path.{refl, ◌∙◌}
 use Rattle.directory_rules.specs.Directory.{leaving_all}
 use Rattle.directory.specs.Parts.{holding, removing_found}
 use Rattle.directory.proofs.acts.Calling.{act_halts, act_goes}

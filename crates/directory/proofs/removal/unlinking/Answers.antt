@@ -1,5 +1,4 @@
 -- The entry after the person loaded, then linked.
-use mathlib.Core.Path.{refl}
 use Rattle.directory_rules.specs.Acts as acts
 use Rattle.directory.proofs.acts.Calling.{must_halts, must_goes}
 use Rattle.directory.specs.Parts.{unlinking}

@@ -1,9 +1,6 @@
 -- Invariant: what is left to perform from here is what was to be performed at the start.
-use mathlib.Core.Path.{◌≡◌, refl, sym, ◌∙◌}
+use mathlib.Core.Path.{refl, sym, ◌∙◌}
 use native.Mathlib.Omega.{arith}
-use Rattle.store.specs.View.{view}
-use Rattle.directory_rules.specs.Acts.{perform}
-use Rattle.directory_rules.specs.Directory.{seek}
 use Rattle.directory.proofs.acts.Walking.{seek_ends, seek-refused, seek-next, has_left}
 use Rattle.directory.proofs.walks.seek.Goals as goal
 

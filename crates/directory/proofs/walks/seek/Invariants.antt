@@ -1,9 +1,7 @@
-use mathlib.Core.Path.{◌≡◌, refl, sym, ◌∙◌}
-use native.Mathlib.Omega.{arith}
+use mathlib.Core.Path.{◌≡◌}
 use Rattle.store.specs.View.{view}
 use Rattle.directory_rules.specs.Acts.{perform}
 use Rattle.directory_rules.specs.Directory.{seek}
-use Rattle.directory.proofs.acts.Walking.{seek_ends, seek-refused, seek-next, has_left}
 use Rattle.directory.proofs.walks.seek.Given as goal
 
 abbrev pub invariant-loop-walk : goal.invariant-loop-walk
