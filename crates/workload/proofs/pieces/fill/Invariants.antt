@@ -4,6 +4,5 @@ use Rattle.workload.proofs.pieces.fill.Given as goal
 abbrev pub invariant-loop-left : goal.invariant-loop-left
 invariant-loop-left l = Going l.initial.out l.last l.initial.end l.initial.value l.initial.left l.out l.end l.value l.left
 
--- proposed from the loop's first test
 abbrev pub decreases-loop-left : goal.decreases-loop-left
 decreases-loop-left l = l.left
