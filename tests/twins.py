@@ -11,9 +11,11 @@ before and after the edit.
 - Where an edit keeps the form of the source, its twin is the source, which every check proves.
 - Every other edit has a twin file, tests/twins/CRATE/NAME.edit: the same `file:` and `old:` lines with other `new:` lines. The text
   that it makes must have the form of the one that the edit makes. It is made in a copy of the crate and of those below it, where
-  `rt check CRATE` must prove it. The copy takes along what is proved of those below, so that they are not proved again.
+  `rt check` must prove it. All twins of a crate are made in one copy, one after another, so that what none of them changes is proved
+  once; `rt check` begins there with what checks in other copies on this machine kept.
 
 tests/test_twins.py, one of the tests, looks at all of this, but proves only the twins of the crates in QUICK."""
+import functools
 import glob
 import os
 import re
@@ -26,7 +28,9 @@ ROOT = os.path.dirname(os.path.dirname(os.path.abspath(__file__)))
 QUICK = ("rules", "directory_rules")  # crates without a function, proved in seconds; any other takes up to minutes
 # a bracket, comma or semicolon; else all up to the next one or to white space
 TOKEN = re.compile(r"[()\[\]{},;]|[^\s()\[\]{},;]+")
-VALUE = re.compile(r"(\.?)\w(?:[\w·′.:-]*[\w′])?")
+PATH = re.compile(r"(?:^|\.)[A-Z]")  # in a name with the module that it stands in
+FIELD = re.compile(r"(?<=[\w'])(?=\.[a-z_])")  # where the field of a name begins
+VALUE = re.compile(r"(\.?)\w(?:[\w.:'-]*[\w'])?")
 WORDS = set("do let in if else match while return record where use as mod module fn mut pub abbrev unfoldable unfolding cond λ".split())
 
 
@@ -70,10 +74,15 @@ def is_exchange(a, b):
     return all(kinds) and kinds[0][1] == kinds[1][1] and not WORDS & {a, b}
 
 
+def tokens(text):
+    """The tokens of a text; a field of a name is one of its own."""
+    return [part for token in TOKEN.findall(text) for part in ([token] if PATH.search(token) else FIELD.split(token))]
+
+
 def same_form(some, others):
     """Whether two states of the same files differ in values alone."""
     for file in some:
-        pair = TOKEN.findall(some[file]), TOKEN.findall(others[file])
+        pair = tokens(some[file]), tokens(others[file])
         if len(pair[0]) != len(pair[1]) or not all(a == b or is_exchange(a, b) for a, b in zip(*pair)):
             return False
     return True
@@ -127,32 +136,34 @@ def below(crate):
     return {*names, *(lower for name in names for lower in below(name))}
 
 
-def copy_below(crate, copy):
-    """Copies a crate and those below it, and of these what is proved."""
-    shutil.copy(os.path.join(ROOT, "crates.txt"), copy)
-    paths = [os.path.join("crates", name) for name in (crate, *below(crate))]
-    for name in below(crate):
-        paths += [os.path.join("target", "rlib", name + ".rlib"), os.path.join("target", "stamp", name)]
-    for path in paths:
-        source, to = os.path.join(ROOT, path), os.path.join(copy, path)
-        os.makedirs(os.path.dirname(to), exist_ok=True)
-        if os.path.isdir(source):
-            shutil.copytree(source, to, ignore=shutil.ignore_patterns("must-fail"))
-        elif os.path.isfile(source):
-            shutil.copy(source, to)
+@functools.cache
+def copy_of(crate):
+    """A copy of a crate and of those below it, with their lines of crates.txt; it goes when this program ends."""
+    copy, names = tempfile.TemporaryDirectory(), {crate, *below(crate)}
+    with open(os.path.join(ROOT, "crates.txt"), encoding="utf-8") as text, open(os.path.join(copy.name, "crates.txt"), "w", encoding="utf-8") as out:
+        out.writelines(line for line in text if line.partition(":")[0] in names)
+    for name in names:
+        shutil.copytree(os.path.join(ROOT, "crates", name), os.path.join(copy.name, "crates", name), ignore=shutil.ignore_patterns("must-fail", "out"))
+    return copy
+
+
+def write(folder, texts):
+    for file, text in texts.items():
+        with open(os.path.join(folder, file), "w", encoding="utf-8") as out:
+            out.write(text)
 
 
 def prove(crate, twin):
     """Makes the twin in a copy of its crate and has it proved there; raises Bad with the first error."""
-    with tempfile.TemporaryDirectory() as copy:
-        copy_below(crate, copy)
-        for file, text in edited(crate, twin)[1].items():
-            with open(os.path.join(copy, "crates", crate, file), "w", encoding="utf-8") as out:
-                out.write(text)
-        done = subprocess.run(["rt", "check", crate], cwd=copy, stdout=subprocess.PIPE, stderr=subprocess.STDOUT, text=True)
-        if done.returncode != 0:
-            lines = [line for line in done.stdout.split("\n") if ": error" in line] or done.stdout.strip().split("\n")[-1:]
-            raise Bad("its twin is not proved: " + lines[0].replace(copy + os.sep, "")[:300])
+    copy = copy_of(crate).name
+    folder = os.path.join(copy, "crates", crate)
+    source, right = edited(crate, twin)
+    write(folder, right)
+    done = subprocess.run(["rt", "check"], cwd=folder, stdout=subprocess.PIPE, stderr=subprocess.STDOUT, text=True)
+    write(folder, source)
+    if done.returncode != 0:
+        lines = [line for line in done.stdout.split("\n") if ": error" in line] or done.stdout.strip().split("\n")[-1:]
+        raise Bad("its twin is not proved: " + lines[0].replace(copy + os.sep, "")[:300])
 
 
 def look(crates=(), proved=None):

@@ -507,10 +507,11 @@ module _ {s : Store} (k : InRange s) where
 
   reclaim_range : AtRecords s → Keeps (collector.reclaim s)
   unfolding collector.reclaim
-  reclaim_range at = if_row (not (collector.have_level s)) (λ e. passes _ k)
-      (λ e. if_row (collector.below s)
+  reclaim_range at = bool_or (collector.have_level s)
+      (λ a. rw a (if_row (collector.below s)
       (λ e. then_row _ (followed_row s.memory (collector.walked s)) (λ u q. passes _ (past_range at q (within-put _ _ _ (within-own k)))))
-      (λ e. passes _ (uncharged_range (range_moved (range_memory k (within-emptied _ (other_below_2 s.current) (within-own k)))))))
+      (λ e. passes _ (uncharged_range (range_moved (range_memory k (within-emptied _ (other_below_2 s.current) (within-own k))))))))
+      (λ a. rw a (passes _ k))
 
   unit_range : (ph : ℕ) → s.phase ≡ ph → Keeps (get_or collector.units ph collector.handshake s)
   unit_range zero e = rest_range
