@@ -11,7 +11,7 @@ ghost use Rattle.std.specs.Prelude.{◌≡◌, ◌+◌, ◌≤◌, length};
 ghost use Rattle.directory_main.specs.Lines.{longest};
 ghost use Rattle.directory_main.specs.Window.{is_short, Fetched};
 
-use libc::{STDIN_FILENO, STDOUT_FILENO};
+use std::io::{Read, Write};
 
 // The bytes of the longest entry that isn't 15, its length byte among them.
 const LONGEST_ENTRY: usize = 10;
@@ -44,7 +44,7 @@ fn is_short(at: usize, filled: usize, size: usize) -> bool
 }
 
 // The input buffer with the whole of the next entry in it, as far as the input has it.
-fn fetch(input: &mut [u8], at: usize, filled: usize) -> Window
+fn fetch<R: Read>(stdin: &mut R, input: &mut [u8], at: usize, filled: usize) -> Window
     requires { (at ≤ filled) × (filled ≤ length input.old) }
     ensures { Fetched input.old at filled input.new result.at result.filled }
 {
@@ -52,7 +52,7 @@ fn fetch(input: &mut [u8], at: usize, filled: usize) -> Window
         return Window { at, filled };
     }
     let kept = script::keep(input, at, filled);
-    let got = streams::read_full(STDIN_FILENO, &mut input[kept..]);
+    let got = streams::read_full(stdin, &mut input[kept..]);
     Window {
         at: 0,
         filled: kept + got,
@@ -60,14 +60,14 @@ fn fetch(input: &mut [u8], at: usize, filled: usize) -> Window
 }
 
 // Writes the output so far and answers whether all of it was written.
-fn write_out(out: &[u8], end: usize) -> bool
+fn write_out<W: Write>(stdout: &mut W, out: &[u8], end: usize) -> bool
     requires { end ≤ length out.now }
 {
-    streams::write_all(STDOUT_FILENO, &out[..end])
+    streams::write_all(stdout, &out[..end])
 }
 
 // Writes the output so far where a line may not fit after it.
-fn flush(out: &[u8], end: usize) -> Room
+fn flush<W: Write>(stdout: &mut W, out: &[u8], end: usize) -> Room
     requires { (end ≤ length out.now) × (longest ≤ length out.now) }
     ensures { result.at + longest ≤ length out.now }
 {
@@ -79,13 +79,15 @@ fn flush(out: &[u8], end: usize) -> Room
     }
     Room {
         at: 0,
-        written: write_out(out, end),
+        written: write_out(stdout, out, end),
     }
 }
 
 // The entries of the input, from the first on, until the input ends, an entry is 15 or a write fails. Answers whether all
 // lines were written; after a write that failed there is no other.
-fn run(
+fn run<R: Read, W: Write>(
+    stdin: &mut R,
+    stdout: &mut W,
     h0: &mut [u32],
     h1: &mut [u32],
     list: &mut [u32],
@@ -103,10 +105,10 @@ fn run(
     let mut number: u64 = 1;
     let mut more = true;
     while more & (number < u64::MAX) {
-        let window = fetch(input, at, filled);
+        let window = fetch(stdin, input, at, filled);
         let start = window.at;
         filled = window.filled;
-        let room = flush(out, end);
+        let room = flush(stdout, out, end);
         if !room.written {
             return false;
         }
@@ -119,23 +121,32 @@ fn run(
         more = turn.more;
         number += 1;
     }
-    write_out(out, end)
+    write_out(stdout, out, end)
 }
 
-// A program has no exit status, so what `run` answers goes no further.
-fn main() {
+// The program ends well on every input, so what `run` answers goes no further.
+fn main(rt: HostRuntime) {
+    let mut stdin = rt.stdin();
+    let mut stdout = rt.stdout();
     let mut half0 = [0u32; 4096];
     let mut half1 = [0u32; 4096];
     let mut list = [0u32; 1365];
-    let mut input = io::buffer();
-    let mut out = io::buffer();
-    let filled = streams::read_full(STDIN_FILENO, &mut input);
+    let mut input = [0u8; 4096];
+    let mut out = [0u8; 4096];
+    let filled = streams::read_full(&mut stdin, &mut input);
     if entries::is_version(&input[..filled]) {
         run(
-            &mut half0, &mut half1, &mut list, &mut input, filled, &mut out,
+            &mut stdin,
+            &mut stdout,
+            &mut half0,
+            &mut half1,
+            &mut list,
+            &mut input,
+            filled,
+            &mut out,
         );
     } else {
         let end = script::write_bad_version(&mut out);
-        write_out(&out, end);
+        write_out(&mut stdout, &out, end);
     }
 }
