@@ -1,5 +1,5 @@
 -- What the directory holds: one record for each person, group and membership, and nothing else. So a removal gives its words back.
-use Rattle.std.specs.Prelude.{ℕ, ◌+◌, ◌*◌, ◌<◌, ◌≡◌, ◌≢◌, ◌⊎◌, true, get_or, length}
+use Rattle.std.specs.Prelude.{ℕ, ◌+◌, ◌*◌, ◌<◌, ◌≡◌, ◌≢◌, true, get_or, length}
 use mathlib.Core.List.{List, ◌∷◌, ◌++◌, Memᴰ}
 use Rattle.rules.specs.Memory.{null}
 use Rattle.rules.specs.Cycle.{at_rest}

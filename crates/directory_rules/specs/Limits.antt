@@ -3,7 +3,7 @@
 use Rattle.std.specs.Prelude.{ℕ, ◌/◌, cond, List, [], ◌∷◌, ◌++◌, map, replicate}
 use Rattle.rules.specs.Refusals.{refusal_of, answer}
 use Rattle.rules.specs.Control.{Store, new_store}
-use Rattle.rules.specs.Runs.{Call, Clear, Get, Load, Put, StoreRef}
+use Rattle.rules.specs.Runs.{Clear, Get, Load, Put, StoreRef}
 use Rattle.rules.specs.Examples.{Example}
 use Rattle.rules.specs.declared.Answer.TheVariants.{Refused}
 use Rattle.directory_rules.specs.Table.{Request, Open, Add, Remove, Make, Join, Leave, Members}

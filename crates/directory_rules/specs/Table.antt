@@ -1,6 +1,6 @@
 -- The plain table: which people and groups there are, and who is in which group. No store, no memory.
 use Rattle.std.specs.Prelude.{ℕ, Bool, true, false, cond, not, ◌&&◌, ◌||◌, List, [], ◌∷◌, ◌++◌, leb, eqb, length, take, drop}
-use Rattle.rules.specs.Refusals.{Tested, refused, passed, check, ◌>>=◌, ◌>>◌}
+use Rattle.rules.specs.Refusals.{Tested, refused, passed, check, ◌>>◌}
 
 -- what is asked of the directory: numbers of people and groups; of a list also the words lent for its members; of open, by request [7], "a share in
 -- words"

@@ -2,7 +2,6 @@
 
 #![tactic(auto)]
 
-use libc::STDOUT_FILENO;
 use store::Control;
 
 // How many steps a control record takes until its phase is 0 again, or `most` if it has not come there by then.
@@ -27,17 +26,12 @@ fn steps_to_rest(
     n
 }
 
-fn main() {
+fn main(rt: HostRuntime) {
     let mut h0 = [0u32; 16];
     let mut h1 = [0u32; 16];
     let mut list = [0u32; 5];
     let made = Control::make(&h0, &h1, &list);
     let control = made.control;
     let n = steps_to_rest(control, &mut h0, &mut h1, &mut list, 1000);
-    io::write_all(
-        STDOUT_FILENO,
-        b"empty store, steps from phase 0 back to 0: ",
-    );
-    io::print_decimal(STDOUT_FILENO, n);
-    io::write_all(STDOUT_FILENO, b"\n");
+    let _ = println!(rt; "empty store, steps from phase 0 back to 0: {n}");
 }

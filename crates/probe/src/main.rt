@@ -12,6 +12,8 @@ mod records; // records.rt: the control record out of the words of a case, and i
 mod calls; // calls.rt: the call of a case, of the store
 mod requests; // requests.rt: the call of a case, of the directory
 
+use std::io::{Read, Write};
+
 // The words of a case before those that it lends, and the words of a reply before those.
 pub(crate) const CASE: usize = 286;
 
@@ -21,7 +23,8 @@ pub(crate) const REPLY: usize = 265;
 pub(crate) const STRETCH: u32 = 15;
 
 // Writes the words of the stretch of a case, after their count; for another call the count 0.
-fn write_stretch<'a>(
+fn write_stretch<'a, W: Write>(
+    stdout: &mut W,
     control: store::Control,
     h0: &'a [u32],
     h1: &'a [u32],
@@ -30,22 +33,34 @@ fn write_stretch<'a>(
 ) -> bool {
     if case[0] != STRETCH {
         let none = [0u32; 1];
-        return words::write_words(&none);
+        return words::write_words(stdout, &none);
     }
     let part = control.stretch(h0, h1, list, case[1], case[2]);
-    words::write_counted(part)
+    words::write_counted(stdout, part)
 }
 
 // Writes the words of a reply and the lent words.
-pub(crate) fn write_reply(out: &[u32; REPLY], h0: &[u32], h1: &[u32], list: &[u32]) -> bool {
-    let told = words::write_words(out);
-    let halves = words::write_words(h0) & words::write_words(h1);
-    let rest = words::write_words(list);
+pub(crate) fn write_reply<W: Write>(
+    stdout: &mut W,
+    out: &[u32; REPLY],
+    h0: &[u32],
+    h1: &[u32],
+    list: &[u32],
+) -> bool {
+    let told = words::write_words(stdout, out);
+    let halves = words::write_words(stdout, h0) & words::write_words(stdout, h1);
+    let rest = words::write_words(stdout, list);
     told & halves & rest
 }
 
 // Makes the store's call of a case on the words lent, and writes what comes out. Answers whether all was written.
-fn make_call(case: &[u32; CASE], h0: &mut [u32], h1: &mut [u32], list: &mut [u32]) -> bool {
+fn make_call<W: Write>(
+    stdout: &mut W,
+    case: &[u32; CASE],
+    h0: &mut [u32],
+    h1: &mut [u32],
+    list: &mut [u32],
+) -> bool {
     let control = records::control_of(case);
     let reply = calls::call(control, h0, h1, list, case);
     let next = reply.control;
@@ -53,28 +68,41 @@ fn make_call(case: &[u32; CASE], h0: &mut [u32], h1: &mut [u32], list: &mut [u32
     let mut out = [0u32; REPLY];
     records::put_answer(&mut out, answer);
     records::put_control(&mut out, next);
-    let told = write_reply(&out, h0, h1, list);
-    told & write_stretch(control, h0, h1, list, case)
+    let told = write_reply(stdout, &out, h0, h1, list);
+    told & write_stretch(stdout, control, h0, h1, list, case)
 }
 
 // Reads the words that a case lends and makes its call. Answers whether there may be another case.
-fn lend(case: &[u32; CASE], h0: &mut [u32], h1: &mut [u32], list: &mut [u32]) -> bool {
-    let first = words::read_words(h0);
-    let second = words::read_words(h1);
-    let third = words::read_words(list);
+fn lend<R: Read, W: Write>(
+    stdin: &mut R,
+    stdout: &mut W,
+    case: &[u32; CASE],
+    h0: &mut [u32],
+    h1: &mut [u32],
+    list: &mut [u32],
+) -> bool {
+    let first = words::read_words(stdin, h0);
+    let second = words::read_words(stdin, h1);
+    let third = words::read_words(stdin, list);
     if !(first & second & third) {
         return false;
     }
     if requests::is_kind(case[0]) {
-        return requests::make_call(case, h0, h1, list);
+        return requests::make_call(stdout, case, h0, h1, list);
     }
-    make_call(case, h0, h1, list)
+    make_call(stdout, case, h0, h1, list)
 }
 
 // Reads a case, makes its call and writes what comes out. Answers whether there may be another case.
-fn take_case(h0: &mut [u32], h1: &mut [u32], list: &mut [u32]) -> bool {
+fn take_case<R: Read, W: Write>(
+    stdin: &mut R,
+    stdout: &mut W,
+    h0: &mut [u32],
+    h1: &mut [u32],
+    list: &mut [u32],
+) -> bool {
     let mut case = [0u32; CASE];
-    let got = words::read_words(&mut case);
+    let got = words::read_words(stdin, &mut case);
     let n0 = words::wide(case[5]);
     let n1 = words::wide(case[6]);
     let n = words::wide(case[7]);
@@ -90,14 +118,27 @@ fn take_case(h0: &mut [u32], h1: &mut [u32], list: &mut [u32]) -> bool {
     if list.len() < n {
         return false;
     }
-    lend(&case, &mut h0[..n0], &mut h1[..n1], &mut list[..n])
+    lend(
+        stdin,
+        stdout,
+        &case,
+        &mut h0[..n0],
+        &mut h1[..n1],
+        &mut list[..n],
+    )
 }
 
 // The cases of the input, until it ends.
-fn run(h0: &mut [u32], h1: &mut [u32], list: &mut [u32]) {
+fn run<R: Read, W: Write>(
+    stdin: &mut R,
+    stdout: &mut W,
+    h0: &mut [u32],
+    h1: &mut [u32],
+    list: &mut [u32],
+) {
     let mut n: u64 = 0;
     while n < u64::MAX {
-        let more = take_case(h0, h1, list);
+        let more = take_case(stdin, stdout, h0, h1, list);
         if !more {
             return;
         }
@@ -105,9 +146,11 @@ fn run(h0: &mut [u32], h1: &mut [u32], list: &mut [u32]) {
     }
 }
 
-fn main() {
+fn main(rt: HostRuntime) {
+    let mut stdin = rt.stdin();
+    let mut stdout = rt.stdout();
     let mut half0 = [0u32; 1024];
     let mut half1 = [0u32; 1024];
     let mut list = [0u32; 1024];
-    run(&mut half0, &mut half1, &mut list);
+    run(&mut stdin, &mut stdout, &mut half0, &mut half1, &mut list);
 }

@@ -3,6 +3,7 @@
 // 1001 and so on before the call, and come at the end of the reply as the call left them.
 use crate::{CASE, REPLY, records, words, write_reply};
 use directory::Reply;
+use std::io::Write;
 use store::Control;
 
 // The first kind and the last.
@@ -55,7 +56,8 @@ fn call(
 }
 
 // Makes the call of a case on the words lent, and writes what comes out. Answers whether all was written.
-fn make_lent(
+fn make_lent<W: Write>(
+    stdout: &mut W,
     case: &[u32; CASE],
     h0: &mut [u32],
     h1: &mut [u32],
@@ -68,8 +70,8 @@ fn make_lent(
     let mut out = [0u32; REPLY];
     records::put_result(&mut out, reply.number, reply.count);
     records::put_control(&mut out, next);
-    let told = write_reply(&out, h0, h1, list);
-    told & words::write_counted(lent)
+    let told = write_reply(stdout, &out, h0, h1, list);
+    told & words::write_counted(stdout, lent)
 }
 
 // How many words a case lends for a list.
@@ -93,7 +95,8 @@ fn first_words() -> [u32; MOST_LENT] {
 }
 
 // Makes the call of a case, with words for a list. Answers whether there may be another case.
-pub(crate) fn make_call(
+pub(crate) fn make_call<W: Write>(
+    stdout: &mut W,
     case: &[u32; CASE],
     h0: &mut [u32],
     h1: &mut [u32],
@@ -104,5 +107,5 @@ pub(crate) fn make_call(
         return false;
     }
     let mut lent = first_words();
-    make_lent(case, h0, h1, list, &mut lent[..n])
+    make_lent(stdout, case, h0, h1, list, &mut lent[..n])
 }

@@ -1,7 +1,7 @@
 // Words read from standard input and written to standard output, big-endian.
 ghost use Rattle.std.specs.Prelude.{◌≡◌, ◌+◌, ◌≤◌, length};
 
-use libc::{STDIN_FILENO, STDOUT_FILENO};
+use std::io::{Read, Write};
 
 // The most words that are read or written at once: as many as 4,096 bytes hold. The program's arrays have no more.
 const MOST: usize = 1024;
@@ -46,14 +46,14 @@ fn decode(bytes: &[u8; 4096], words: &mut [u32])
 }
 
 // Fills the words from standard input. Answers whether there were as many.
-pub(crate) fn read_words(words: &mut [u32]) -> bool {
+pub(crate) fn read_words<R: Read>(stdin: &mut R, words: &mut [u32]) -> bool {
     let n = words.len();
     if MOST < n {
         return false;
     }
     let m = 4 * n;
-    let mut bytes = io::buffer();
-    let got = streams::read_full(STDIN_FILENO, &mut bytes[..m]);
+    let mut bytes = [0u8; 4096];
+    let got = streams::read_full(stdin, &mut bytes[..m]);
     if got < m {
         return false;
     }
@@ -83,27 +83,27 @@ fn encode(words: &[u32], bytes: &mut [u8; 4096])
 }
 
 // Writes the first bytes to standard output. Answers whether all were written.
-fn write_bytes(bytes: &[u8; 4096], m: usize) -> bool
+fn write_bytes<W: Write>(stdout: &mut W, bytes: &[u8; 4096], m: usize) -> bool
     requires { m ≤ 4096 }
 {
     let all: &[u8] = bytes;
-    streams::write_all(STDOUT_FILENO, &all[..m])
+    streams::write_all(stdout, &all[..m])
 }
 
 // Writes the words to standard output. Answers whether all were written.
-pub(crate) fn write_words(words: &[u32]) -> bool {
+pub(crate) fn write_words<W: Write>(stdout: &mut W, words: &[u32]) -> bool {
     let n = words.len();
     if MOST < n {
         return false;
     }
     let m = 4 * n;
-    let mut bytes = io::buffer();
+    let mut bytes = [0u8; 4096];
     encode(words, &mut bytes);
-    write_bytes(&bytes, m)
+    write_bytes(stdout, &bytes, m)
 }
 
 // Writes how many words there are, and the words. Answers whether all were written.
-pub(crate) fn write_counted(words: &[u32]) -> bool {
+pub(crate) fn write_counted<W: Write>(stdout: &mut W, words: &[u32]) -> bool {
     let count = [low(words.len()); 1];
-    write_words(&count) & write_words(words)
+    write_words(stdout, &count) & write_words(stdout, words)
 }

@@ -7,7 +7,7 @@ ghost use Rattle.std.specs.Prelude.{◌≤◌, length};
 ghost use Rattle.script.specs.Lines.{longest, Flushed};
 ghost use Rattle.script.specs.Window.{Fetched};
 
-use libc::{STDIN_FILENO, STDOUT_FILENO};
+use std::io::{Read, Write};
 
 // Where the next entry starts in the input buffer, and how many bytes of the buffer are filled.
 #[derive(Clone, Copy)]
@@ -24,7 +24,7 @@ struct Room {
 }
 
 // The input buffer with the whole of the next entry in it, as far as the input has it.
-fn fetch(input: &mut [u8], at: usize, filled: usize) -> Window
+fn fetch<R: Read>(stdin: &mut R, input: &mut [u8], at: usize, filled: usize) -> Window
     requires { filled ≤ length input.old }
     ensures { Fetched input.old at filled input.new result.at result.filled }
 {
@@ -32,7 +32,7 @@ fn fetch(input: &mut [u8], at: usize, filled: usize) -> Window
         return Window { at, filled };
     }
     let kept = script::keep(input, at, filled);
-    let got = streams::read_full(STDIN_FILENO, &mut input[kept..]);
+    let got = streams::read_full(stdin, &mut input[kept..]);
     Window {
         at: 0,
         filled: kept + got,
@@ -40,14 +40,14 @@ fn fetch(input: &mut [u8], at: usize, filled: usize) -> Window
 }
 
 // Writes the output so far and answers whether all of it was written.
-fn write_out(out: &[u8], end: usize) -> bool
+fn write_out<W: Write>(stdout: &mut W, out: &[u8], end: usize) -> bool
     requires { end ≤ length out.now }
 {
-    streams::write_all(STDOUT_FILENO, &out[..end])
+    streams::write_all(stdout, &out[..end])
 }
 
 // Writes the output so far where a line may not fit after it.
-fn flush(out: &[u8], end: usize) -> Room
+fn flush<W: Write>(stdout: &mut W, out: &[u8], end: usize) -> Room
     requires { end ≤ length out.now }
     ensures { Flushed end (length out.now) result.at result.written }
 {
@@ -59,13 +59,15 @@ fn flush(out: &[u8], end: usize) -> Room
     }
     Room {
         at: 0,
-        written: write_out(out, end),
+        written: write_out(stdout, out, end),
     }
 }
 
 // The entries of the input, from the first on, until the input ends, an entry is 15 or a write fails. Answers whether all
 // lines were written; after a write that failed there is no other.
-fn run(
+fn run<R: Read, W: Write>(
+    stdin: &mut R,
+    stdout: &mut W,
     h0: &mut [u32],
     h1: &mut [u32],
     list: &mut [u32],
@@ -83,10 +85,10 @@ fn run(
     let mut number: u64 = 1;
     let mut more = true;
     while more & (number < u64::MAX) {
-        let window = fetch(input, at, filled);
+        let window = fetch(stdin, input, at, filled);
         at = window.at;
         filled = window.filled;
-        let room = flush(out, end);
+        let room = flush(stdout, out, end);
         if !room.written {
             return false;
         }
@@ -100,23 +102,32 @@ fn run(
         more = turn.more & (number < turn.number);
         number = turn.number;
     }
-    write_out(out, end)
+    write_out(stdout, out, end)
 }
 
-// A program has no exit status, so what `run` answers goes no further.
-fn main() {
+// The program ends well on every input, so what `run` answers goes no further.
+fn main(rt: HostRuntime) {
+    let mut stdin = rt.stdin();
+    let mut stdout = rt.stdout();
     let mut half0 = [0u32; 4096];
     let mut half1 = [0u32; 4096];
     let mut list = [0u32; 1365];
-    let mut input = io::buffer();
-    let mut out = io::buffer();
-    let filled = streams::read_full(STDIN_FILENO, &mut input);
+    let mut input = [0u8; 4096];
+    let mut out = [0u8; 4096];
+    let filled = streams::read_full(&mut stdin, &mut input);
     if script::is_version(&input[..filled]) {
         run(
-            &mut half0, &mut half1, &mut list, &mut input, filled, &mut out,
+            &mut stdin,
+            &mut stdout,
+            &mut half0,
+            &mut half1,
+            &mut list,
+            &mut input,
+            filled,
+            &mut out,
         );
     } else {
         let end = script::write_bad_version(&mut out);
-        write_out(&out, end);
+        write_out(&mut stdout, &out, end);
     }
 }

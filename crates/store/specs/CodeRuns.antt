@@ -72,7 +72,7 @@ pub data Called (self : Control) (h0 h1 list : List ℕ) : Call → Reply → Le
   by_write : (s register field value : ℕ) (r : code.Reply) (h0' h1' : List ℕ)
       → outcome r h0' h1' list ≡ apply (view self h0 h1 list) (Write s register field value)
       → Called self h0 h1 list (Write s register field value) (answer r.answer) (lent r.control h0' h1' list)
-  by_move-register : (s to from : ℕ) (r : code.Reply)
+  by_move_register : (s to from : ℕ) (r : code.Reply)
       → outcome r h0 h1 list ≡ apply (view self h0 h1 list) (Move s to from)
       → Called self h0 h1 list (Move s to from) (answer r.answer) (lent r.control h0 h1 list)
   by_clear : (s register : ℕ) (r : code.Reply)

@@ -1,11 +1,11 @@
 // Allocation: the tests, then a new record in one half or in both.
-ghost use Rattle.std.specs.Prelude.{◌≡◌, ℕ, ◌+◌, ◌≤◌, List};
+ghost use Rattle.std.specs.Prelude.{◌≡◌, ℕ, ◌+◌, ◌≤◌, List, get_or};
 ghost use Rattle.rules.specs.Refusals.{refusal_of};
 ghost use Rattle.rules.specs.Memory.{most_count, next_reference};
-ghost use Rattle.rules.specs.Control.{with_memory, most_length};
-ghost use Rattle.rules.specs.Phases.{with_charge};
+ghost use Rattle.rules.specs.Control.{with_memory, most_length, last_session, last_register};
+ghost use Rattle.rules.specs.Phases.{absent, with_charge};
 ghost use Rattle.rules.specs.Barriers.{allocation_room, placed, allocated, allocated_reference};
-ghost use Rattle.rules.specs.Calls.{within_share, allocate};
+ghost use Rattle.rules.specs.Calls.{within_share, with_register, charged, allocate};
 ghost use Rattle.rules.specs.Runs.{apply, Allocate};
 ghost use Rattle.store.specs.View.{view, outcome};
 ghost use Rattle.store.specs.Allocation.{Small, Fits, last_tests, Room, Allocatable};
@@ -175,10 +175,25 @@ impl Control {
         next
     }
 
+    // The control record with register k of session s set to v, and a record of n words, within its share, charged to the
+    // session.
+    fn given(mut self, s: u32, k: u32, v: u32, n: u32) -> Self
+        requires { (s ≤ last_session) × (k ≤ last_register) × ((get_or self.sessions s absent).charge + n ≤ (get_or self.sessions s absent).share) }
+        ensures { (h0 h1 l : List ℕ) → view result h0 h1 l ≡ charged (with_register (view self h0 h1 l) s k v) s n }
+    {
+        let i = s as usize;
+        let j = k as usize;
+        let mut session = self.sessions[i];
+        session.registers[j] = v;
+        let paid = Control::charged(session, n);
+        self.sessions[i] = paid;
+        self
+    }
+
     // Allocate: the register gets a record of r null references and p zeros, its birth number is used, and its words are
-    // charged to the session. It has one exit, and writes in place, so that the control record is copied once.
+    // charged to the session.
     pub fn allocate(
-        mut self,
+        self,
         h0: &mut [u32],
         h1: &mut [u32],
         list: &[u32],
@@ -191,25 +206,21 @@ impl Control {
             ≡ apply (view self h0.old h1.old list.now) (Allocate s register r p) }
     {
         let refusal = self.allocation_tests(h0, h1, list, s, register, r, p);
-        let answer = if refusal == 0 {
-            let i = s as usize;
-            let j = register as usize;
-            let mut session = self.sessions[i];
-            let v = self.allocated_reference(session.level);
-            let written = self.allocated(h0, h1, session.level, r, p);
-            session.registers[j] = v;
-            let paid = Control::charged(session, (HEADER as u32) + r + p);
-            let cursor = written.cursor;
-            self.cursor = cursor;
-            self.births = self.births + 1;
-            self.sessions[i] = paid;
-            rules::Answer::Done
-        } else {
-            rules::Answer::Refused(refusal)
-        };
+        if refusal != 0 {
+            return Reply {
+                control: self,
+                answer: rules::Answer::Refused(refusal),
+            };
+        }
+        let i = s as usize;
+        let session = self.sessions[i];
+        let v = self.allocated_reference(session.level);
+        let mut written = self.allocated(h0, h1, session.level, r, p);
+        written.births = self.births + 1;
+        let next = written.given(s, register, v, (HEADER as u32) + r + p);
         Reply {
-            control: self,
-            answer,
+            control: next,
+            answer: rules::Answer::Done,
         }
     }
 }

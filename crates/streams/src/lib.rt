@@ -1,52 +1,54 @@
-// What the programs read and write by: `io`'s read_full and write_all, but a call that a signal interrupts before it has
-// moved a byte is made again. No function has a `requires`.
+// What the programs read and write by: std's `read` and `write`, but a call that a signal interrupts before it has moved a
+// byte is made again. No function has a `requires`, and none answers an error.
 
 #![tactic(auto)]
 
-ghost use Rattle.io.specs.Counts.{IsPrefixLen};
+ghost use Rattle.streams.specs.Counts.{IsPrefixLen};
 
-// Whether a read or a write that answered this was interrupted; to be asked just after it.
-fn is_interrupted(got: isize) -> bool {
-    if got < 0 {
-        return os::errno() == libc::EINTR;
+use std::io::{ErrorKind, Read, Result, Write};
+
+// Whether a read or a write that answered this was interrupted.
+fn is_interrupted(got: &Result<usize>) -> bool {
+    match got {
+        Ok(_) => false,
+        Err(e) => e.kind() == ErrorKind::Interrupted,
     }
-    false
 }
 
 // One read, made again where it was interrupted; 0 where the input has ended or the read failed. Every loop has to end, so
 // interruptions are counted: 2⁶⁴ in a row, more than a machine comes to, are a read that failed.
-fn read_some(fd: i32, buf: &mut [u8]) -> usize
+fn read_some<R: Read>(input: &mut R, buf: &mut [u8]) -> usize
     ensures { IsPrefixLen result buf.new }
 {
-    let mut got = libc::read(fd, buf);
+    let mut got = input.read(buf);
     let mut left = u64::MAX;
-    while left > 0 && is_interrupted(got) {
-        got = libc::read(fd, buf);
+    while left > 0 && is_interrupted(&got) {
+        got = input.read(buf);
         left -= 1;
     }
-    io::count(got, buf)
+    got.unwrap_or(0)
 }
 
 // One write, likewise.
-fn write_some(fd: i32, buf: &[u8]) -> usize
+fn write_some<W: Write>(output: &mut W, buf: &[u8]) -> usize
     ensures { IsPrefixLen result buf.now }
 {
-    let mut got = libc::write(fd, buf);
+    let mut got = output.write(buf);
     let mut left = u64::MAX;
-    while left > 0 && is_interrupted(got) {
-        got = libc::write(fd, buf);
+    while left > 0 && is_interrupted(&got) {
+        got = output.write(buf);
         left -= 1;
     }
-    io::count(got, buf)
+    got.unwrap_or(0)
 }
 
 // Reads until buf is full, the input ends or a read fails, and answers how many bytes it put at the start of buf.
-pub fn read_full(fd: i32, buf: &mut [u8]) -> usize
+pub fn read_full<R: Read>(input: &mut R, buf: &mut [u8]) -> usize
     ensures { IsPrefixLen result buf.new }
 {
     let mut done: usize = 0;
     while done < buf.len() {
-        let more = read_some(fd, &mut buf[done..]);
+        let more = read_some(input, &mut buf[done..]);
         if more == 0 {
             return done;
         }
@@ -57,10 +59,10 @@ pub fn read_full(fd: i32, buf: &mut [u8]) -> usize
 
 // Writes all of buf and answers true, or stops at the first write that takes nothing or fails and answers false, when some
 // of buf may have been written.
-pub fn write_all(fd: i32, buf: &[u8]) -> bool {
+pub fn write_all<W: Write>(output: &mut W, buf: &[u8]) -> bool {
     let mut done: usize = 0;
     while done < buf.len() {
-        let put = write_some(fd, &buf[done..]);
+        let put = write_some(output, &buf[done..]);
         if put == 0 {
             return false;
         }

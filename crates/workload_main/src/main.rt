@@ -6,18 +6,18 @@
 ghost use Rattle.std.specs.Prelude.{◌≤◌, length};
 ghost use Rattle.workload.specs.Pieces.{longest_entry};
 
-use libc::{STDIN_FILENO, STDOUT_FILENO};
+use std::io::Write;
 
 // Writes what is still to come of a load, piece by piece, and answers whether all of it was written; after a write that
 // failed there is no other.
-fn write_load(load: workload::Rest, out: &mut [u8]) -> bool
+fn write_load<W: Write>(stdout: &mut W, load: workload::Rest, out: &mut [u8]) -> bool
     requires { longest_entry ≤ length out.old }
 {
     let mut rest = load;
     while workload::any_left(rest) {
         let piece = workload::fill(rest, out);
         let end = piece.end;
-        if !streams::write_all(STDOUT_FILENO, &out[..end]) {
+        if !streams::write_all(stdout, &out[..end]) {
             return false;
         }
         let next = piece.rest;
@@ -26,12 +26,14 @@ fn write_load(load: workload::Rest, out: &mut [u8]) -> bool
     true
 }
 
-// Nine bytes are asked for: an input of more than eight gives nothing. A program has no exit status, so what
+// Nine bytes are asked for: an input of more than eight gives nothing. The program ends well on every input, so what
 // `write_load` answers goes no further.
-fn main() {
+fn main(rt: HostRuntime) {
+    let mut stdin = rt.stdin();
+    let mut stdout = rt.stdout();
     let mut input = [0u8; 9];
-    let mut out = io::buffer();
-    let got = streams::read_full(STDIN_FILENO, &mut input);
+    let mut out = [0u8; 4096];
+    let got = streams::read_full(&mut stdin, &mut input);
     let load = workload::start(&input[..got]);
-    write_load(load, &mut out);
+    write_load(&mut stdout, load, &mut out);
 }

@@ -1,42 +1,31 @@
 -- A store call of the code, as an act: refused, or gone on from.
 use Prim.Native.Nat.{ℕ}
 use mathlib.Core.Path.{◌≡◌, refl, sym, ap, ◌∙◌}
-use mathlib.Core.Logic.{inl, inr}
-use mathlib.Core.List.{List, [], ◌∷◌}
-use native.Mathlib.Omega.{arith}
-use types.Run.{OneOf}
-use denote.Enum.Declared.{tag_of}
+use mathlib.Core.List.{List}
 use Rattle.rules.specs.Refusals.{refused, passed, Outcome, answer, number_of}
 use Rattle.rules.specs.Control.{Store}
 use Rattle.rules.specs.Runs.{apply}
 use Rattle.rules.specs.declared.Answer.{Answer}
 use Rattle.rules.specs.declared.Answer.TheVariants.{Refused, Done, Word, Same, Phase}
-use Rattle.rules.specs.contracts.Answer.{the_type}
 use Rattle.store.specs.View.{view, outcome}
 use Rattle.store.specs.declared.Reply.{Reply}
 use Rattle.directory_rules.specs.Acts.{Ask, Act, ◌>>=◌, call_of, or_stop, must, Performed, perform}
 use Rattle.directory.specs.View.{tested, acted, performed}
 use Rattle.directory.proofs.acts.Sequence as sequence
 
--- an answer that isn't a refusal, by its tag
+-- an answer that isn't a refusal
 abbrev pub Accepted : Answer → Type 0
-Accepted a = OneOf (1 ∷ 2 ∷ 3 ∷ 4 ∷ []) (tag_of the_type a)
+Accepted a = (n : ℕ) → a ≡ Refused n → ⊥
 
 accepted : (a : Answer) → Accepted a → tested a ≡ passed tt
-accepted (Refused n) (inl e) = absurd (omega arith)
-accepted (Refused n) (inr (inl e)) = absurd (omega arith)
-accepted (Refused n) (inr (inr (inl e))) = absurd (omega arith)
-accepted (Refused n) (inr (inr (inr e))) = absurd (omega arith)
+accepted (Refused n) h = absurd (h n refl)
 accepted Done h = refl
 accepted (Word w) h = refl
 accepted (Same b) h = refl
 accepted (Phase p) h = refl
 
 pub unnumbered : (a : Answer) → Accepted a → 0 ≡ number_of a
-unnumbered (Refused n) (inl e) = absurd (omega arith)
-unnumbered (Refused n) (inr (inl e)) = absurd (omega arith)
-unnumbered (Refused n) (inr (inr (inl e))) = absurd (omega arith)
-unnumbered (Refused n) (inr (inr (inr e))) = absurd (omega arith)
+unnumbered (Refused n) h = absurd (h n refl)
 unnumbered Done h = refl
 unnumbered (Word w) h = refl
 unnumbered (Same b) h = refl

@@ -1,12 +1,10 @@
 -- Passing a record of a chain, and counting the records by passing one after another.
 use Prim.Native.Nat.{ℕ, zero, suc, ◌+◌, ◌-◌}
 use mathlib.Core.Path.{◌≡◌, refl, sym, ap, ◌∙◌}
-use mathlib.Core.Logic.{inl, inr, ◌≢◌}
-use mathlib.Core.List.{List, [], ◌∷◌}
+use mathlib.Core.Logic.{◌≢◌}
+use mathlib.Core.List.{List}
 use native.Mathlib.Numerals.{add-one}
 use native.Mathlib.Omega.{arith}
-use types.Run.{OneOf}
-use denote.Enum.Declared.{tag_of}
 use Rattle.rules.specs.Refusals.{Tested, refused, passed}
 use Rattle.rules.specs.Control.{Store}
 use Rattle.rules.specs.Runs.{apply}
@@ -20,7 +18,6 @@ use Rattle.directory.specs.declared.Found.TheVariants.{Ended, Failed, Word}
 use Rattle.directory.specs.declared.Passed.{Passed}
 use Rattle.directory.specs.View.{found, performed, passed_or, passed_by}
 use Rattle.directory.specs.Parts.{limited, pass_on, passing}
-use Rattle.directory.specs.contracts.Found.{the_type}
 use Rattle.directory.proofs.acts.Sequence.{regroup, stops, next, goes}
 use Rattle.directory.proofs.acts.Calling.{Accepted, must_stops, must_goes}
 use Rattle.directory.proofs.acts.Looking.{looked_at, looks}
@@ -57,14 +54,13 @@ unfolding passing
 passing-known s left f e = looks s 0 (λ g. pass_on (limited left g)) ∙ ap (λ (g : Found). perform s (pass_on g)) (sym e)
 
 -- no record: the end, or a refusal
-no_word : (s : Store) (f : code.Found) → OneOf (0 ∷ 1 ∷ []) (tag_of the_type f) → record { store = s; result = passed_or f } ≡ perform s (pass_on (found f))
+no_word : (s : Store) (f : code.Found) → ((w : ℕ) → f ≡ Word w → ⊥) → record { store = s; result = passed_or f } ≡ perform s (pass_on (found f))
 no_word s Ended h = refl
 no_word s (Failed n) h = refl
-no_word s (Word w) (inl e) = absurd (omega arith)
-no_word s (Word w) (inr e) = absurd (omega arith)
+no_word s (Word w) h = absurd (h w refl)
 
 module _ (s : Store) (left : ℕ) (f : code.Found) (e : found f ≡ limited left (looked_at s 0)) where
-  pub passes_none : OneOf (0 ∷ 1 ∷ []) (tag_of the_type f) → record { store = s; result = passed_or f } ≡ perform s (passing left)
+  pub passes_none : ((w : ℕ) → f ≡ Word w → ⊥) → record { store = s; result = passed_or f } ≡ perform s (passing left)
   passes_none h = no_word s f h ∙ sym (passing-known s left (found f) e)
 
   -- a record, and the load of the next

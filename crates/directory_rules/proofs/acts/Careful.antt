@@ -68,7 +68,7 @@ steady_careful k (stops m e) h = fails m e
 steady_careful k (gives a) h = h a
 steady_careful k (asks c e f) h = looks c e (λ r t. steady_careful k (f r t) h)
 
-pub careful_late : {n : ℕ} {A B : Type 0} {a : Act A} (k : A → Act B) → Careful n a → ((x : A) → Steady true (k x)) → Careful n (a >>= k)
+pub careful_late : {A B : Type 0} {n : ℕ} {a : Act A} (k : A → Act B) → Careful n a → ((x : A) → Steady true (k x)) → Careful n (a >>= k)
 careful_late k (fails m e) h = fails m e
 careful_late k (looks c e f) h = looks c e (λ r t. careful_late k (f r t) h)
 careful_late k (makes a r p b g f) h = makes a r p b (λ m e. careful_late k (g m e) h) (λ x e. steady_then k (f x e) h)
@@ -78,7 +78,7 @@ careful_clearing : {n : ℕ} {A : Type 0} (m k : ℕ) {a : Act A} → Careful n 
 careful_clearing zero k h = h
 careful_clearing (suc m) k h = looks (clear k) refl (λ r t. careful_clearing m (suc k) h)
 
-pub careful_ending : {n : ℕ} {A : Type 0} (m : ℕ) {a : Act A} → Careful n a → Careful n (ending m a)
+pub careful_ending : {A : Type 0} {n : ℕ} (m : ℕ) {a : Act A} → Careful n a → Careful n (ending m a)
 careful_ending m (fails k e) = careful_clearing m 0 (fails k e)
 careful_ending m (looks c e f) = looks c e (λ r t. careful_ending m (f r t))
 careful_ending m (makes k r p b g f) = makes k r p b (λ n e. careful_ending m (g n e)) (λ x e. steady_ending m (f x e))
@@ -106,7 +106,7 @@ made_number t (refusal m e) n h l z = h m e z
 made_number t (other x e) n h l z = fits_some true n (late_number (l x e) t n z)
 
 -- no refusal has the number 0
-pub careful_number : {k : ℕ} {A : Type 0} {a : Act A} → Careful k a → (s : Store) (n : ℕ) → (perform s a).result ≡ refused n → n ≢ 0
+pub careful_number : {A : Type 0} {k : ℕ} {a : Act A} → Careful k a → (s : Store) (n : ℕ) → (perform s a).result ≡ refused n → n ≢ 0
 careful_number (fails m e) s n z = fits_some false n (rw (← (ap refusal_of z)) e)
 careful_number (looks c i f) s n z = careful_number (f (apply s (call_of c)).reply (early_fits s (call_of c))) (apply s (call_of c)).store n z
 careful_number (makes k r p b g f) s n z =
@@ -130,7 +130,7 @@ made_keeps : {A : Type 0} {f : Reply → Act A} (s t : Store) {x : Reply} → Re
 made_keeps s t (refusal n e) same h l = rw (same n refl) (h n e)
 made_keeps s t (other x e) same h l = late_keeps (l x e) s t
 
-pub careful_keeps : {n : ℕ} {A : Type 0} {a : Act A} → Careful n a → (s : Store) → Keeps OnlyRegisters s (perform s a)
+pub careful_keeps : {A : Type 0} {n : ℕ} {a : Act A} → Careful n a → (s : Store) → Keeps OnlyRegisters s (perform s a)
 careful_keeps (fails n i) s = λ e. only_same s
 careful_keeps (looks c i f) s = λ e.
     only_then (early_only s c i) (careful_keeps (f (apply s (call_of c)).reply (early_fits s (call_of c))) (apply s (call_of c)).store e)

@@ -37,7 +37,7 @@ made_few : {n : ℕ} {A : Type 0} {f : Reply → Act A} (s : Store) {x : Reply} 
 made_few s (refusal m e) h l = h m e
 made_few s (other x e) h l = steady_few (l x e) s
 
-careful_few : {n : ℕ} {A : Type 0} {a : Act A} → Careful n a → (s : Store) → Few n s a
+careful_few : {A : Type 0} {n : ℕ} {a : Act A} → Careful n a → (s : Store) → Few n s a
 careful_few (fails m e) s = few-stop m
 careful_few (looks c e f) s = few-ask c (no_allocation false c e) (careful_few (f (apply s (call_of c)).reply (early_fits s (call_of c))) (apply s (call_of c)).store)
 careful_few (makes k r p b g f) s =

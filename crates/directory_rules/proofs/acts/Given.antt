@@ -14,7 +14,7 @@ use Rattle.rules.specs.Control.{Store}
 use Rattle.rules.specs.Runs.{apply}
 use Rattle.directory_rules.specs.Table.{Request, Open, Add, Remove, Make, Join, Leave, Members, Given, is_number, unknown, nothing, lent_by}
 use Rattle.directory_rules.specs.Acts.{Ask, call_of, Act, stop, give, ask, ◌>>=◌, demand, must, load, read, found_in, clearing, ending, perform}
-use Rattle.directory_rules.specs.Directory.{first_ask, inner, next_field, first_field, number_field, group_register, adding, removing, making, joining, leaving, grouping, counting, plainly, taken, taking, taking_first, least, listing, program, directory_call, given_of}
+use Rattle.directory_rules.specs.Directory.{first_ask, inner, next_field, first_field, number_field, group_register, walk_registers, group_registers, remove_registers, adding, removing, making, joining, leaving, grouping, counting, plainly, taken, taking, taking_first, least, listing, program, directory_call, given_of}
 use Rattle.directory_rules.specs.Claims.{LentKept}
 
 -- ---- what an act gives, whatever the replies
@@ -89,12 +89,12 @@ gives_plain q e a = any_then a _ (λ u. gives nothing (record { number = refl; p
 
 pub gives_inner : (half : ℕ) (q : Request) → Gives (Fine q) (inner half q)
 gives_inner half (Open share) = gives nothing (record { number = refl; past = refl; long = refl })
-gives_inner half (Add n) = gives_ending _ (gives_plain (Add n) refl (adding half n))
-gives_inner half (Remove n) = gives_ending _ (gives_plain (Remove n) refl (removing half n))
-gives_inner half (Make g) = gives_ending _ (gives_plain (Make g) refl (making half g))
-gives_inner half (Join n g) = gives_ending _ (gives_plain (Join n g) refl (joining half n g))
-gives_inner half (Leave n g) = gives_ending _ (gives_plain (Leave n g) refl (leaving half n g))
-gives_inner half (Members g out) = gives_ending _ (gives_listing half g out)
+gives_inner half (Add n) = gives_ending walk_registers (gives_plain (Add n) refl (adding half n))
+gives_inner half (Remove n) = gives_ending remove_registers (gives_plain (Remove n) refl (removing half n))
+gives_inner half (Make g) = gives_ending group_registers (gives_plain (Make g) refl (making half g))
+gives_inner half (Join n g) = gives_ending group_registers (gives_plain (Join n g) refl (joining half n g))
+gives_inner half (Leave n g) = gives_ending group_registers (gives_plain (Leave n g) refl (leaving half n g))
+gives_inner half (Members g out) = gives_ending group_registers (gives_listing half g out)
 
 pub gives_program : (half : ℕ) (q : Request) → Gives (Fine q) (program half q)
 unfolding program

@@ -12,7 +12,7 @@ use Rattle.rules.specs.Refusals.{passed, check, ◌>>◌ as ◌>>>◌}
 use Rattle.rules.specs.Free.{Free}
 use Rattle.directory_rules.specs.Table.{Table, Add, among, is_number, last_number, unknown, already, with_people, table_next}
 use Rattle.directory_rules.specs.Acts.{◌>>=◌, ◌>>◌}
-use Rattle.directory_rules.specs.Directory.{entries, absent, append, adding, plainly, program}
+use Rattle.directory_rules.specs.Directory.{entries, absent, append, adding, plainly, walk_registers, program}
 use Rattle.directory_rules.proofs.free.Slots.{top, slot_of, slot_after, new_place}
 use Rattle.directory_rules.proofs.free.Registers.{only_there}
 use Rattle.directory_rules.proofs.free.Perform.{free_perform}
@@ -56,4 +56,4 @@ pub adding-kept : {half : ℕ} (fed : ℕ) {f : Free} {y : Layout} {t : Table} �
     → RequestKept half fed f y t (Add n)
 unfolding program table_next
 adding-kept {half} fed {f} r short n =
-    around fed f (Add n) (omega arith) (plainly (adding half n)) r (λ h. alike_plainly fed f (adding half n) (adding_alike fed (omega arith) (omega arith) short h n))
+    around {n = walk_registers} fed f (Add n) (omega arith) (plainly (adding half n)) r (λ h. alike_plainly fed f (adding half n) (adding_alike fed (omega arith) (omega arith) short h n))

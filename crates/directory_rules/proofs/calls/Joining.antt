@@ -10,7 +10,7 @@ use Rattle.rules.specs.Refusals.{Tested, passed, check, ◌>>◌ as ◌>>>◌}
 use Rattle.rules.specs.Free.{Free}
 use Rattle.directory_rules.specs.Table.{Table, Join, paired, already, with_pairs, table_next}
 use Rattle.directory_rules.specs.Acts.{◌>>◌}
-use Rattle.directory_rules.specs.Directory.{absent, append, pairing, joining, plainly, program, group_register, first_field}
+use Rattle.directory_rules.specs.Directory.{absent, append, pairing, joining, plainly, group_registers, program, group_register, first_field}
 use Rattle.directory_rules.specs.declared.Place.{Place}
 use Rattle.directory_rules.proofs.tables.Pairs.{paired-members}
 use Rattle.directory_rules.proofs.free.Slots.{field, slot_after, new_place}
@@ -52,5 +52,5 @@ pub joining-kept : {half : ℕ} (fed : ℕ) {f : Free} {y : Layout} {t : Table} 
 unfolding program table_next
 joining-kept {half} fed {f} {y} {t} r short n g =
     rw (known-first t n g (joined t n g fed))
-    (around fed f (Join n g) (omega arith) (plainly (joining half n g)) r
+    (around {n = group_registers} fed f (Join n g) (omega arith) (plainly (joining half n g)) r
     (λ h. alike_plainly fed f (joining half n g) (joining_alike fed (omega arith) (omega arith) n g short h)))

@@ -7,7 +7,7 @@ use Rattle.rules.specs.Refusals.{Tested, passed, check, ◌>>◌ as ◌>>>◌}
 use Rattle.rules.specs.Free.{Free}
 use Rattle.directory_rules.specs.Table.{Table, Leave, paired, unpair, not_member, with_pairs, table_next}
 use Rattle.directory_rules.specs.Acts.{◌>>◌}
-use Rattle.directory_rules.specs.Directory.{present, cut, pairing, leaving, plainly, program, group_register}
+use Rattle.directory_rules.specs.Directory.{present, cut, pairing, leaving, plainly, group_registers, program, group_register}
 use Rattle.directory_rules.specs.declared.Place.{Place}
 use Rattle.directory_rules.proofs.free.Perform.{free_perform}
 use Rattle.directory_rules.proofs.chains.Core.{Layout, Short, Represents, with_links}
@@ -40,5 +40,5 @@ pub leaving-kept : {half : ℕ} (fed : ℕ) {f : Free} {y : Layout} {t : Table} 
 unfolding program table_next
 leaving-kept {half} fed {f} {y} {t} r short n g =
     rw (known-first t n g (left t n g))
-    (around fed f (Leave n g) (omega arith) (plainly (leaving half n g)) r
+    (around {n = group_registers} fed f (Leave n g) (omega arith) (plainly (leaving half n g)) r
     (λ h. alike_plainly fed f (leaving half n g) (leaving_alike fed (omega arith) (omega arith) n g short h)))

@@ -14,7 +14,7 @@ use Rattle.rules.specs.Refusals.{passed, check, ◌>>◌ as ◌>>>◌}
 use Rattle.rules.specs.Free.{Free}
 use Rattle.directory_rules.specs.Table.{Table, Given, Members, among, members_of, is_number, unknown, listed, given_by, table_next}
 use Rattle.directory_rules.specs.Acts.{Act, give, load, must, ◌>>=◌, ◌>>◌}
-use Rattle.directory_rules.specs.Directory.{grouping, counting, taking, taking_first, least, listing, program, group_register, first_field}
+use Rattle.directory_rules.specs.Directory.{grouping, counting, taking, taking_first, least, listing, group_registers, program, group_register, first_field}
 use Rattle.directory_rules.specs.declared.Place.{Place}
 use Rattle.directory_rules.proofs.Lists.{map_same, map-take}
 use Rattle.directory_rules.proofs.free.Perform.{free_perform}
@@ -148,4 +148,4 @@ pub listing-kept : {half : ℕ} (fed : ℕ) {f : Free} {y : Layout} {t : Table} 
     → RequestKept half fed f y t (Members g out)
 unfolding program table_next
 listing-kept {half} fed {f} r short g out =
-    around fed f (Members g out) (omega arith) (listing half g out) r (λ h. listing_alike fed (omega arith) (omega arith) short h g out)
+    around {n = group_registers} fed f (Members g out) (omega arith) (listing half g out) r (λ h. listing_alike fed (omega arith) (omega arith) short h g out)

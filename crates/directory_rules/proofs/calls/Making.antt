@@ -14,7 +14,7 @@ use Rattle.rules.proofs.memory.Cases.{eq_or}
 use Rattle.rules.specs.declared.Answer.TheVariants.{Done}
 use Rattle.directory_rules.specs.Table.{Table, Make, among, is_number, unknown, already, with_groups, table_next}
 use Rattle.directory_rules.specs.Acts.{Act, store, must, ◌>>=◌, ◌>>◌}
-use Rattle.directory_rules.specs.Directory.{group_entry, absent, fresh, link, making, plainly, program, group_mark, group_register, next_field, other_of}
+use Rattle.directory_rules.specs.Directory.{group_entry, absent, fresh, link, making, plainly, group_registers, program, group_mark, group_register, next_field, other_of}
 use Rattle.directory_rules.specs.declared.Place.{Place}
 use Rattle.directory_rules.specs.declared.Via.{Via}
 use Rattle.directory_rules.proofs.free.Session.{reg, Ready, OnlyRegs}
@@ -145,5 +145,5 @@ pub making-kept : {half : ℕ} (fed : ℕ) {f : Free} {y : Layout} {t : Table} �
     → RequestKept half fed f y t (Make g)
 unfolding program table_next
 making-kept {half} fed {f} r short g =
-    around fed f (Make g) (omega arith) (plainly (making half g)) r
+    around {n = group_registers} fed f (Make g) (omega arith) (plainly (making half g)) r
     (λ h. alike_plainly fed f (making half g) (making_alike fed (omega arith) (omega arith) short h g))

@@ -10,7 +10,7 @@ use Rattle.rules.specs.Refusals.{passed, check, ◌>>◌ as ◌>>>◌}
 use Rattle.rules.specs.Free.{Free}
 use Rattle.directory_rules.specs.Table.{Table, Remove, among, is_number, last_number, unknown, without, without_person, with_people, with_pairs, table_next}
 use Rattle.directory_rules.specs.Acts.{Act, move, get, load, must, ◌>>=◌, ◌>>◌}
-use Rattle.directory_rules.specs.Directory.{entries, present, before_register, keep_before, leaving_all, link_person, removing, plainly, program, next_field, group_register, person_register}
+use Rattle.directory_rules.specs.Directory.{entries, present, before_register, keep_before, leaving_all, link_person, removing, plainly, remove_registers, program, next_field, group_register, person_register}
 use Rattle.directory_rules.specs.declared.Via.{Via}
 use Rattle.directory_rules.specs.declared.Place.{Place}
 use Rattle.directory_rules.proofs.Lists.{mem_cut}
@@ -124,5 +124,5 @@ pub removing-kept : {half : ℕ} (fed : ℕ) {f : Free} {y : Layout} {t : Table}
     → RequestKept half fed f y t (Remove n)
 unfolding program table_next
 removing-kept {half} fed {f} r short n =
-    around fed f (Remove n) (omega arith) (plainly (removing half n)) r
+    around {n = remove_registers} fed f (Remove n) (omega arith) (plainly (removing half n)) r
     (λ h. alike_plainly fed f (removing half n) (removing_alike fed (omega arith) (omega arith) short h n))

@@ -17,10 +17,10 @@ use Rattle.directory_rules.specs.Holding.{OwnReached, by_register, by_global, by
 use Rattle.directory_rules.proofs.Lists.{once_both}
 use Rattle.directory_rules.proofs.tables.Numbers.{Distinct, one_more, true-false, among-map, distinct_raised, lowered}
 use Rattle.directory_rules.proofs.tables.Pairs.{member_count, members_total}
-use Rattle.directory_rules.proofs.free.Slots.{Slot, top, field, held, number_at}
+use Rattle.directory_rules.proofs.free.Slots.{Slot, field, held, number_at}
 use Rattle.directory_rules.proofs.chains.Chain.{Chain, ends, goes}
 use Rattle.directory_rules.proofs.chains.Laws.{chain_once, chain_label}
-use Rattle.directory_rules.proofs.chains.Core.{others_label, entry_label, link_label, Layout, Core, Represents}
+use Rattle.directory_rules.proofs.chains.Core.{others_label, link_label, Layout, Core, Represents}
 use Rattle.directory_rules.proofs.chains.Labels.{root_place}
 use Rattle.directory_rules.proofs.chains.SoundStore.{refs-low, refs-group}
 use Rattle.directory_rules.proofs.chains.Entries.{entry-own, entry_good, person-low, group-high, group_links, group_root, link_good}

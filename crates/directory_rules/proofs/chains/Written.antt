@@ -1,18 +1,18 @@
 -- A write to a slot of a chain: what stays of the others, and the table that the written chain then carries.
-use Prim.Native.Nat.{ℕ, ◌+◌, ◌-◌, ◌<◌}
+use Prim.Native.Nat.{ℕ, ◌+◌, ◌-◌}
 use mathlib.Core.Path.{◌≡◌, refl, sym, ap, ◌∙◌}
 use mathlib.Core.Logic.{◌≢◌}
 use mathlib.Core.List.{List, ◌∷◌, ◌++◌, map, Memᴰ}
 use native.Mathlib.Omega.{arith}
 use borrow.Author.Tests.{eq-eqb, ne_eqb}
-use lib.ListN.{get_or, length}
-use Rattle.rules.specs.Free.{Free, record_at}
+use lib.ListN.{get_or}
+use Rattle.rules.specs.Free.{Free}
 use Rattle.rules.proofs.memory.Cases.{eq_or}
 use Rattle.directory_rules.specs.Table.{Table, Pair, members_of, with_pairs}
 use Rattle.directory_rules.specs.Directory.{group_mark, next_field, first_field, number_field}
 use Rattle.directory_rules.proofs.Lists.{map_same}
 use Rattle.directory_rules.proofs.free.Slots.{Slot, top, field, held, written, number_at, slot_after, There}
-use Rattle.directory_rules.proofs.free.Held.{Placed, written_plains, written_refs, held_other, held_same}
+use Rattle.directory_rules.proofs.free.Held.{Placed, written_plains, held_other, held_same}
 use Rattle.directory_rules.proofs.chains.Chain.{Chain}
 use Rattle.directory_rules.proofs.chains.Laws.{chain_label, chain_real, chain_frame, chain_insert, chain_cut}
 use Rattle.directory_rules.proofs.chains.Core.{entry_label, link_label, SoundStore, Layout, Linked, Core, update_list, with_links}

@@ -8,7 +8,7 @@ use Rattle.rules.specs.Refusals.{Tested, refused, passed}
 use Rattle.rules.specs.Free.{Free}
 use Rattle.directory_rules.specs.Acts.{clear, Act, stop, give, ask, ◌>>=◌, clearing, ending, Performed}
 use Rattle.directory_rules.proofs.free.Perform.{free_ask, free_perform}
-use Rattle.directory_rules.proofs.free.Session.{Ready}
+use Rattle.directory_rules.proofs.free.Session.{Ready, set_reg}
 use Rattle.directory_rules.proofs.free.Registers.{ready_set, nulled}
 use Rattle.directory_rules.proofs.free.Must.{asked}
 use Rattle.directory_rules.proofs.free.Steps.{clear_step}
@@ -38,7 +38,7 @@ clearing_nulls : {A : Type 0} (fed : ℕ) {g : Free} → Ready g → (n k : ℕ)
 clearing_nulls fed ready zero k a few = refl
 clearing_nulls fed {g} ready (suc n) k a few =
     asked fed g (clear k) (λ r. clearing n (suc k) a) (clear_step fed ready k (omega arith))
-    ∙ clearing_nulls fed (ready_set ready k null (omega arith)) n (suc k) a (omega arith)
+    ∙ clearing_nulls fed {g = set_reg g k null} (ready_set ready k null (omega arith)) n (suc k) a (omega arith)
 
 -- before an act that makes no call
 last_nulls : {A : Type 0} (fed : ℕ) (f : Free) (n : ℕ) (a : Act A) {t : Tested A} → ((x : Free) → free_perform fed x a ≡ record { store = x; result = t })

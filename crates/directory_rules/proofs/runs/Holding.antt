@@ -3,27 +3,25 @@ use Prim.Native.Nat.{ℕ, ◌≤◌}
 use mathlib.Core.Path.{◌≡◌, refl, ap, ◌∙◌}
 use mathlib.Core.Logic.{◌≢◌, ◌⊎◌, inl, inr}
 use mathlib.Core.Bool.{true}
-use mathlib.Core.List.{List, [], ◌∷◌, ◌++◌, Memᴰ}
+use mathlib.Core.List.{List, [], ◌∷◌, ◌++◌}
 use native.Mathlib.Omega.{arith}
 use lib.ListN.{length}
 use Rattle.rules.specs.Memory.{null}
 use Rattle.rules.specs.Control.{Store}
-use Rattle.rules.specs.Runs.{Call}
 use Rattle.rules.specs.Free.{Free}
 use Rattle.rules.specs.Tracking.{Reached, by_register, by_global, by_field}
 use Rattle.rules.specs.Claims.{Made, free_after}
 use Rattle.rules.proofs.Ranges.{both}
 use Rattle.rules.proofs.memory.Cases.{either, eq_or}
-use Rattle.directory_rules.specs.Table.{Table}
 use Rattle.directory_rules.specs.Acts.{own_session, own_global}
-use Rattle.directory_rules.specs.Runs.{Item, call, request, others, allowed, after_items, calls_of, beside_items}
+use Rattle.directory_rules.specs.Runs.{Item, call, request, others, allowed, beside_items}
 use Rattle.directory_rules.specs.StoreClaims.{ItemsFreed}
 use Rattle.directory_rules.specs.Holding.{OwnReached, OneRecordEach, DirectoryAlone, RemovedFreed}
 use Rattle.directory_rules.specs.Holding as own
 use Rattle.directory_rules.proofs.chains.Core.{others_label, Apart}
 use Rattle.directory_rules.proofs.chains.Holding.{place-own, reached-place, holds}
 use Rattle.directory_rules.proofs.runs.StoreClaims.{calls_more, items_freed}
-use Rattle.directory_rules.proofs.runs.Run.{State, Later, items_state, state_later}
+use Rattle.directory_rules.proofs.runs.Run.{items_state, state_later}
 
 pub one_record_each : OneRecordEach
 unfolding OneRecordEach

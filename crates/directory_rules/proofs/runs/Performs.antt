@@ -1,7 +1,7 @@
 -- An act on the store of a run does what it does on the collector-free store.
 use Prim.Native.Nat.{ℕ, ◌≤◌}
-use mathlib.Core.Path.{◌≡◌, refl, sym, ◌∙◌}
-use mathlib.Core.Bool.{true≢false}
+use mathlib.Core.Path.{◌≡◌, refl, sym, subst, ◌∙◌}
+use mathlib.Core.Bool.{true≢false, cond}
 use mathlib.Core.List.{List, [], ◌∷◌, ◌++◌, append-nil, append_assoc}
 use native.Mathlib.Omega.{arith}
 use Rattle.rules.specs.Control.{Store}
@@ -33,7 +33,7 @@ performs here made fed (give x) right = record { result = refl; here = rw append
 performs {t = t} {cs = cs} here made fed (ask c k) right =
     let x = asked_both here made fed c right.0 in
     let r = (apply t (call_of c)).reply in
-    let p = performs x.here made fed (k r) right.1 in
+    let p = performs {t = (apply t (call_of c)).store} x.here made fed (k r) right.1 in
     let joined = append_assoc cs (call_of c ∷ []) (calls_made (apply t (call_of c)).store (k r)) in
     record { result = rw (free_perform, ← x.reply) p.result; here = rw (free_perform, ← x.reply) (rw joined at p.here) }
 
@@ -50,7 +50,11 @@ none_fed (few-make k r p e f) z fed = absurd (omega arith)
 pub few_fed : {A : Type 0} {n : ℕ} {t : Store} {a : Act A} → Few n t a → n ≤ 1 → FedAll (allocation_number t a) t a
 few_fed (few-stop m) one = tt
 few_fed (few-give x) one = tt
-few_fed (few-ask c e f) one = (λ yes. absurd (true≢false (sym yes ∙ e)), rw e (few_fed f one))
+few_fed {t = t} (few-ask c {f = k} e f) one =
+    let o = apply t (call_of c) in (
+      λ yes. absurd (true≢false (sym yes ∙ e)),
+      subst (λ b. FedAll (cond b (refused_by o.reply) (allocation_number o.store (k o.reply))) o.store (k o.reply)) (sym e) (few_fed f one),
+    )
 few_fed {t = t} (few-make k r p e f) one =
     let x = (apply t (call_of (allocate k r p))).reply in
     (λ yes. refl, none_fed f (omega arith) (refused_by x))

@@ -96,7 +96,7 @@ longer {s} {t} {u = u} {y = y} e a = subst (λ (cs : List Call). Later s cs t u 
 module _ {s : Store} (made : Made s) where
   run_answers : {cs : List Call} {t : Store} {u : Table} → State s cs t u → (xs : List Item) → allowed xs ≡ true → directory_run t xs ≡ table_run u (feeds_of t xs)
   run_answers a [] e = refl
-  run_answers a (call c ∷ xs) e = let z = both (others c) (allowed xs) e in run_answers (state_call a c z.0) xs z.1
+  run_answers {cs = cs} a (call c ∷ xs) e = let z = both (others c) (allowed xs) e in run_answers {cs = cs ++ (c ∷ [])} (state_call a c z.0) xs z.1
   run_answers a (request q ∷ xs) e =
       let k = state_request made a q in
       rw (k.given, run_answers k.state xs e)
@@ -106,7 +106,7 @@ module _ {s : Store} (made : Made s) where
   run_later a [] e = rw append-nil a
   run_later {cs = cs} {t = t} a (call c ∷ xs) e =
       let z = both (others c) (allowed xs) e in
-      longer (append_assoc cs (c ∷ []) (calls_of (apply t c).store xs)) (run_later (later_call a c z.0) xs z.1)
+      longer (append_assoc cs (c ∷ []) (calls_of (apply t c).store xs)) (run_later {cs = cs ++ (c ∷ [])} (later_call a c z.0) xs z.1)
   run_later {cs = cs} {t = t} a (request q ∷ xs) e =
       longer (append_assoc cs (calls_made t (program_on t q)) (calls_of (directory_call t q).store xs)) (run_later (later_request made a q) xs e)
 

@@ -2,7 +2,7 @@
 use mathlib.Core.Path.{◌≡◌, refl, ap, sym, ◌∙◌}
 use mathlib.Core.List.{List, [], ◌∷◌, ◌++◌, append_assoc}
 use Rattle.rules.specs.Control.{Store}
-use Rattle.rules.specs.Runs.{Call, Step, apply, after}
+use Rattle.rules.specs.Runs.{Step, apply, after}
 use Rattle.rules.specs.Tracking.{new_beside, beside}
 use Rattle.rules.specs.Claims.{NoDamage, Freed, MarkingEnds, ShareAfterReclaim}
 use Rattle.rules.proofs.runs.Runs.{after_more, beside-more}

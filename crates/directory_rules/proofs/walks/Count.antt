@@ -58,14 +58,14 @@ module _ (fed : ℕ) {lab : ℕ → ℕ} {l : ℕ} (ours : l ≢ others_label) w
   counting_on ready own (goes e some mine c) here zero k short = absurd (omega arith)
   counting_on ready own (ends none) here (suc left) k short =
       gave_here (sym (add-zero k)) (reads_end fed ready 0 (omega arith) (counted k (must (load 0 0 next_field) >> counting left (suc k))) (here ∙ none))
-  counting_on ready own (goes {sl} {q} {qs} e some mine c) here (suc left) k short =
+  counting_on {f} ready own (goes {sl} {q} {qs} e some mine c) here (suc left) k short =
       let good : Good _ q = good_at own ours mine in
       let o = stepped_only ready q in
       let more : suc k + length qs ≡ k + suc (length qs) = omega arith in
       gave_from o more
       (reads_word fed ready 0 (omega arith) (here ∙ e) good (counted k (must (load 0 0 next_field) >> counting left (suc k)))
       ∙ loads_next fed ready 0 (omega arith) (here ∙ e) good 0 (λ x. counting left (suc k)) (omega arith))
-      (counting_on (only_ready o ready) (only_owned o own) (only_chain o c) (stepped-here ready q) left (suc k) (omega arith))
+      (counting_on {f = stepped f q} (only_ready o ready) (only_owned o own) (only_chain o c) (stepped-here ready q) left (suc k) (omega arith))
 
   taking_on : (number : ℕ → ℕ) {f : Free} {sl : Slot} {qs : List ℕ} → Ready f → Owned f lab → Chain f lab l sl qs → reg f 0 ≡ held f sl
       → ((q : ℕ) → number_at f q ≡ number q) → (k : ℕ) → k ≤ length qs → Gave f (map number (take k qs)) (free_perform fed f (taking k))
@@ -74,7 +74,7 @@ module _ (fed : ℕ) {lab : ℕ → ℕ} {l : ℕ} (ours : l ≢ others_label) w
   taking_on number {f} ready own (goes {sl} {q} {qs} e some mine c) here same (suc k) few =
       let good : Good f q = good_at own ours mine in
       let o = stepped_only ready q in
-      let rest = taking_on number (only_ready o ready) (only_owned o own) (only_chain o c) (stepped-here ready q) (λ u. only_number o u ∙ same u) k (omega arith) in
+      let rest = taking_on number {f = stepped f q} (only_ready o ready) (only_owned o own) (only_chain o c) (stepped-here ready q) (λ u. only_number o u ∙ same u) k (omega arith) in
       record {
         after = rest.after;
         ended = reads_word fed ready 0 (omega arith) (here ∙ e) good (λ w. taken w >>= λ x. must (load 0 0 next_field) >> (taking k >>= λ xs. give (x ∷ xs)))

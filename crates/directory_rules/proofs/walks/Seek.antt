@@ -58,7 +58,7 @@ module _ (fed : ℕ) {lab : ℕ → ℕ} {l : ℕ} (ours : l ≢ others_label) (
       (λ u. walked_on (eqb-false w key t) (ltb-false w least u)
       (walked_from o
       (seen ∙ rw (t, u) (loads_next fed ready at (omega arith) (here ∙ e) good (other_of at) (λ x. seek left (other_of at) Next key least) (omega arith)))
-      (seek_on (only_ready o ready) (only_owned o own) (only_chain o c) left (other_of at) Next (omega arith)
+      (seek_on {f = g} (only_ready o ready) (only_owned o own) (only_chain o c) left (other_of at) Next (omega arith)
       (ap (λ (x : ℕ). field x next_field) (ap (reg g) back ∙ reg_other f (other_of at) v ready.shaped at (omega arith) ∙ here ∙ e))
       (reg_held ready.shaped (other_of at) (field q next_field) (omega arith))
       (omega arith)))))

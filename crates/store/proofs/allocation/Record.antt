@@ -10,7 +10,7 @@ use lib.Seq.{sets, get_or-set_same, set-set}
 use borrow.Author.Tests.{le-leb, lt-leb, leb-true}
 use Rattle.rules.specs.Cycle.{at_reclaim}
 use Rattle.rules.specs.Memory.{Memory, half, frontier, with_half, with_frontier, reference, shape_word, new_record, append, next_reference, header}
-use Rattle.rules.specs.Control.{Store, with_memory, with_sessions, with_births, most_length}
+use Rattle.rules.specs.Control.{Store, with_memory, with_sessions, most_length}
 use Rattle.rules.specs.Phases.{other_half, fromspace, tospace, absent, session_at, with_session, with_registers, with_charge}
 use Rattle.rules.specs.Barriers.{room_in, allocation_room, next_birth, placed, allocated, allocated_reference}
 use Rattle.rules.specs.Calls.{with_register, charged}
@@ -170,10 +170,3 @@ unfolding charged with_register with_session session_at
 charged-once {y} s n k v w l e =
     let x = with_registers (get_or s.sessions n absent) (set (get_or s.sessions n absent).registers k v) in
     rw (get_or-set_same s.sessions n x absent l, set-set s.sessions n x (with_charge x (x.charge + w)), e)
-
--- the collector's numbers of u, which is s with other words, put in their place in s, with the birth number used and the session set
-pub in_place : {y : Session} {u : Store} (s : Store) (M : Memory) (b n k v w : ℕ) → u ≡ with_memory s M → n < length s.sessions
-    → (let x = with_registers (get_or s.sessions n absent) (set (get_or s.sessions n absent).registers k v) in y ≡ with_charge x (x.charge + w))
-    → record { lengths = s.lengths; memory = u.memory; current = u.current; phase = u.phase; walk = u.walk; list = u.list; births = b; globals = s.globals; sessions = set s.sessions n y }
-    ≡ charged (with_register (with_births u b) n k v) n w
-in_place s M b n k v w e l q = rw e (charged-once (with_births (with_memory s M) b) n k v w l q)

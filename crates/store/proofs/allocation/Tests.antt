@@ -15,7 +15,6 @@ use Rattle.rules.specs.Barriers.{room_in, allocation_room, next_birth, allocated
 use Rattle.rules.specs.Calls.{session_of, is_register, is_shape, within_share, number_left, with_register, charged, allocate}
 use Rattle.rules.specs.declared.Session.{Session}
 use Rattle.rules.proofs.Ranges.{both, InRange, in_session, session-passed}
-use Rattle.heap.specs.View.{memory}
 use Rattle.store.specs.View.{view}
 use Rattle.store.specs.Allocation.{Fits, Small, last_tests, Allocatable}
 use Rattle.store.specs.declared.Control.{Control}

@@ -7,7 +7,7 @@ use native.Mathlib.Omega.{arith}
 use lib.Dec.{leb, ltb, eqb}
 use lib.ListN.{length}
 use borrow.Author.Tests.{leb-true, le-leb, lt-ltb, le-ltb}
-use Rattle.rules.specs.Refusals.{Tested, refused, passed, check, refusal_of, ◌>>=◌, ◌>>◌, Outcome, answered}
+use Rattle.rules.specs.Refusals.{Tested, refused, passed, check, refusal_of, ◌>>=◌, ◌>>◌, answered}
 use Rattle.rules.specs.Memory.{Memory, null, word, refs, plains, ref_field, plain_field, followed}
 use Rattle.rules.specs.Control.{Store}
 use Rattle.rules.specs.Phases.{register}
@@ -109,7 +109,8 @@ module _ (s : Store) (n k i : ℕ) {o : Operands} where
 -- by its session, whose tests passed
 module _ (s : Store) (n k : ℕ) {x : Session} (e : session_of s n ≡ passed x) where
   within : (leb s.memory.frontier0 (length s.memory.half0) && leb s.memory.frontier1 (length s.memory.half1)) ≡ true
-  within = let f = fronts (in_session s n e).known in together (le-leb _ _ f.0) (le-leb _ _ f.1)
+  within =
+      let f = fronts (in_session s n e).known in together (le-leb _ _ f.0) (le-leb _ _ f.1)
 
   named-null : eqb (register x k) null ≡ true → named s.memory (register x k) ≡ refused 11
   unfolding named
@@ -128,31 +129,32 @@ module _ (s : Store) (n k : ℕ) {x : Session} (e : session_of s n ≡ passed x)
     unfolding operands_of
     held z = rw (e, r, z)
 
+    loads_none : (i : ℕ) → eqb (register x k) null ≡ true → load_plan s n to k i ≡ field_reference s.memory (register x k) i
+    unfolding load_plan record_of field_reference
+    loads_none i z = rw (null_held z, named-null z)
+
+    loads_some : (i : ℕ) → eqb (register x k) null ≡ false → field_reference s.memory (register x k) i ≡ reference_in s.memory (register x k) i
+    unfolding field_reference
+    loads_some i z = rw (named_some z)
+
     pub load_by : (i : ℕ) → load_plan s n to k i ≡ field_reference s.memory (register x k) i
     load_by i =
         bool_or (eqb (register x k) null)
-        (λ z. loads_none z)
-        (λ z. load_from s n k i to (held z) ∙ sym (some z))
-      where
-        loads_none : eqb (register x k) null ≡ true → load_plan s n to k i ≡ field_reference s.memory (register x k) i
-        unfolding load_plan record_of field_reference
-        loads_none z = rw (null_held z, named-null z)
+        (λ z. loads_none i z)
+        (λ z. load_from s n k i to (held z) ∙ sym (loads_some i z))
 
-        some : eqb (register x k) null ≡ false → field_reference s.memory (register x k) i ≡ reference_in s.memory (register x k) i
-        unfolding field_reference
-        some z = rw (named_some z)
+  reads_none : is_register k ≡ true → (i : ℕ) → eqb (register x k) null ≡ true
+      → read s n k i ≡ (field_word s.memory (register x k) i >>= λ w. answered s (Word w))
+  unfolding read record_of field_word
+  reads_none r i z = rw (null_held k (together r r) z, named-null z)
+
+  reads_some : (i : ℕ) → eqb (register x k) null ≡ false
+      → (field_word s.memory (register x k) i >>= λ w. answered s (Word w)) ≡ (word_in s.memory (register x k) i >>= λ w. answered s (Word w))
+  unfolding field_word
+  reads_some i z = rw (named_some z)
 
   pub read_by : is_register k ≡ true → (i : ℕ) → read s n k i ≡ (field_word s.memory (register x k) i >>= λ w. answered s (Word w))
   read_by r i =
       bool_or (eqb (register x k) null)
-      (λ z. reads_none z)
-      (λ z. read-from s n k i (held k (together r r) z) ∙ sym (some z))
-    where
-      reads_none : eqb (register x k) null ≡ true → read s n k i ≡ (field_word s.memory (register x k) i >>= λ w. answered s (Word w))
-      unfolding read record_of field_word
-      reads_none z = rw (null_held k (together r r) z, named-null z)
-
-      some : eqb (register x k) null ≡ false
-          → (field_word s.memory (register x k) i >>= λ w. answered s (Word w)) ≡ (word_in s.memory (register x k) i >>= λ w. answered s (Word w))
-      unfolding field_word
-      some z = rw (named_some z)
+      (λ z. reads_none r i z)
+      (λ z. read-from s n k i (held k (together r r) z) ∙ sym (reads_some i z))

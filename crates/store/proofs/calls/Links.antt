@@ -20,7 +20,7 @@ use Rattle.rules.specs.declared.Answer.TheVariants.{Refused, Done}
 use Rattle.rules.specs.declared.Link.{Link}
 use Rattle.rules.proofs.Ranges.{InRange, in_session, after_check}
 use Rattle.rules.proofs.memory.Cases.{eq_or}
-use Rattle.heap.specs.View.{memory, Inside}
+use Rattle.heap.specs.View.{Inside}
 use Rattle.heap.specs.Pending.{laid, memory_with}
 use Rattle.heap.proofs.Passed.{bind_passed}
 use Rattle.heap.proofs.Halves.{half_any}

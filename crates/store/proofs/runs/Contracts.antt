@@ -5,6 +5,7 @@ use Prim.Native.Nat.{ℕ}
 use mathlib.Core.Path.{◌≡◌}
 use mathlib.Core.List.{List}
 use contract.Lifetimes.{Lfts}
+use denote.MutBor.{MutBor}
 use denote.Ref.{Bor}
 use denote.Triple.Entry.{Args, Res}
 use denote.Triple.Clauses.{Ended, Lasts, AtExit, at_exit}
@@ -13,7 +14,7 @@ use Rattle.rules.specs.Runs.{Attach, Detach, SafePoint, Allocate, Load, StoreRef
 use Rattle.rules.specs.declared.Link.{Link}
 use Rattle.rules.specs.declared.Answer.{Answer}
 use Rattle.rules.specs.declared.Answer.TheVariants.{Done}
-use Rattle.store.specs.CodeRuns.{lent, CodeMade, by_make, Called, by_attach, by_detach, by_safe_point, by_allocate, by_load, by_store, by_store_links, by_read, by_write, by_move-register, by_clear, by_same, by_get, by_put, by_stretch, by_companion, by_birth, by_step}
+use Rattle.store.specs.CodeRuns.{lent, CodeMade, by_make, Called, by_attach, by_detach, by_safe_point, by_allocate, by_load, by_store, by_store_links, by_read, by_write, by_move_register, by_clear, by_same, by_get, by_put, by_stretch, by_companion, by_birth, by_step}
 use Rattle.store.specs.declared.Control.{Control}
 use Rattle.store.specs.declared.Reply.{Reply}
 use Rattle.store.specs.contracts.Control.make as make
@@ -22,7 +23,7 @@ use Rattle.store.specs.contracts.Control.attach as attach
 use Rattle.store.proofs.Control.attach.Reads as attach_reads
 use Rattle.store.specs.contracts.Control.detach as detach
 use Rattle.store.proofs.Control.detach.Reads as detach_reads
-use Rattle.store.specs.contracts.Control.safe_point as safe_point_lem
+use Rattle.store.specs.contracts.Control.safe_point as safe_point
 use Rattle.store.proofs.Control.safe_point.Reads as safe_point_reads
 use Rattle.store.specs.contracts.Control.allocate as allocate
 use Rattle.store.proofs.Control.allocate.Reads as allocate_reads
@@ -30,7 +31,7 @@ use Rattle.store.specs.contracts.Control.load as load
 use Rattle.store.proofs.Control.load.Reads as load_reads
 use Rattle.store.specs.contracts.Control.store as store
 use Rattle.store.proofs.Control.store.Reads as store_reads
-use Rattle.store.specs.contracts.Control.store_links as store_links_lem
+use Rattle.store.specs.contracts.Control.store_links as store_links
 use Rattle.store.proofs.Control.store_links.Reads as store_links_reads
 use Rattle.store.specs.contracts.Control.read as read
 use Rattle.store.proofs.Control.read.Reads as read_reads
@@ -38,12 +39,12 @@ use Rattle.store.specs.contracts.Control.birth as birth
 use Rattle.store.proofs.Control.birth.Reads as birth_reads
 use Rattle.store.specs.contracts.Control.write as write
 use Rattle.store.proofs.Control.write.Reads as write_reads
-use Rattle.store.specs.contracts.Control.move_register as move-register
-use Rattle.store.proofs.Control.move_register.Reads as move-register_reads
+use Rattle.store.specs.contracts.Control.move_register as move_register
+use Rattle.store.proofs.Control.move_register.Reads as move_register_reads
 use Rattle.store.specs.contracts.Control.clear as clear
 use Rattle.store.proofs.Control.clear.Reads as clear_reads
 use Rattle.store.specs.contracts.Control.same as same
-use Rattle.store.proofs.Control.same.Reads as same_Reads
+use Rattle.store.proofs.Control.same.Reads as same_reads
 use Rattle.store.specs.contracts.Control.get as get
 use Rattle.store.proofs.Control.get.Reads as get_reads
 use Rattle.store.specs.contracts.Control.put as put
@@ -55,9 +56,12 @@ use Rattle.store.proofs.Control.companion.Reads as companion_reads
 use Rattle.store.specs.contracts.Control.step as step
 use Rattle.store.proofs.Control.step.Reads as step_reads
 
--- lent words
+-- lent words, and words lent by `&mut`
 abbrev pub Slice : Type 0
 Slice = Bor (List ℕ)
+
+abbrev pub MutSlice : Type 0
+MutSlice = MutBor (List ℕ)
 
 -- At these arguments, result and last values of what is lent by `&mut`, a method asks nothing, and what its caller learns gives P.
 -- A last value is tt where the method can change nothing.
@@ -85,12 +89,12 @@ pub detach_called : (κs : Lfts 3) (self : Control) (h0 h1 list : Slice) (s : �
 detach_called κs self h0 h1 list s r = (tt, by_detach s r)
 
 pub safe_point_called : (κs : Lfts 3) (self : Control) (h0 h1 list : Slice) (s : ℕ) (r : Reply)
-    → Gives safe_point_lem.ended safe_point_reads.Asked safe_point_reads.Learnt κs
+    → Gives safe_point.ended safe_point_reads.Asked safe_point_reads.Learnt κs
     (self, (h0, (h1, (list, (s, tt))))) r (tt, (tt, (tt, (tt, (tt, tt)))))
     (Called self h0.now h1.now list.now (SafePoint s) (answer r.answer) (lent r.control h0.now h1.now list.now))
 safe_point_called κs self h0 h1 list s r = (tt, by_safe_point s r)
 
-pub allocate_called : (κs : Lfts 3) (self : Control) (h0 h1 list : Slice) (s register r p : ℕ) (a : Reply) (h0' h1' : List ℕ)
+pub allocate_called : (κs : Lfts 3) (self : Control) (h0 h1 : MutSlice) (list : Slice) (s register r p : ℕ) (a : Reply) (h0' h1' : List ℕ)
     → Gives allocate.ended allocate_reads.Asked allocate_reads.Learnt κs
     (self, (h0, (h1, (list, (s, (register, (r, (p, tt)))))))) a (tt, (h0', (h1', (tt, (tt, (tt, (tt, (tt, tt))))))))
     (Called self h0.now h1.now list.now (Allocate s register r p) (answer a.answer) (lent a.control h0' h1' list.now))
@@ -102,14 +106,14 @@ pub load_called : (κs : Lfts 2) (self : Control) (h0 h1 list : Slice) (s to reg
     (Called self h0.now h1.now list.now (Load s to register field) (answer r.answer) (lent r.control h0.now h1.now list.now))
 load_called κs self h0 h1 list s to register field r = (tt, by_load s to register field r)
 
-pub store_called : (κs : Lfts 3) (self : Control) (h0 h1 list : Slice) (s register field from : ℕ) (r : Reply) (h0' h1' list' : List ℕ)
+pub store_called : (κs : Lfts 3) (self : Control) (h0 h1 list : MutSlice) (s register field from : ℕ) (r : Reply) (h0' h1' list' : List ℕ)
     → Gives store.ended store_reads.Asked store_reads.Learnt κs
     (self, (h0, (h1, (list, (s, (register, (field, (from, tt)))))))) r (tt, (h0', (h1', (list', (tt, (tt, (tt, (tt, tt))))))))
     (Called self h0.now h1.now list.now (StoreRef s register field from) (answer r.answer) (lent r.control h0' h1' list'))
 store_called κs self h0 h1 list s register field from r h0' h1' list' = (tt, by_store s register field from r h0' h1' list')
 
-pub store_links_called : (κs : Lfts 3) (self : Control) (h0 h1 list : Slice) (s register count : ℕ) (links : List Link) (r : Reply) (h0' h1' list' : List ℕ)
-    → Gives store_links_lem.ended store_links_reads.Asked store_links_reads.Learnt κs
+pub store_links_called : (κs : Lfts 3) (self : Control) (h0 h1 list : MutSlice) (s register count : ℕ) (links : List Link) (r : Reply) (h0' h1' list' : List ℕ)
+    → Gives store_links.ended store_links_reads.Asked store_links_reads.Learnt κs
     (self, (h0, (h1, (list, (s, (register, (count, (links, tt)))))))) r (tt, (h0', (h1', (list', (tt, (tt, (tt, (tt, tt))))))))
     (Called self h0.now h1.now list.now (StoreLinks s register count links) (answer r.answer) (lent r.control h0' h1' list'))
 store_links_called κs self h0 h1 list s register count links r h0' h1' list' = (tt, by_store_links s register count links r h0' h1' list')
@@ -120,17 +124,17 @@ pub read_called : (κs : Lfts 2) (self : Control) (h0 h1 list : Slice) (s regist
     (Called self h0.now h1.now list.now (Read s register field) (answer r.answer) (lent r.control h0.now h1.now list.now))
 read_called κs self h0 h1 list s register field r = (tt, by_read s register field r)
 
-pub write_called : (κs : Lfts 3) (self : Control) (h0 h1 list : Slice) (s register field value : ℕ) (r : Reply) (h0' h1' : List ℕ)
+pub write_called : (κs : Lfts 3) (self : Control) (h0 h1 : MutSlice) (list : Slice) (s register field value : ℕ) (r : Reply) (h0' h1' : List ℕ)
     → Gives write.ended write_reads.Asked write_reads.Learnt κs
     (self, (h0, (h1, (list, (s, (register, (field, (value, tt)))))))) r (tt, (h0', (h1', (tt, (tt, (tt, (tt, (tt, tt))))))))
     (Called self h0.now h1.now list.now (Write s register field value) (answer r.answer) (lent r.control h0' h1' list.now))
 write_called κs self h0 h1 list s register field value r h0' h1' = (tt, by_write s register field value r h0' h1')
 
-pub move-register_called : (κs : Lfts 3) (self : Control) (h0 h1 list : Slice) (s to from : ℕ) (r : Reply)
-    → Gives move-register.ended move-register_reads.Asked move-register_reads.Learnt κs
+pub move_register_called : (κs : Lfts 3) (self : Control) (h0 h1 list : Slice) (s to from : ℕ) (r : Reply)
+    → Gives move_register.ended move_register_reads.Asked move_register_reads.Learnt κs
     (self, (h0, (h1, (list, (s, (to, (from, tt))))))) r (tt, (tt, (tt, (tt, (tt, (tt, (tt, tt)))))))
     (Called self h0.now h1.now list.now (Move s to from) (answer r.answer) (lent r.control h0.now h1.now list.now))
-move-register_called κs self h0 h1 list s to from r = (tt, by_move-register s to from r)
+move_register_called κs self h0 h1 list s to from r = (tt, by_move_register s to from r)
 
 pub clear_called : (κs : Lfts 3) (self : Control) (h0 h1 list : Slice) (s register : ℕ) (r : Reply)
     → Gives clear.ended clear_reads.Asked clear_reads.Learnt κs
@@ -139,7 +143,7 @@ pub clear_called : (κs : Lfts 3) (self : Control) (h0 h1 list : Slice) (s regis
 clear_called κs self h0 h1 list s register r = (tt, by_clear s register r)
 
 pub same_called : (κs : Lfts 2) (self : Control) (h0 h1 list : Slice) (s a b : ℕ) (r : Reply)
-    → Gives same.ended same_Reads.Asked same_Reads.Learnt κs
+    → Gives same.ended same_reads.Asked same_reads.Learnt κs
     (self, (h0, (h1, (list, (s, (a, (b, tt))))))) r (tt, (tt, (tt, (tt, (tt, (tt, (tt, tt)))))))
     (Called self h0.now h1.now list.now (SameAs s a b) (answer r.answer) (lent r.control h0.now h1.now list.now))
 same_called κs self h0 h1 list s a b r = (tt, by_same s a b r)
@@ -150,7 +154,7 @@ pub get_called : (κs : Lfts 3) (self : Control) (h0 h1 list : Slice) (s to glob
     (Called self h0.now h1.now list.now (Get s to global) (answer r.answer) (lent r.control h0.now h1.now list.now))
 get_called κs self h0 h1 list s to global r = (tt, by_get s to global r)
 
-pub put_called : (κs : Lfts 3) (self : Control) (h0 h1 list : Slice) (s global from : ℕ) (r : Reply) (h0' h1' list' : List ℕ)
+pub put_called : (κs : Lfts 3) (self : Control) (h0 h1 list : MutSlice) (s global from : ℕ) (r : Reply) (h0' h1' list' : List ℕ)
     → Gives put.ended put_reads.Asked put_reads.Learnt κs
     (self, (h0, (h1, (list, (s, (global, (from, tt))))))) r (tt, (h0', (h1', (list', (tt, (tt, (tt, tt)))))))
     (Called self h0.now h1.now list.now (Put s global from) (answer r.answer) (lent r.control h0' h1' list'))
@@ -174,7 +178,7 @@ pub birth_called : (κs : Lfts 2) (self : Control) (h0 h1 list : Slice) (s regis
     (Called self h0.now h1.now list.now (Birth s register) (answer r.answer) (lent r.control h0.now h1.now list.now))
 birth_called κs self h0 h1 list s register r = (tt, by_birth s register r)
 
-pub step_called : (κs : Lfts 3) (self : Control) (h0 h1 list : Slice) (r : Reply) (h0' h1' list' : List ℕ)
+pub step_called : (κs : Lfts 3) (self : Control) (h0 h1 list : MutSlice) (r : Reply) (h0' h1' list' : List ℕ)
     → Gives step.ended step_reads.Asked step_reads.Learnt κs
     (self, (h0, (h1, (list, tt)))) r (tt, (h0', (h1', (list', tt))))
     (Called self h0.now h1.now list.now Step (answer r.answer) (lent r.control h0' h1' list'))

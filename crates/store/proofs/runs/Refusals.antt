@@ -1,5 +1,5 @@
 -- Claim 1 of the code.
-use mathlib.Core.Path.{◌≡◌, sym, ap, ◌∙◌}
+use mathlib.Core.Path.{sym, ap, ◌∙◌}
 use Rattle.rules.specs.Control.{Store}
 use Rattle.rules.specs.Claims.{RefusalsKeep}
 use Rattle.rules.proofs.claims.Refusals.{refusals_keep}

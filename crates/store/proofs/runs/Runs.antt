@@ -6,7 +6,7 @@ use Rattle.rules.specs.Refusals.{Reply, answer, words}
 use Rattle.rules.specs.Runs.{Call, apply, run, after}
 use Rattle.rules.specs.Claims.{Made}
 use Rattle.store.specs.View.{view}
-use Rattle.store.specs.CodeRuns.{Lent, viewed, CodeMade, by_make, Called, by_attach, by_detach, by_safe_point, by_allocate, by_load, by_store, by_store_links, by_read, by_write, by_move-register, by_clear, by_same, by_get, by_put, by_stretch, by_companion, by_birth, by_step, CodeRun, ended, next, CodeRuns}
+use Rattle.store.specs.CodeRuns.{Lent, viewed, CodeMade, by_make, Called, by_attach, by_detach, by_safe_point, by_allocate, by_load, by_store, by_store_links, by_read, by_write, by_move_register, by_clear, by_same, by_get, by_put, by_stretch, by_companion, by_birth, by_step, CodeRun, ended, next, CodeRuns}
 use Rattle.store.specs.declared.Control.{Control}
 
 -- a call leaves what the rules give: the store that the next call gets, and the reply
@@ -21,7 +21,7 @@ called_applies (by_store s register field from r h0' h1' list' e) = e
 called_applies (by_store_links s register count links r h0' h1' list' e) = e
 called_applies (by_read s register field r e) = e
 called_applies (by_write s register field value r h0' h1' e) = e
-called_applies (by_move-register s to from r e) = e
+called_applies (by_move_register s to from r e) = e
 called_applies (by_clear s register r e) = e
 called_applies (by_same s a b r e) = e
 called_applies (by_get s to global r e) = e

@@ -7,7 +7,7 @@ use native.Mathlib.Omega.{arith}
 use lib.ListN.{length, length-map, get_or, set}
 use borrow.Author.Tests.{lt-ltb, le-ltb, le-leb, lt-leb}
 use Rattle.rules.specs.Refusals.{Tested, refused, passed, ◌>>=◌}
-use Rattle.rules.specs.Memory.{Memory, half, word, put, colour, refs, followed, colour_at, grey, black, header}
+use Rattle.rules.specs.Memory.{Memory, half, word, put, colour, followed, colour_at, grey, black, header}
 use Rattle.rules.specs.Control.{Store, with_memory, with_walk, with_list, with_sessions, global_count}
 use Rattle.rules.specs.Phases.{move_on, lowest_unmarked, absent, session_at, with_session, with_mark}
 use Rattle.rules.specs.Barriers.{heap_of, list_room, shading, shade, to_shade_all, listing, shading_all, shade_all}

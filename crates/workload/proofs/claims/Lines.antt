@@ -18,7 +18,7 @@ use Rattle.rules.specs.Claims.{Numbers}
 use Rattle.rules.specs.declared.Answer.TheVariants.{Refused, Done, Word, Same, Phase}
 use Rattle.rules.proofs.memory.Cases.{bool_or}
 use Rattle.rules.proofs.claims.Numbers.{numbers}
-use Rattle.workload.specs.Load.{xorshift32, draw, calls_from, load_of, seed_in, count_in, accepted, generate}
+use Rattle.workload.specs.Load.{xorshift32, draw, call_drawn, calls_from, load_of, seed_in, count_in, accepted, generate}
 use Rattle.workload.specs.Claims.{NoCall15, without, No15, LineEach, FirstLines}
 use Rattle.workload.proofs.claims.Reading.{Finds, no_more, one_more, load_found}
 
@@ -78,9 +78,9 @@ no_15 s bs some = rw (some_load bs some, load_lines, lines_without)
 
 -- ---- a line for each entry
 
-lines_length : (s : Store) (n count x : ℕ) → length (call_lines s n (calls_from count x)) ≡ count
-lines_length s n zero x = refl
-lines_length s n (suc count) x = ap suc (lines_length _ (n + 1) count (draw x).next)
+lines_length : (count : ℕ) (s : Store) (n x : ℕ) → length (call_lines s n (calls_from count x)) ≡ count
+lines_length zero s n x = refl
+lines_length (suc count) s n x = ap suc (lines_length count (apply s (call_drawn (draw x))).store (n + 1) (draw x).next)
 
 pub line_each : LineEach
 unfolding LineEach
@@ -88,9 +88,9 @@ line_each s bs some = rw (some_load bs some, load_lines, lines_length)
 
 -- ---- the first lines
 
-lines_first : (s : Store) (k n m x : ℕ) → take n (call_lines s k (calls_from (n + m) x)) ≡ call_lines s k (calls_from n x)
-lines_first s k zero m x = refl
-lines_first s k (suc n) m x = rw (suc-add, lines_first _ (k + 1) n m (draw x).next)
+lines_first : (n : ℕ) (s : Store) (k m x : ℕ) → take n (call_lines s k (calls_from (n + m) x)) ≡ call_lines s k (calls_from n x)
+lines_first zero s k m x = refl
+lines_first (suc n) s k m x = rw (suc-add, lines_first n (apply s (call_drawn (draw x))).store (k + 1) m (draw x).next)
 
 pub first_lines : FirstLines
 unfolding FirstLines

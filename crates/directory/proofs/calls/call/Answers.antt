@@ -7,6 +7,5 @@ use Rattle.directory.proofs.calls.call.Goals as goal
 pub returns-in-Refused : goal.returns-in-Refused
 returns-in-Refused c = call-refused _ _ _ _ _ c.safe_point-point.ensures _ _ _ c.in-Refused.is ∙ changed _ c.args.change _ refl
 
--- ?? match: ['in-Refused', 'in_default']
 pub returns : goal.returns
-returns c = c.finish.ensures ∙ call_finished _ _ _ _ _ c.safe_point-point.ensures (changing _ c.args.change) _ c.in-Refused.keys2 c.changing-done.result _ _ _ c.changing-done.ensures ∙ changed _ c.args.change _ c.registers_of-registers.ensures
+returns c = c.finish.ensures ∙ call_finished _ _ _ _ _ c.safe_point-point.ensures (changing _ c.args.change) _ c.in_default.not-Refused c.changing-done.result _ _ _ c.changing-done.ensures ∙ changed _ c.args.change _ c.registers_of-registers.ensures

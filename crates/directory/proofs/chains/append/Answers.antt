@@ -8,7 +8,6 @@ pub returns-in-Refused : goal.returns-in-Refused
 unfolding append
 returns-in-Refused c = act_halts _ (fresh _ _ _) _ _ _ _ c.fresh-reply.ensures _ _ c.in-Refused.is
 
--- ?? match: ['in-Refused', 'in_default']
 pub returns : goal.returns
 unfolding append
-returns c = act_goes _ (fresh _ _ _) c.fresh-reply.result _ _ _ c.fresh-reply.ensures _ c.in-Refused.keys2 _ c.link.ensures
+returns c = act_goes _ (fresh _ _ _) c.fresh-reply.result _ _ _ c.fresh-reply.ensures _ c.in_default.not-Refused _ c.link.ensures

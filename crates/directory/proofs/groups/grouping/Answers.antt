@@ -15,7 +15,6 @@ pub returns-in-Refused : goal.returns-in-Refused
 unfolding grouping
 returns-in-Refused c = standing_goes _ (entries _ _ _) c.entries-sought.result _ _ _ c.entries-sought.ensures c.standing-walk.result _ c.standing-walk.ensures _ _ c.in-Ended.is _ (must_stops (acts.move _ _) _ _ _ _ _ c.move_register-reply.ensures _ _ c.in-Refused.is)
 
--- ?? match2: ['in-Refused', 'in_default-answer']
 pub returns : goal.returns
 unfolding grouping
-returns c = standing_goes _ (entries _ _ _) c.entries-sought.result _ _ _ c.entries-sought.ensures c.standing-walk.result _ c.standing-walk.ensures _ _ c.in-Ended.is _ (must_goes (acts.move _ _) _ _ _ _ _ c.move_register-reply.ensures _ c.in-Refused.keys2 _ refl)
+returns c = standing_goes _ (entries _ _ _) c.entries-sought.result _ _ _ c.entries-sought.ensures c.standing-walk.result _ c.standing-walk.ensures _ _ c.in-Ended.is _ (must_goes (acts.move _ _) _ _ _ _ _ c.move_register-reply.ensures _ c.in_default-answer.not-Refused _ refl)

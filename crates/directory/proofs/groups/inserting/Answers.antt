@@ -11,13 +11,10 @@ pub returns-in-Refused : goal.returns-in-Refused
 unfolding inserting
 returns-in-Refused c = act_halts _ (fresh _ _ _) _ _ _ _ c.fresh-made.ensures _ _ c.in-Refused.is
 
--- ?? match: ['in-Refused', 'in_default']
 pub returns-in-Refused-second : goal.returns-in-Refused-second
 unfolding inserting
-returns-in-Refused-second c = act_goes _ (fresh _ _ _) c.fresh-made.result _ _ _ c.fresh-made.ensures _ c.in-Refused.keys2 _ (must_halts (acts.store _ _ _) _ _ _ _ _ c.store-stored.ensures _ _ c.in-Refused-second.is)
+returns-in-Refused-second c = act_goes _ (fresh _ _ _) c.fresh-made.result _ _ _ c.fresh-made.ensures _ c.in_default.not-Refused _ (must_halts (acts.store _ _ _) _ _ _ _ _ c.store-stored.ensures _ _ c.in-Refused-second.is)
 
--- ?? match: ['in-Refused', 'in_default']
--- ?? match2: ['in-Refused-second', 'in_default-second']
 pub returns : goal.returns
 unfolding inserting
-returns c = act_goes _ (fresh _ _ _) c.fresh-made.result _ _ _ c.fresh-made.ensures _ c.in-Refused.keys2 _ (must_goes (acts.store _ _ _) _ _ _ _ _ c.store-stored.ensures _ c.in-Refused-second.keys2 _ c.link.ensures)
+returns c = act_goes _ (fresh _ _ _) c.fresh-made.result _ _ _ c.fresh-made.ensures _ c.in_default.not-Refused _ (must_goes (acts.store _ _ _) _ _ _ _ _ c.store-stored.ensures _ c.in_default-second.not-Refused _ c.link.ensures)

@@ -8,7 +8,6 @@ pub returns-in-Refused : goal.returns-in-Refused
 unfolding counting_members
 returns-in-Refused c = must_stops (acts.load _ _ _) _ _ _ _ _ c.load-reply.ensures _ _ c.in-Refused.is
 
--- ?? match: ['in-Refused', 'in_default']
 pub returns : goal.returns
 unfolding counting_members
-returns c = must_goes (acts.load _ _ _) _ _ _ _ _ c.load-reply.ensures _ c.in-Refused.keys2 _ c.counting.ensures
+returns c = must_goes (acts.load _ _ _) _ _ _ _ _ c.load-reply.ensures _ c.in_default.not-Refused _ c.counting.ensures

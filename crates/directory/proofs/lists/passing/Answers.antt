@@ -2,13 +2,11 @@
 use Rattle.directory.proofs.acts.Counting.{passes_none, passes_refused, passes_word}
 use Rattle.directory.proofs.lists.passing.Goals as goal
 
--- ?? match: ['in-Word', 'in_default']
 pub returns-in_default : goal.returns-in_default
-returns-in_default c = passes_none _ c.args.left c.look-found.result c.look-found.ensures c.in-Word.keys2
+returns-in_default c = passes_none _ c.args.left c.look-found.result c.look-found.ensures c.in_default.not-Word
 
 pub returns-in-Refused : goal.returns-in-Refused
 returns-in-Refused c = passes_refused _ c.args.left _ c.look-found.ensures _ c.in-Word.is _ _ _ _ c.load-reply.ensures _ c.in-Refused.is
 
--- ?? match2: ['in-Refused', 'in_default-answer']
 pub returns : goal.returns
-returns c = passes_word _ c.args.left _ c.look-found.ensures _ c.in-Word.is _ _ _ _ c.load-reply.ensures c.in-Refused.keys2
+returns c = passes_word _ c.args.left _ c.look-found.ensures _ c.in-Word.is _ _ _ _ c.load-reply.ensures c.in_default-answer.not-Refused

@@ -10,13 +10,10 @@ pub returns-in-Refused : goal.returns-in-Refused
 unfolding holding
 returns-in-Refused c = act_halts _ (keep_before c.args.at c.args.via) _ _ _ _ c.keep_before-kept.ensures _ _ c.in-Refused.is
 
--- ?? match: ['in-Refused', 'in_default']
 pub returns-in-Refused-second : goal.returns-in-Refused-second
 unfolding holding
-returns-in-Refused-second c = act_goes _ (keep_before c.args.at c.args.via) c.keep_before-kept.result _ _ _ c.keep_before-kept.ensures _ c.in-Refused.keys2 _ (must_halts (acts.move _ _) _ _ _ _ _ c.move_register-moved.ensures _ _ c.in-Refused-second.is)
+returns-in-Refused-second c = act_goes _ (keep_before c.args.at c.args.via) c.keep_before-kept.result _ _ _ c.keep_before-kept.ensures _ c.in_default.not-Refused _ (must_halts (acts.move _ _) _ _ _ _ _ c.move_register-moved.ensures _ _ c.in-Refused-second.is)
 
--- ?? match: ['in-Refused', 'in_default']
--- ?? match2: ['in-Refused-second', 'in_default-second']
 pub returns : goal.returns
 unfolding holding
-returns c = act_goes _ (keep_before c.args.at c.args.via) c.keep_before-kept.result _ _ _ c.keep_before-kept.ensures _ c.in-Refused.keys2 _ (must_goes (acts.move _ _) _ _ _ _ _ c.move_register-moved.ensures _ c.in-Refused-second.keys2 _ (called (acts.get _) _ _ _ _ _ c.get.ensures))
+returns c = act_goes _ (keep_before c.args.at c.args.via) c.keep_before-kept.result _ _ _ c.keep_before-kept.ensures _ c.in_default.not-Refused _ (must_goes (acts.move _ _) _ _ _ _ _ c.move_register-moved.ensures _ c.in_default-second.not-Refused _ (called (acts.get _) _ _ _ _ _ c.get.ensures))

@@ -25,7 +25,5 @@ overflow_sub-left c = omega (arith, has_left _ c.loop-answer.left _ _ c.look-fou
 pub loop-answer-smaller : goal.loop-answer-smaller
 loop-answer-smaller c = omega (arith, has_left _ c.loop-answer.left _ _ c.look-found.ensures c.entry_of-entry.ensures c.in_default.is)
 
--- ?? match2: ['in-Refused', 'in_default-answer']
--- ?? auto of leaving-one: ['auto', '1', '1', '1', '0']
 pub loop-answer-preserved : goal.loop-answer-preserved
-loop-answer-preserved c = (c.loop-answer.invariant.0 ∙ groups_go _ c.loop-answer.left c.args.half c.args.person _ _ c.look-found.ensures c.entry_of-entry.ensures c.in_default.is ∙ act_next _ (leaving_one _ _) c.leaving_one-reply.result _ _ _ c.leaving_one-reply.ensures _ c.in-Refused.keys2, c.leaving_one-reply.auto.h1 ∙ c.loop-answer.invariant.1, c.leaving_one-reply.auto.list ∙ c.loop-answer.invariant.2, c.leaving_one-reply.auto.1.1.1.0 ∙ c.loop-answer.invariant.3)
+loop-answer-preserved c = (c.loop-answer.invariant.0 ∙ groups_go _ c.loop-answer.left c.args.half c.args.person _ _ c.look-found.ensures c.entry_of-entry.ensures c.in_default.is ∙ act_next _ (leaving_one _ _) c.leaving_one-reply.result _ _ _ c.leaving_one-reply.ensures _ c.in_default-answer.not-Refused, c.leaving_one-reply.auto.h0 ∙ c.loop-answer.invariant.1, c.leaving_one-reply.auto.h1 ∙ c.loop-answer.invariant.2, c.leaving_one-reply.auto.list ∙ c.loop-answer.invariant.3)

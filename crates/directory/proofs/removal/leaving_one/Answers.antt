@@ -13,7 +13,6 @@ pub returns-in-Refused : goal.returns-in-Refused
 unfolding leaving_one
 returns-in-Refused c = act_halts _ (members _ _ >>= cut_found) _ _ _ _ (c.cut_found-reply.ensures ∙ walk_cuts _ (members _ _) c.members-sought.result _ _ _ c.members-sought.ensures) _ _ c.in-Refused.is ∙ regroup _ (members _ _) cut_found _
 
--- ?? match: ['in-Refused', 'in_default']
 pub returns : goal.returns
 unfolding leaving_one
-returns c = act_goes _ (members _ _ >>= cut_found) c.cut_found-reply.result _ _ _ (c.cut_found-reply.ensures ∙ walk_cuts _ (members _ _) c.members-sought.result _ _ _ c.members-sought.ensures) _ c.in-Refused.keys2 _ (called (acts.load _ _ _) _ _ _ _ _ c.load.ensures) ∙ regroup _ (members _ _) cut_found _
+returns c = act_goes _ (members _ _ >>= cut_found) c.cut_found-reply.result _ _ _ (c.cut_found-reply.ensures ∙ walk_cuts _ (members _ _) c.members-sought.result _ _ _ c.members-sought.ensures) _ c.in_default.not-Refused _ (called (acts.load _ _ _) _ _ _ _ _ c.load.ensures) ∙ regroup _ (members _ _) cut_found _

@@ -9,13 +9,10 @@ pub returns-in-Refused : goal.returns-in-Refused
 unfolding removing_found
 returns-in-Refused c = act_halts _ (holding _ _) _ _ _ _ c.holding-held.ensures _ _ c.in-Refused.is
 
--- ?? match: ['in-Refused', 'in_default']
 pub returns-in-Refused-second : goal.returns-in-Refused-second
 unfolding removing_found
-returns-in-Refused-second c = act_goes _ (holding _ _) c.holding-held.result _ _ _ c.holding-held.ensures _ c.in-Refused.keys2 _ (act_halts _ (leaving_all c.args.half c.args.half c.args.person) _ _ _ _ c.leaving_all-gone.ensures _ _ c.in-Refused-second.is)
+returns-in-Refused-second c = act_goes _ (holding _ _) c.holding-held.result _ _ _ c.holding-held.ensures _ c.in_default.not-Refused _ (act_halts _ (leaving_all c.args.half c.args.half c.args.person) _ _ _ _ c.leaving_all-gone.ensures _ _ c.in-Refused-second.is)
 
--- ?? match: ['in-Refused', 'in_default']
--- ?? match2: ['in-Refused-second', 'in_default-second']
 pub returns : goal.returns
 unfolding removing_found
-returns c = act_goes _ (holding _ _) c.holding-held.result _ _ _ c.holding-held.ensures _ c.in-Refused.keys2 _ (act_goes _ (leaving_all c.args.half c.args.half c.args.person) c.leaving_all-gone.result _ _ _ c.leaving_all-gone.ensures _ c.in-Refused-second.keys2 _ c.unlinking.ensures)
+returns c = act_goes _ (holding _ _) c.holding-held.result _ _ _ c.holding-held.ensures _ c.in_default.not-Refused _ (act_goes _ (leaving_all c.args.half c.args.half c.args.person) c.leaving_all-gone.result _ _ _ c.leaving_all-gone.ensures _ c.in_default-second.not-Refused _ c.unlinking.ensures)

@@ -9,7 +9,6 @@ pub returns-in-Refused : goal.returns-in-Refused
 unfolding unlinking
 returns-in-Refused c = must_halts (acts.load _ _ _) _ _ _ _ _ c.load-reply.ensures _ _ c.in-Refused.is
 
--- ?? match: ['in-Refused', 'in_default']
 pub returns : goal.returns
 unfolding unlinking
-returns c = must_goes (acts.load _ _ _) _ _ _ _ _ c.load-reply.ensures _ c.in-Refused.keys2 _ c.link_person.ensures
+returns c = must_goes (acts.load _ _ _) _ _ _ _ _ c.load-reply.ensures _ c.in_default.not-Refused _ c.link_person.ensures

@@ -8,7 +8,6 @@ pub returns-in-Refused : goal.returns-in-Refused
 unfolding entries
 returns-in-Refused c = must_stops (acts.get _) _ _ _ _ _ c.get-reply.ensures _ _ c.in-Refused.is
 
--- ?? match: ['in-Refused', 'in_default']
 pub returns : goal.returns
 unfolding entries
-returns c = must_goes (acts.get _) _ _ _ _ _ c.get-reply.ensures _ c.in-Refused.keys2 _ c.seek.ensures
+returns c = must_goes (acts.get _) _ _ _ _ _ c.get-reply.ensures _ c.in_default.not-Refused _ c.seek.ensures

@@ -22,6 +22,5 @@ overflow_sub-left c = omega (arith, has_left _ _ _ _ _ _ _ _ c.look-found.ensure
 pub loop-walk-smaller : goal.loop-walk-smaller
 loop-walk-smaller c = omega (arith, has_left _ _ _ _ _ _ _ _ c.look-found.ensures c.judge-judged.ensures c.in_default.is)
 
--- ?? match2: ['in-Refused', 'in_default-answer']
 pub loop-walk-preserved : goal.loop-walk-preserved
-loop-walk-preserved c = c.loop-walk.invariant ∙ seek-next _ _ _ _ _ _ _ _ c.look-found.ensures c.judge-judged.ensures c.in_default.is _ c.other_of-other.ensures _ _ _ _ c.load-reply.ensures c.in-Refused.keys2
+loop-walk-preserved c = c.loop-walk.invariant ∙ seek-next _ _ _ _ _ _ _ _ c.look-found.ensures c.judge-judged.ensures c.in_default.is _ c.other_of-other.ensures _ _ _ _ c.load-reply.ensures c.in_default-answer.not-Refused

@@ -8,7 +8,6 @@ use Rattle.heap.specs.Pending.{memory_with}
 use Rattle.heap.proofs.Halves.{frontier-within}
 use Rattle.heap.proofs.Laid.{word-laid}
 use Rattle.heap.proofs.Soundness.{sound_none, sound-short, sound_passes, sound_fails}
-use borrow.Author.Rules.{rules}
 use Rattle.heap.proofs.following.sound_at.Goals as goal
 
 pub returns-then-v-lt2 : goal.returns-then-v-lt2
@@ -18,7 +17,7 @@ pub overflow_add-at : goal.overflow_add-at
 unfolding word_of
 overflow_add-at c =
     let at_small : c.word_of-at.result ≤ 4294967295 =
-        omega (arith, c.word_of-at.ensures, c.ranges.v) in
+    omega (arith, c.word_of-at.ensures, c.ranges.v) in
     omega (arith, at_small)
 
 pub returns-then-frontier-at : goal.returns-then-frontier-at
@@ -27,14 +26,14 @@ returns-then-frontier-at c = sound-short _ _ _ _ c.word_of-at.ensures (c.frontie
 pub word_in-shape-requires : goal.word_in-shape-requires
 word_in-shape-requires c =
     let half-long : c.frontier_of-frontier.result ≤ length c.half_of-half.result.now =
-        let a = c.args in
+    let a = c.args in
     omega (arith, ap length (c.half_of-half.ensures a.f0 a.f1), c.frontier_of-frontier.ensures a.h0.now a.h1.now, frontier-within a.h0.now a.h1.now a.f0 a.f1 a.v c.requires.0 c.requires.1) in
     omega (arith, half-long)
 
 pub word_in-colour-requires : goal.word_in-colour-requires
 word_in-colour-requires c =
     let half-long : c.frontier_of-frontier.result ≤ length c.half_of-half.result.now =
-        let a = c.args in
+    let a = c.args in
     omega (arith, ap length (c.half_of-half.ensures a.f0 a.f1), c.frontier_of-frontier.ensures a.h0.now a.h1.now, frontier-within a.h0.now a.h1.now a.f0 a.f1 a.v c.requires.0 c.requires.1) in
     omega (arith, half-long)
 
@@ -42,21 +41,20 @@ pub overflow_add-end-2 : goal.overflow_add-end-2
 unfolding word_of
 overflow_add-end-2 c =
     let at_small : c.word_of-at.result ≤ 4294967295 =
-        omega (arith, c.word_of-at.ensures, c.ranges.v) in
+    omega (arith, c.word_of-at.ensures, c.ranges.v) in
     omega (arith, at_small)
 
 pub overflow_add-end-3 : goal.overflow_add-end-3
 unfolding word_of
 overflow_add-end-3 c =
     let at_small : c.word_of-at.result ≤ 4294967295 =
-        omega (arith, c.word_of-at.ensures, c.ranges.v) in
+    omega (arith, c.word_of-at.ensures, c.ranges.v) in
     omega (arith, at_small)
 
 pub returns-then-shape-colour : goal.returns-then-shape-colour
 unfolding colour
 returns-then-shape-colour c =
-    let words : let a = c.args in let M = memory_with (take a.filled a.pending.now) a.h0.now a.h1.now a.f0 a.f1 in (c.word_in-shape.result ≡ word M a.v shape_at) × (c.word_in-colour.result ≡ colour M a.v) =
-        (
+    let words : let a = c.args in let M = memory_with (take a.filled a.pending.now) a.h0.now a.h1.now a.f0 a.f1 in (c.word_in-shape.result ≡ word M a.v shape_at) × (c.word_in-colour.result ≡ colour M a.v) = (
       c.word_in-shape.ensures ∙ word-laid _ _ _ _ _ _ shape_at _ _ (c.half_of-half.ensures _ _) c.word_of-at.ensures,
       c.word_in-colour.ensures ∙ word-laid _ _ _ _ _ _ colour_at _ _ (c.half_of-half.ensures _ _) c.word_of-at.ensures,
     ) in
@@ -65,8 +63,7 @@ returns-then-shape-colour c =
 pub returns-else-shape-colour : goal.returns-else-shape-colour
 unfolding colour
 returns-else-shape-colour c =
-    let words : let a = c.args in let M = memory_with (take a.filled a.pending.now) a.h0.now a.h1.now a.f0 a.f1 in (c.word_in-shape.result ≡ word M a.v shape_at) × (c.word_in-colour.result ≡ colour M a.v) =
-        (
+    let words : let a = c.args in let M = memory_with (take a.filled a.pending.now) a.h0.now a.h1.now a.f0 a.f1 in (c.word_in-shape.result ≡ word M a.v shape_at) × (c.word_in-colour.result ≡ colour M a.v) = (
       c.word_in-shape.ensures ∙ word-laid _ _ _ _ _ _ shape_at _ _ (c.half_of-half.ensures _ _) c.word_of-at.ensures,
       c.word_in-colour.ensures ∙ word-laid _ _ _ _ _ _ colour_at _ _ (c.half_of-half.ensures _ _) c.word_of-at.ensures,
     ) in

@@ -1,7 +1,6 @@
 -- The same; no word is pending.
 use Rattle.rules.specs.Memory.{forward}
 use Rattle.heap.proofs.Laid.{laid_none}
-use borrow.Author.Rules.{rules}
 use Rattle.heap.proofs.forwarding.forward.Goals as goal
 
 pub returns-then-stays : goal.returns-then-stays

@@ -1,6 +1,5 @@
 -- What stays is tested as the rules do; all others go by other_copy's contract.
 use Rattle.rules.specs.Memory.{forward}
-use borrow.Author.Rules.{rules}
 use Rattle.heap.proofs.forwarding.forward_pending.Goals as goal
 
 pub returns-then-stays : goal.returns-then-stays

@@ -1,9 +1,6 @@
 -- Invariant: the pending words from i on are left to write.
-use Prim.Native.Nat.{◌≤◌, ◌-◌}
-use mathlib.Core.Path.{◌≡◌, refl, ◌∙◌}
+use mathlib.Core.Path.{refl, ◌∙◌}
 use native.Mathlib.Omega.{arith}
-use lib.ListN.{length, drop}
-use Rattle.heap.specs.Pending.{laid}
 use Rattle.heap.proofs.Laid.{laid_on, laid_last}
 use borrow.Author.Rules.{rules}
 use Rattle.heap.proofs.pending.lay.Goals as goal

@@ -1,10 +1,7 @@
 use Prim.Native.Nat.{◌≤◌, ◌-◌}
-use mathlib.Core.Path.{◌≡◌, refl, ◌∙◌}
-use native.Mathlib.Omega.{arith}
+use mathlib.Core.Path.{◌≡◌}
 use lib.ListN.{length, drop}
 use Rattle.heap.specs.Pending.{laid}
-use Rattle.heap.proofs.Laid.{laid_on, laid_last}
-use borrow.Author.Rules.{rules}
 use Rattle.heap.proofs.pending.lay.Given as goal
 
 abbrev pub invariant-loop-i : goal.invariant-loop-i

@@ -1,7 +1,6 @@
 -- Below 2 it is no reference; else the half and the word are compared.
 use borrow.Author.Tests.{lt-leb, le-leb}
 use Rattle.rules.specs.Memory.{in_half, half_of}
-use borrow.Author.Rules.{rules}
 use Rattle.heap.proofs.pending.over.Goals as goal
 
 pub returns-then-a-lt2 : goal.returns-then-a-lt2

@@ -1,10 +1,6 @@
 -- The caller's bound puts the index within the half; the half with the pending words written is the rules' half of the memory with them.
-use Prim.Native.Nat.{◌+◌, ◌<◌}
-use mathlib.Core.Path.{ap, ◌∙◌}
-use native.Mathlib.Omega.{arith}
-use lib.ListN.{length}
+use mathlib.Core.Path.{◌∙◌}
 use Rattle.heap.proofs.Laid.{word-laid}
-use borrow.Author.Rules.{rules}
 use Rattle.heap.proofs.pending.pending_word.Goals as goal
 
 pub returns : goal.returns

@@ -1,8 +1,5 @@
 -- Another half or none: nothing. A word past the half's end: `set` changes nothing either.
-use mathlib.Core.Path.{sym}
-use lib.Seq.{set_out}
 use Rattle.heap.proofs.Laid.{elsewhere, here}
-use borrow.Author.Rules.{rules}
 use Rattle.heap.proofs.pending.put_in.Goals as goal
 
 pub returns-then-a-h : goal.returns-then-a-h

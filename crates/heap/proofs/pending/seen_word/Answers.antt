@@ -1,10 +1,9 @@
 -- Invariant: the pending words from i on are left to look at, and `word` is what those before them give.
-use Prim.Native.Nat.{◌+◌, ◌-◌, ◌≤◌, min}
-use mathlib.Core.Path.{◌≡◌, refl, ◌∙◌}
+use Prim.Native.Nat.{◌+◌}
+use mathlib.Core.Path.{refl, ◌∙◌}
 use native.Mathlib.Omega.{arith}
-use lib.ListN.{length, take, drop, length-take}
+use lib.ListN.{take, length-take}
 use lib.Seq.{get_or-take}
-use Rattle.heap.specs.Pending.{seen}
 use Rattle.heap.proofs.Laid.{seen_on, seen_last}
 use borrow.Author.Rules.{rules}
 use Rattle.heap.proofs.pending.seen_word.Goals as goal

@@ -1,11 +1,7 @@
-use Prim.Native.Nat.{◌+◌, ◌-◌, ◌≤◌, min}
-use mathlib.Core.Path.{◌≡◌, refl, ◌∙◌}
-use native.Mathlib.Omega.{arith}
-use lib.ListN.{length, take, drop, length-take}
-use lib.Seq.{get_or-take}
+use Prim.Native.Nat.{◌-◌, ◌≤◌, min}
+use mathlib.Core.Path.{◌≡◌}
+use lib.ListN.{length, take, drop}
 use Rattle.heap.specs.Pending.{seen}
-use Rattle.heap.proofs.Laid.{seen_on, seen_last}
-use borrow.Author.Rules.{rules}
 use Rattle.heap.proofs.pending.seen_word.Given as goal
 
 abbrev pub invariant-loop-i : goal.invariant-loop-i

@@ -1,6 +1,5 @@
 -- The word as it is, where none is pending; else through the pending words.
 use Rattle.heap.proofs.Laid.{laid_none, laid-seen}
-use borrow.Author.Rules.{rules}
 use Rattle.heap.proofs.pending.word_in.Goals as goal
 
 pub returns-then-filled-eq0 : goal.returns-then-filled-eq0

@@ -1,11 +1,9 @@
 -- Invariant: the first i words are zero, and the rest is as at entry. The measure is the number of words left.
 use native.Mathlib.Omega.{arith}
-use Prim.Native.Nat.{◌≤◌, ◌-◌}
 use borrow.Author.Rules.{rules}
 use borrow.Author.Fill.{fill_none, fill_more}
 use mathlib.Core.Path.{◌≡◌}
-use mathlib.Core.List.{◌++◌}
-use lib.ListN.{length, drop, replicate, length-set}
+use lib.ListN.{length-set}
 use Rattle.heap.proofs.records.clear_words.Goals as goal
 
 pub loop-i-init : goal.loop-i-init

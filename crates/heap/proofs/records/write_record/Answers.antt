@@ -1,8 +1,5 @@
 -- The four header words set over n + 4 zeros are the new record; behind it the part is as it came.
-use native.Mathlib.Omega.{arith}
-use lib.ListN.{length-set}
 use Rattle.heap.proofs.Written.{record_written}
-use borrow.Author.Rules.{rules}
 use Rattle.heap.proofs.records.write_record.Goals as goal
 
 pub returns : goal.returns

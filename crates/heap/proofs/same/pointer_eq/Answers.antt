@@ -2,7 +2,6 @@
 use borrow.Author.Tests.{eq-eqb, ne_eqb}
 use Rattle.rules.specs.Barriers.{pointer_eq}
 use Rattle.heap.specs.View.{replica_is}
-use borrow.Author.Rules.{rules}
 use Rattle.heap.proofs.same.pointer_eq.Goals as goal
 
 pub returns-then-p-q : goal.returns-then-p-q

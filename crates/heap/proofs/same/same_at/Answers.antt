@@ -1,7 +1,6 @@
 -- By level: up to 4 the words compared, above it pointer_eq's answer.
 use borrow.Author.Tests.{le-leb, lt-leb}
 use Rattle.rules.specs.Barriers.{same_at}
-use borrow.Author.Rules.{rules}
 use Rattle.heap.proofs.same.same_at.Goals as goal
 
 pub returns-then-l-le4 : goal.returns-then-l-le4

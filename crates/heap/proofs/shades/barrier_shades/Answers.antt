@@ -1,6 +1,5 @@
 -- What shading the two references answers.
 use Rattle.rules.specs.Barriers.{barrier_shades}
-use borrow.Author.Rules.{rules}
 use Rattle.heap.proofs.shades.barrier_shades.Goals as goal
 
 pub returns : goal.returns

@@ -1,6 +1,5 @@
 -- No word is pending.
 use Rattle.heap.proofs.Laid.{laid_none}
-use borrow.Author.Rules.{rules}
 use Rattle.heap.proofs.shades.if_white.Goals as goal
 
 pub returns : goal.returns

@@ -1,8 +1,6 @@
 -- Null, a white record, or one of another colour.
-use mathlib.Core.Path.{sym}
 use borrow.Author.Tests.{eq-eqb, ne_eqb}
 use Rattle.rules.specs.Memory.{colour}
-use Rattle.heap.proofs.ToShade.{null-white}
 use Rattle.heap.proofs.shades.if_white_pending.Goals as goal
 
 pub returns-then-colour-eq-WHITE : goal.returns-then-colour-eq-WHITE

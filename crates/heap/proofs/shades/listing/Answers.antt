@@ -1,7 +1,6 @@
 -- Too little room is damage; else both records.
 use Rattle.heap.proofs.Shadings.{listing_full, listing-room}
 use Rattle.heap.specs.View.{heap}
-use borrow.Author.Rules.{rules}
 use Rattle.heap.proofs.shades.listing.Goals as goal
 
 pub returns-then-first-free : goal.returns-then-first-free

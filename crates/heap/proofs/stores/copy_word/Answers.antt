@@ -1,7 +1,6 @@
 -- Null without a replica; the replica's word, but at level 6 the own word.
-use borrow.Author.Tests.{eq-eqb, ne_eqb}
+use borrow.Author.Tests.{ne_eqb}
 use Rattle.heap.proofs.Levels.{one_word}
-use borrow.Author.Rules.{rules}
 use Rattle.heap.proofs.stores.copy_word.Goals as goal
 
 pub returns : goal.returns

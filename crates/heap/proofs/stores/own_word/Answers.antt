@@ -1,7 +1,6 @@
 -- By level: at 6 q forwarded; at 5 the other copy of q where v is in tospace and q in fromspace; else q.
 use borrow.Author.Tests.{eq-eqb, ne_eqb}
 use Rattle.rules.specs.Barriers.{own_word}
-use borrow.Author.Rules.{rules}
 use Rattle.heap.proofs.stores.own_word.Goals as goal
 
 pub returns-then-l-eq6 : goal.returns-then-l-eq6

@@ -4,7 +4,6 @@ use Rattle.heap.proofs.Answers.{word-passed, word-refused}
 use Rattle.heap.proofs.Laid.{laid_none}
 use Rattle.heap.proofs.Levels.{unshaded}
 use Rattle.rules.specs.Barriers.{put_writes}
-use borrow.Author.Rules.{rules}
 use Rattle.heap.proofs.stores.put_writes.Goals as goal
 
 pub returns-then-shades : goal.returns-then-shades

@@ -1,6 +1,5 @@
 -- No word is pending.
 use Rattle.heap.proofs.Laid.{laid_none}
-use borrow.Author.Rules.{rules}
 use Rattle.heap.proofs.stores.replica_for.Goals as goal
 
 pub returns : goal.returns

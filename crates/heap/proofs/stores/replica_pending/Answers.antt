@@ -2,7 +2,6 @@
 use borrow.Author.Tests.{le-leb, lt-leb}
 use Rattle.rules.specs.Memory.{replica}
 use Rattle.rules.specs.Barriers.{copies_at}
-use borrow.Author.Rules.{rules}
 use Rattle.heap.proofs.stores.replica_pending.Goals as goal
 
 pub returns-then-l-ge4 : goal.returns-then-l-ge4

@@ -2,7 +2,6 @@
 use borrow.Author.Tests.{eq-eqb, ne_eqb}
 use Rattle.rules.specs.Memory.{half_of}
 use Rattle.rules.specs.Barriers.{replica_word}
-use borrow.Author.Rules.{rules}
 use Rattle.heap.proofs.stores.replica_word.Goals as goal
 
 pub returns-then-l-ne5 : goal.returns-then-l-ne5

@@ -5,7 +5,6 @@ use Rattle.heap.proofs.Levels.{shades_low, own_itself}
 use Rattle.heap.proofs.Shadings.{first_record, second_record}
 use Rattle.heap.specs.Pending.{heap_with}
 use Rattle.rules.specs.Barriers.{put_writes}
-use borrow.Author.Rules.{rules}
 use Rattle.heap.proofs.stores.shading_writes.Goals as goal
 
 pub returns-in_default : goal.returns-in_default

@@ -1,6 +1,5 @@
 -- Without a replica one write. With one, two: the first keeps the lengths, so that the second still lies inside.
 use Rattle.heap.proofs.Halves.{inside_kept, put_one, put_two}
-use borrow.Author.Rules.{rules}
 use Rattle.heap.proofs.words.put_both.Goals as goal
 
 pub put_word-requires-then-t-ne0 : goal.put_word-requires-then-t-ne0

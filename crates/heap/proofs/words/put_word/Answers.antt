@@ -1,7 +1,6 @@
 -- By parity: the word set in half 0 or in half 1, within that half by the caller's bound.
 use native.Mathlib.Omega.{arith}
 use Rattle.heap.proofs.Halves.{put_low, put-high, below-low, below-high}
-use borrow.Author.Rules.{rules}
 use Rattle.heap.proofs.words.put_word.Goals as goal
 
 pub overflow_add-h0 : goal.overflow_add-h0

@@ -1,18 +1,15 @@
-use Rattle.std.proofs.Common.{rules, ◌≡◌, [], ◌∷◌, ◌+◌, ◌/◌, ◌%◌, ◌≤◌, ◌<◌, length, ℕ, ◌-◌, ◌*◌, Bool, true, false, nat_eq, nat_lt, List, ◌++◌, slice_index_or, slice_set, bit_and, bit_or, Fits, w8, w32, w64, Bor, MutBor}
-use Rattle.std.proofs.lemmas.List.Edits.{sets}
-use Rattle.rules.specs.Refusals.{number_of, value_of}
-use Rattle.rules.specs.Script.{digit, decimal, text_of}
-use Rattle.script.specs.Lines.{line, longest, version_refused, bad_version}
+-- The measure is the number: its tenth is less.
+use mathlib.Core.Path.{sym}
+use native.Mathlib.Omega.{arith}
+use borrow.Author.Rules.{rules}
+use Rattle.script.proofs.Digits.{one_long, decimal_longer, long64}
 use Rattle.script.proofs.lines.+count_digits.Goals as goal
 
--- src/lines.rt:16:9
 pub returns-then-n-lt10 : goal.returns-then-n-lt10
-returns-then-n-lt10 t c = ?
+returns-then-n-lt10 t c = sym (one_long c.if-n-lt10.true)
 
--- src/lines.rt:18:5
 pub overflow_add-result : goal.overflow_add-result
-overflow_add-result t c = ?
+overflow_add-result t c = omega (arith, long64 c.args.n (search rules), decimal_longer 1 c.if-n-lt10.false)
 
--- src/lines.rt:12:1
 pub returns : goal.returns
-returns t c = ?
+returns t c = omega (arith, decimal_longer 1 c.if-n-lt10.false)

@@ -1,12 +1,15 @@
 -- The comparisons up to ten digits; of more, ten and those before them.
 use mathlib.Core.Path.{sym}
+use Prim.Native.Nat.{◌^◌, ◌≤◌}
 use native.Mathlib.Omega.{arith}
 use Rattle.script.proofs.Digits.{one_long, decimal_long, decimal_longer, long64}
 use borrow.Author.Rules.{rules}
 use Rattle.script.proofs.lines.digits_of.Goals as goal
 
 pub overflow_add-result : goal.overflow_add-result
-overflow_add-result c = omega (arith, long64 c.args.n (search rules), decimal_longer 10 c.if-n-lt10000000000.false)
+overflow_add-result c =
+    let large : 10 ^ 10 ≤ c.args.n = omega arith in
+    omega (arith, long64 c.args.n (search rules), decimal_longer 10 large)
 
 pub returns-in-0-to-9 : goal.returns-in-0-to-9
 returns-in-0-to-9 c = sym (one_long (omega arith))
@@ -39,4 +42,6 @@ pub returns-in-1000000000-to-9999999999 : goal.returns-in-1000000000-to-99999999
 returns-in-1000000000-to-9999999999 c = sym (decimal_long 9 (omega arith) (omega arith))
 
 pub returns-in_default : goal.returns-in_default
-returns-in_default c = omega (arith, decimal_longer 10 c.if-n-lt10000000000.false)
+returns-in_default c =
+    let large : 10 ^ 10 ≤ c.args.n = omega arith in
+    omega (arith, decimal_longer 10 large)

@@ -1,7 +1,6 @@
 -- The tests as Bools.
 use Prim.Native.Nat.{◌-◌}
 use native.Mathlib.Omega.{arith}
-use borrow.Author.Rules.{rules}
 use borrow.Author.Tests.{lt-leb, le-leb, lt-ltb}
 use Rattle.script.specs.Window.{longest_entry, is_short}
 use Rattle.script.proofs.window.is_short.Goals as goal

@@ -1,6 +1,5 @@
 -- The tests as Bools.
 use native.Mathlib.Omega.{arith}
-use borrow.Author.Rules.{rules}
 use borrow.Author.Tests.{lt-ltb, le-ltb}
 use Rattle.script.specs.Window.{stop_of}
 use Rattle.script.proofs.window.stop_of.Goals as goal

@@ -3,7 +3,6 @@ use Prim.Native.Nat.{◌≤◌}
 use mathlib.Core.List.{[]}
 use native.Mathlib.Omega.{arith}
 use Rattle.store.proofs.allocation.Record.{below_at, other_small, fromspace-small, frontier-small, room_one, room_each, room-second, allocated-white, allocated-black, allocated_both}
-use borrow.Author.Rules.{rules}
 use Rattle.store.proofs.Control.allocated.Goals as goal
 
 pub placed-requires : goal.placed-requires
@@ -21,7 +20,7 @@ returns-then-level-le2 c = λ l. allocated-black _ _ _ _ c.if-level-le1.false c.
 pub reference-old-requires : goal.reference-old-requires
 reference-old-requires c =
     let from-small : c.fromspace-from.result ≤ 1 =
-        fromspace-small _ (c.fromspace-from.ensures [] [] []) c.requires.small.half in
+    fromspace-small _ (c.fromspace-from.ensures [] [] []) c.requires.small.half in
     let k = c.requires.small in
     (from-small, below_at (c.frontier.ensures [] []) (frontier-small [] [] _ _ _ k.low k.high))
 
@@ -33,13 +32,13 @@ reference-new-requires c =
 pub placed-first-requires : goal.placed-first-requires
 placed-first-requires c =
     let from-small : c.fromspace-from.result ≤ 1 =
-        fromspace-small _ (c.fromspace-from.ensures [] [] []) c.requires.small.half in
+    fromspace-small _ (c.fromspace-from.ensures [] [] []) c.requires.small.half in
     room_each _ _ _ _ _ _ c.requires c.if-level-le2.false _ from-small
 
 pub placed-requires-2 : goal.placed-requires-2
 placed-requires-2 c =
     let from-small : c.fromspace-from.result ≤ 1 =
-        fromspace-small _ (c.fromspace-from.ensures [] [] []) c.requires.small.half in
+    fromspace-small _ (c.fromspace-from.ensures [] [] []) c.requires.small.half in
     room-second _ _ _ _ _ _ _ _ _ _ _ _ from-small c.other_half-to.ensures
     (room_each _ _ _ _ _ _ c.requires c.if-level-le2.false _ (below_at c.other_half-to.ensures (other_small _)))
     (c.placed-first.ensures [])

@@ -1,7 +1,6 @@
 -- The reference of the frontier's word in the half that allocated_half answers.
 use mathlib.Core.List.{[]}
 use Rattle.store.proofs.allocation.Record.{below_at, frontier-small, given}
-use borrow.Author.Rules.{rules}
 use Rattle.store.proofs.Control.allocated_reference.Goals as goal
 
 pub reference-requires : goal.reference-requires

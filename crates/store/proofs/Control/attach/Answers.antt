@@ -2,7 +2,6 @@
 use native.Mathlib.Omega.{arith}
 use Rattle.rules.specs.Phases.{with_session, session_at}
 use Rattle.store.proofs.tests.Numbers.{attached-already, not_attachable, attachable}
-use borrow.Author.Rules.{rules}
 use Rattle.store.proofs.Control.attach.Goals as goal
 
 pub returns-then-refusal-eq0 : goal.returns-then-refusal-eq0

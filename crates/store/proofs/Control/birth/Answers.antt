@@ -3,7 +3,6 @@ use native.Mathlib.Omega.{arith}
 use Rattle.rules.specs.Memory.{birth_at, birth_number}
 use Rattle.rules.specs.Calls.{birth}
 use Rattle.store.proofs.tests.Opening.{record_away, record_here, record_head}
-use borrow.Author.Rules.{rules}
 use Rattle.store.proofs.Control.birth.Goals as goal
 
 pub get_word-birth-requires : goal.get_word-birth-requires

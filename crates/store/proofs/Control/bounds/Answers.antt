@@ -1,6 +1,5 @@
 -- By the contract of the cursor's bounds, of the store that the control record is the view of.
 use Rattle.store.specs.View.{view}
-use borrow.Author.Rules.{rules}
 use Rattle.store.proofs.Control.bounds.Goals as goal
 
 pub returns : goal.returns

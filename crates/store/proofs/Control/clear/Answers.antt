@@ -3,7 +3,6 @@ use native.Mathlib.Omega.{arith}
 use Rattle.rules.specs.Calls.{with_register}
 use Rattle.rules.specs.Phases.{with_session, session_at}
 use Rattle.store.proofs.tests.Numbers.{movable, not-cleared}
-use borrow.Author.Rules.{rules}
 use Rattle.store.proofs.Control.clear.Goals as goal
 
 pub bounds-self-i : goal.bounds-self-i

@@ -1,7 +1,6 @@
 -- The companion: the tests of the stretch, each with its number.
 use Rattle.rules.specs.Calls.{stretch}
 use Rattle.store.proofs.tests.Opening.{record_away, record_here}
-use borrow.Author.Rules.{rules}
 use Rattle.store.proofs.Control.companion.Goals as goal
 
 pub returns-in-Refusal : goal.returns-in-Refusal

@@ -3,7 +3,6 @@ use native.Mathlib.Omega.{arith}
 use Rattle.rules.specs.Phases.{with_session, session_at}
 use Rattle.rules.specs.Calls.{detach}
 use Rattle.store.proofs.tests.Numbers.{turned_away, let_in, known}
-use borrow.Author.Rules.{rules}
 use Rattle.store.proofs.Control.detach.Goals as goal
 
 pub returns-then-refusal-ne0 : goal.returns-then-refusal-ne0

@@ -1,9 +1,8 @@
 -- Get: refused with the number of the tests, or the register set to the global's word.
 use native.Mathlib.Omega.{arith}
-use Rattle.rules.specs.Calls.{with_register, get}
+use Rattle.rules.specs.Calls.{with_register}
 use Rattle.rules.specs.Phases.{with_session, session_at}
-use Rattle.store.proofs.tests.Numbers.{refused_by, gettable}
-use borrow.Author.Rules.{rules}
+use Rattle.store.proofs.tests.Numbers.{gettable}
 use Rattle.store.proofs.Control.get.Goals as goal
 
 pub bounds-self-i : goal.bounds-self-i

@@ -2,7 +2,6 @@
 use borrow.Author.Tests.{le-leb, lt-leb}
 use Rattle.rules.specs.Calls.{get}
 use Rattle.store.proofs.tests.Numbers.{turned_away, let_in}
-use borrow.Author.Rules.{rules}
 use Rattle.store.proofs.Control.get_tests.Goals as goal
 
 pub returns-then-refusal-ne0 : goal.returns-then-refusal-ne0

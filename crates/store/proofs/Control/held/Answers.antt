@@ -4,8 +4,7 @@ use lib.ListN.{get_or}
 use borrow.Author.Tests.{eq-eqb, ne_eqb}
 use Rattle.rules.specs.Phases.{register, session_at, absent}
 use Rattle.rules.specs.Calls.{operands_of}
-use Rattle.store.proofs.tests.Numbers.{turned_away, let_in, known, registers-out, registers_in, registers-known}
-use borrow.Author.Rules.{rules}
+use Rattle.store.proofs.tests.Numbers.{turned_away, let_in, known, registers-out, registers_in}
 use mathlib.Core.Bool.{not}
 use mathlib.Core.Path.{ap}
 use Rattle.store.proofs.Control.held.Goals as goal

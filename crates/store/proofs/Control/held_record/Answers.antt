@@ -1,6 +1,5 @@
 -- What the call needs of its session, where the record can be followed too.
 use Rattle.store.proofs.tests.Opening.{away, lent, unsound, opened}
-use borrow.Author.Rules.{rules}
 use Rattle.store.proofs.Control.held_record.Goals as goal
 
 pub returns-in-Refusal : goal.returns-in-Refusal

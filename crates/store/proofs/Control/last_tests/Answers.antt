@@ -1,8 +1,7 @@
 -- The tests in order: each path answers the number of the first that fails.
 use mathlib.Core.Path.{◌∙◌, sym}
-use borrow.Author.Tests.{not-true, not-false}
-use Rattle.store.proofs.allocation.Tests.{last_passed, last_no_number, last_no_room, last_past_share}
-use borrow.Author.Rules.{rules}
+use borrow.Author.Tests.{not-false}
+use Rattle.store.proofs.allocation.Tests.{last_passed, last_no_number}
 use mathlib.Core.Bool.{not}
 use mathlib.Core.Path.{ap}
 use Rattle.store.proofs.Control.last_tests.Goals as goal

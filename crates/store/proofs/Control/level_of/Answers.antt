@@ -1,6 +1,5 @@
 -- The table of levels is the rules' table.
 use Rattle.rules.specs.Cycle.{level_of}
-use borrow.Author.Rules.{rules}
 use Rattle.store.proofs.Control.level_of.Goals as goal
 
 pub returns : goal.returns

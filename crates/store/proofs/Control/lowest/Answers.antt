@@ -1,11 +1,6 @@
 -- Invariant: no session from the first up to i is looked for.
-use Prim.Native.Nat.{ℕ, ◌≤◌, ◌<◌, ◌-◌}
-use mathlib.Core.Path.{◌≡◌, ◌∙◌, sym}
-use mathlib.Core.Bool.{false}
+use mathlib.Core.Path.{◌∙◌, sym}
 use native.Mathlib.Omega.{arith}
-use lib.ListN.{length, get_or}
-use Rattle.rules.specs.Control.{session_count}
-use Rattle.rules.specs.Phases.{absent}
 use Rattle.store.specs.Searching.{is_wanted}
 use Rattle.store.proofs.session.Search.{none_more}
 use borrow.Author.Rules.{rules}

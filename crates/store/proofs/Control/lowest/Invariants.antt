@@ -1,13 +1,10 @@
 use Prim.Native.Nat.{ℕ, ◌≤◌, ◌<◌, ◌-◌}
-use mathlib.Core.Path.{◌≡◌, ◌∙◌, sym}
+use mathlib.Core.Path.{◌≡◌}
 use mathlib.Core.Bool.{false}
-use native.Mathlib.Omega.{arith}
 use lib.ListN.{length, get_or}
 use Rattle.rules.specs.Control.{session_count}
 use Rattle.rules.specs.Phases.{absent}
 use Rattle.store.specs.Searching.{is_wanted}
-use Rattle.store.proofs.session.Search.{none_more}
-use borrow.Author.Rules.{rules}
 use Rattle.store.proofs.Control.lowest.Given as goal
 
 abbrev pub invariant-loop-i : goal.invariant-loop-i

@@ -1,6 +1,5 @@
 -- Making: the fresh record with the lengths, or with 0 for each where a test failed.
 use Rattle.store.proofs.tests.Making.{unmade, made}
-use borrow.Author.Rules.{rules}
 use Rattle.store.proofs.Control.make.Goals as goal
 
 pub returns-then-refusal-ne0 : goal.returns-then-refusal-ne0

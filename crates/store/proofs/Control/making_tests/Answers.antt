@@ -3,7 +3,6 @@ use mathlib.Core.Bool.{◌&&◌, true}
 use mathlib.Core.Path.{◌≡◌}
 use borrow.Author.Tests.{not-true, not-false, eq-eqb, ne_eqb, le-leb, lt-leb}
 use Rattle.rules.specs.Control.{making, list_allowed}
-use borrow.Author.Rules.{rules}
 use mathlib.Core.Bool.{not}
 use mathlib.Core.Path.{ap}
 use Rattle.store.proofs.Control.making_tests.Goals as goal
@@ -16,14 +15,14 @@ pub returns-then-length0-length1 : goal.returns-then-length0-length1
 unfolding making list_allowed
 returns-then-length0-length1 c =
     let both : (c.half_allowed.result && c.half_allowed-2.result) ≡ true =
-        not-false _ (ap not c.if-not-allowed.false) in
+    not-false _ (ap not c.if-not-allowed.false) in
     rw (← c.half_allowed.ensures, ← c.half_allowed-2.ensures) (simp (both, ne_eqb _ _ c.if-length0-length1.true))
 
 pub returns-then-capacity-length0 : goal.returns-then-capacity-length0
 unfolding making list_allowed
 returns-then-capacity-length0 c =
     let both : (c.half_allowed.result && c.half_allowed-2.result) ≡ true =
-        not-false _ (ap not c.if-not-allowed.false) in
+    not-false _ (ap not c.if-not-allowed.false) in
     rw (
       ← c.half_allowed.ensures,
       ← c.half_allowed-2.ensures,
@@ -33,7 +32,7 @@ pub returns : goal.returns
 unfolding making list_allowed
 returns c =
     let both : (c.half_allowed.result && c.half_allowed-2.result) ≡ true =
-        not-false _ (ap not c.if-not-allowed.false) in
+    not-false _ (ap not c.if-not-allowed.false) in
     rw (
       ← c.half_allowed.ensures,
       ← c.half_allowed-2.ensures,

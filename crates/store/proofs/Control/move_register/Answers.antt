@@ -1,9 +1,8 @@
 -- Move: refused with the number of the tests, or the register set to the other's word.
 use native.Mathlib.Omega.{arith}
-use Rattle.rules.specs.Calls.{with_register, move}
+use Rattle.rules.specs.Calls.{with_register}
 use Rattle.rules.specs.Phases.{with_session, session_at, register}
-use Rattle.store.proofs.tests.Numbers.{refused_by, movable}
-use borrow.Author.Rules.{rules}
+use Rattle.store.proofs.tests.Numbers.{movable}
 use Rattle.store.proofs.Control.move_register.Goals as goal
 
 pub bounds-self-i : goal.bounds-self-i

@@ -1,7 +1,6 @@
 -- The tests in order: each path answers the number of the first that fails.
 use Rattle.rules.specs.Calls.{move}
 use Rattle.store.proofs.tests.Numbers.{turned_away, let_in}
-use borrow.Author.Rules.{rules}
 use Rattle.store.proofs.Control.move_tests.Goals as goal
 
 pub returns-then-refusal-ne0 : goal.returns-then-refusal-ne0

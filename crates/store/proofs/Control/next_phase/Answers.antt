@@ -1,6 +1,5 @@
 -- The table of followers is the rules' table.
 use Rattle.rules.specs.Cycle.{next_phase}
-use borrow.Author.Rules.{rules}
 use Rattle.store.proofs.Control.next_phase.Goals as goal
 
 pub returns : goal.returns

@@ -1,7 +1,5 @@
 -- The record written at the frontier, which moves past it.
-use native.Mathlib.Omega.{arith}
-use Rattle.store.proofs.allocation.Record.{room_at, below_at, placed_at}
-use borrow.Author.Rules.{rules}
+use Rattle.store.proofs.allocation.Record.{room_at, placed_at}
 use Rattle.store.proofs.Control.placed.Goals as goal
 
 pub append_record-requires : goal.append_record-requires

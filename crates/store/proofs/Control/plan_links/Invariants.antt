@@ -1,15 +1,9 @@
 use Prim.Native.Nat.{◌+◌, ◌-◌, ◌*◌, ◌≤◌}
-use mathlib.Core.Path.{◌≡◌, refl, sym, ap, ◌∙◌}
-use native.Mathlib.Omega.{arith}
-use lib.ListN.{length, take, drop, length-take}
-use Rattle.rules.specs.Refusals.{done}
-use Rattle.rules.specs.Calls.{most_links, store_each}
+use mathlib.Core.Path.{◌≡◌}
+use lib.ListN.{length, take, drop}
+use Rattle.rules.specs.Calls.{store_each}
 use Rattle.store.specs.View.{view}
 use Rattle.store.specs.Links.{link_numbers, link_entries, with_pending}
-use Rattle.rules.specs.declared.Link.{Link}
-use Rattle.store.proofs.shading.Phases.{unmapped}
-use Rattle.store.proofs.calls.Links.{pending_none, link-next, link-refused, each_on, each_refused, each_ended, ends_at, ends_refused}
-use borrow.Author.Rules.{rules}
 use Rattle.store.proofs.Control.plan_links.Given as goal
 
 abbrev pub invariant-loop-i : goal.invariant-loop-i

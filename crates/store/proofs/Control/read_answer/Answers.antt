@@ -1,8 +1,10 @@
--- What a read answers: the tests in order, then the field's word.
+-- What a read answers: the tests, then what its field holds.
+use mathlib.Core.Path.{◌∙◌, sym, ap}
 use Rattle.rules.specs.Calls.{read}
 use Rattle.store.specs.View.{view}
-use Rattle.store.proofs.tests.Opening.{Opened, away, lent, unsound, opened, plain_out, plain_in}
-use borrow.Author.Rules.{rules}
+use Rattle.store.specs.Plans.{tested, loading}
+use Rattle.store.proofs.tests.Opening.{away, lent}
+use Rattle.store.proofs.calls.Fields.{read-from}
 use Rattle.store.proofs.Control.read_answer.Goals as goal
 
 pub returns-in-Refusal : goal.returns-in-Refusal
@@ -10,24 +12,20 @@ unfolding read
 returns-in-Refusal c = rw (away _ _ _ _ c.held.ensures c.in-Refusal.is)
 
 pub word_in-word-requires : goal.word_in-word-requires
-word_in-word-requires c = ?
+word_in-word-requires c = lent _ _ _ _ c.held.ensures c.in-Operands.is
 
--- ?? unknown step follow ['ensures']
--- ?? unknown step enum_told ['given', '1']
 pub returns-in-Refusal-word : goal.returns-in-Refusal-word
-unfolding read
-returns-in-Refusal-word c = rw (unsound _ _ _ _ c.held.ensures c.in-Operands.is c.follow.ensures c.enum_told.given.1)
+returns-in-Refusal-word c =
+    let a = c.args in
+    rw (
+      read-from (view a.self a.h0.now a.h1.now a.list.now) a.s a.register a.field (sym c.held.ensures ∙ ap tested c.in-Operands.is),
+      sym c.word_in-word.ensures ∙ ap loading c.in-Refusal-word.is,
+    )
 
--- ?? unknown step r ['given', '0', '0']
--- ?? unknown step r ['given', '0', '1', '0']
--- ?? unknown step r ['given', '0', '1', '1', '0']
--- ?? unknown step follow ['ensures']
--- ?? unknown step r ['given', '1']
--- ?? unknown step if1 ['true']
 pub returns-in-Word : goal.returns-in-Word
-unfolding read
 returns-in-Word c =
-    let opening : let a = c.args in Opened (view a.self a.h0.now a.h1.now a.list.now) a.s a.register a.register c.in-Operands.operands c.r.given.0.0 c.r.given.0.1.0 c.r.given.0.1.1.0 =
-        opened _ _ _ _ c.held.ensures c.in-Operands.is c.follow.ensures c.r.given.1 in
-    let d = opening in
-    rw (d.tests, plain_out d _ c.if1.true)
+    let a = c.args in
+    rw (
+      read-from (view a.self a.h0.now a.h1.now a.list.now) a.s a.register a.field (sym c.held.ensures ∙ ap tested c.in-Operands.is),
+      sym c.word_in-word.ensures ∙ ap loading c.in-Word.is,
+    )

@@ -3,7 +3,6 @@ use native.Mathlib.Omega.{arith}
 use Rattle.rules.specs.Phases.{with_session, session_at}
 use Rattle.rules.specs.Calls.{safe_point}
 use Rattle.store.proofs.tests.Numbers.{turned_away, let_in, known}
-use borrow.Author.Rules.{rules}
 use Rattle.store.proofs.Control.safe_point.Goals as goal
 
 pub returns-then-refusal-ne0 : goal.returns-then-refusal-ne0

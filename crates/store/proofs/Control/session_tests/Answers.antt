@@ -4,7 +4,6 @@ use borrow.Author.Tests.{lt-leb, le-leb}
 use Rattle.rules.specs.Phases.{session_at}
 use Rattle.rules.specs.Calls.{session_of}
 use Rattle.store.proofs.tests.Flags.{yes, no}
-use borrow.Author.Rules.{rules}
 use mathlib.Core.Bool.{not}
 use mathlib.Core.Path.{ap}
 use Rattle.store.proofs.Control.session_tests.Goals as goal

@@ -1,10 +1,7 @@
 -- Invariant: below i nothing is charged to a session, and with all charges cleared the sessions are those without a mark.
-use Prim.Native.Nat.{ℕ, ◌≤◌, ◌<◌, ◌-◌}
-use mathlib.Core.Path.{◌≡◌, ◌∙◌, refl, sym}
+use mathlib.Core.Path.{◌∙◌, refl, sym}
 use native.Mathlib.Omega.{arith}
-use lib.ListN.{length, length-set, get_or}
-use Rattle.rules.specs.Control.{session_count}
-use Rattle.rules.specs.Phases.{absent, with_charge, uncharged}
+use lib.ListN.{length-set}
 use Rattle.store.proofs.session.Search.{uncharged-same, uncharged-more, none_charged}
 use borrow.Author.Rules.{rules}
 use Rattle.store.proofs.Control.uncharged.Goals as goal

@@ -1,11 +1,8 @@
 use Prim.Native.Nat.{ℕ, ◌≤◌, ◌<◌, ◌-◌}
-use mathlib.Core.Path.{◌≡◌, ◌∙◌, refl, sym}
-use native.Mathlib.Omega.{arith}
-use lib.ListN.{length, length-set, get_or}
+use mathlib.Core.Path.{◌≡◌}
+use lib.ListN.{length, get_or}
 use Rattle.rules.specs.Control.{session_count}
 use Rattle.rules.specs.Phases.{absent, with_charge, uncharged}
-use Rattle.store.proofs.session.Search.{uncharged-same, uncharged-more, none_charged}
-use borrow.Author.Rules.{rules}
 use Rattle.store.proofs.Control.uncharged.Given as goal
 
 abbrev pub invariant-loop-i : goal.invariant-loop-i

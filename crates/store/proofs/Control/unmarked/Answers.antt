@@ -1,12 +1,7 @@
 -- Invariant: no session below i has a mark, and with all marks cleared the sessions are those at entry.
-use Prim.Native.Nat.{ℕ, ◌≤◌, ◌<◌, ◌-◌}
-use mathlib.Core.Path.{◌≡◌, ◌∙◌, refl, sym}
-use mathlib.Core.Bool.{false}
+use mathlib.Core.Path.{◌∙◌, refl, sym}
 use native.Mathlib.Omega.{arith}
-use lib.ListN.{length, get_or}
-use Rattle.rules.specs.Control.{session_count}
-use Rattle.rules.specs.Phases.{absent, unmarked}
-use Rattle.store.proofs.session.Search.{cleared-length, cleared-same, found_later, none_before, none_marked}
+use Rattle.store.proofs.session.Search.{cleared-length, cleared-same, none_before, none_marked}
 use borrow.Author.Rules.{rules}
 use Rattle.store.proofs.Control.unmarked.Goals as goal
 

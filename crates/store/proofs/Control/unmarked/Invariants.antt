@@ -1,12 +1,9 @@
 use Prim.Native.Nat.{ℕ, ◌≤◌, ◌<◌, ◌-◌}
-use mathlib.Core.Path.{◌≡◌, ◌∙◌, refl, sym}
+use mathlib.Core.Path.{◌≡◌}
 use mathlib.Core.Bool.{false}
-use native.Mathlib.Omega.{arith}
 use lib.ListN.{length, get_or}
 use Rattle.rules.specs.Control.{session_count}
 use Rattle.rules.specs.Phases.{absent, unmarked}
-use Rattle.store.proofs.session.Search.{cleared-length, cleared-same, found_later, none_before, none_marked}
-use borrow.Author.Rules.{rules}
 use Rattle.store.proofs.Control.unmarked.Given as goal
 
 abbrev pub invariant-loop-i : goal.invariant-loop-i

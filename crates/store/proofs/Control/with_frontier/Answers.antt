@@ -1,6 +1,5 @@
 -- The collector's numbers by the contract of the cursor's with_frontier; all else stays.
 use Rattle.rules.specs.Memory.{with_frontier}
-use borrow.Author.Rules.{rules}
 use Rattle.store.proofs.Control.with_frontier.Goals as goal
 
 pub returns : goal.returns

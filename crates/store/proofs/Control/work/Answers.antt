@@ -13,7 +13,6 @@ use Rattle.rules.proofs.Ranges.{InRange, in_range_lem}
 use Rattle.store.specs.View.{view}
 use Rattle.store.proofs.collector.Numbers.{ready, ends}
 use Rattle.store.proofs.collector.Step.{waits, step-refused, step-done, step_waits}
-use borrow.Author.Rules.{rules}
 use Rattle.store.proofs.Control.work.Goals as goal
 
 module _ {A : Type 0} (x : A) where
@@ -45,141 +44,139 @@ returns-then-refusal-eq4 c =
 pub root_mark-requires : goal.root_mark-requires
 root_mark-requires c =
     let tested : in_range (view c.args.self c.args.h0.now c.args.h1.now c.args.list.now) ≡ true =
-        within _ 0 c.session_tests-refusal.ensures c.if-refusal-eq4.false in
+    within _ 0 c.session_tests-refusal.ensures c.if-refusal-eq4.false in
     let known : InRange (view c.args.self c.args.h0.now c.args.h1.now c.args.list.now) =
-        in_range_lem _ tested in
+    in_range_lem _ tested in
     let k = known in
     (ready _ k, ends _ k)
 
 pub heap_mark-requires : goal.heap_mark-requires
 heap_mark-requires c =
     let tested : in_range (view c.args.self c.args.h0.now c.args.h1.now c.args.list.now) ≡ true =
-        within _ 0 c.session_tests-refusal.ensures c.if-refusal-eq4.false in
+    within _ 0 c.session_tests-refusal.ensures c.if-refusal-eq4.false in
     let known : InRange (view c.args.self c.args.h0.now c.args.h1.now c.args.list.now) =
-        in_range_lem _ tested in
+    in_range_lem _ tested in
     let k = known in
     (ready _ k, ends _ k)
 
 pub allocate_shells-requires : goal.allocate_shells-requires
 allocate_shells-requires c =
     let tested : in_range (view c.args.self c.args.h0.now c.args.h1.now c.args.list.now) ≡ true =
-        within _ 0 c.session_tests-refusal.ensures c.if-refusal-eq4.false in
+    within _ 0 c.session_tests-refusal.ensures c.if-refusal-eq4.false in
     let known : InRange (view c.args.self c.args.h0.now c.args.h1.now c.args.list.now) =
-        in_range_lem _ tested in
+    in_range_lem _ tested in
     ready _ known
 
 pub copy-requires : goal.copy-requires
 copy-requires c =
     let tested : in_range (view c.args.self c.args.h0.now c.args.h1.now c.args.list.now) ≡ true =
-        within _ 0 c.session_tests-refusal.ensures c.if-refusal-eq4.false in
+    within _ 0 c.session_tests-refusal.ensures c.if-refusal-eq4.false in
     let known : InRange (view c.args.self c.args.h0.now c.args.h1.now c.args.list.now) =
-        in_range_lem _ tested in
+    in_range_lem _ tested in
     ready _ known
 
 pub root_flip-requires : goal.root_flip-requires
 root_flip-requires c =
     let tested : in_range (view c.args.self c.args.h0.now c.args.h1.now c.args.list.now) ≡ true =
-        within _ 0 c.session_tests-refusal.ensures c.if-refusal-eq4.false in
+    within _ 0 c.session_tests-refusal.ensures c.if-refusal-eq4.false in
     let known : InRange (view c.args.self c.args.h0.now c.args.h1.now c.args.list.now) =
-        in_range_lem _ tested in
+    in_range_lem _ tested in
     ready _ known
 
 pub stack_flip-requires : goal.stack_flip-requires
 stack_flip-requires c =
     let tested : in_range (view c.args.self c.args.h0.now c.args.h1.now c.args.list.now) ≡ true =
-        within _ 0 c.session_tests-refusal.ensures c.if-refusal-eq4.false in
+    within _ 0 c.session_tests-refusal.ensures c.if-refusal-eq4.false in
     let known : InRange (view c.args.self c.args.h0.now c.args.h1.now c.args.list.now) =
-        in_range_lem _ tested in
+    in_range_lem _ tested in
     ready _ known
 
 pub reclaim-requires : goal.reclaim-requires
 reclaim-requires c =
     let tested : in_range (view c.args.self c.args.h0.now c.args.h1.now c.args.list.now) ≡ true =
-        within _ 0 c.session_tests-refusal.ensures c.if-refusal-eq4.false in
+    within _ 0 c.session_tests-refusal.ensures c.if-refusal-eq4.false in
     let known : InRange (view c.args.self c.args.h0.now c.args.h1.now c.args.list.now) =
-        in_range_lem _ tested in
+    in_range_lem _ tested in
     ready _ known
 
 pub have_level-ready-requires-in_default : goal.have_level-ready-requires-in_default
 have_level-ready-requires-in_default c =
     let tested : in_range (view c.args.self c.args.h0.now c.args.h1.now c.args.list.now) ≡ true =
-        within _ 0 c.session_tests-refusal.ensures c.if-refusal-eq4.false in
+    within _ 0 c.session_tests-refusal.ensures c.if-refusal-eq4.false in
     let known : InRange (view c.args.self c.args.h0.now c.args.h1.now c.args.list.now) =
-        in_range_lem _ tested in
+    in_range_lem _ tested in
     known.phases
 
 pub handshake-requires : goal.handshake-requires
 handshake-requires c =
     let tested : in_range (view c.args.self c.args.h0.now c.args.h1.now c.args.list.now) ≡ true =
-        within _ 0 c.session_tests-refusal.ensures c.if-refusal-eq4.false in
+    within _ 0 c.session_tests-refusal.ensures c.if-refusal-eq4.false in
     let known : InRange (view c.args.self c.args.h0.now c.args.h1.now c.args.list.now) =
-        in_range_lem _ tested in
+    in_range_lem _ tested in
     known.phases
 
 pub returns-in-0 : goal.returns-in-0
 returns-in-0 c =
     let tested : in_range (view c.args.self c.args.h0.now c.args.h1.now c.args.list.now) ≡ true =
-        within _ 0 c.session_tests-refusal.ensures c.if-refusal-eq4.false in
+    within _ 0 c.session_tests-refusal.ensures c.if-refusal-eq4.false in
     let s = (view c.args.self c.args.h0.now c.args.h1.now c.args.list.now) in
     step-done s tested at_rest c.in-0.is (c.rest.ensures s s.memory.half0 s.memory.half1 s.list.words)
 
 pub returns-in-3 : goal.returns-in-3
 returns-in-3 c =
     let tested : in_range (view c.args.self c.args.h0.now c.args.h1.now c.args.list.now) ≡ true =
-        within _ 0 c.session_tests-refusal.ensures c.if-refusal-eq4.false in
+    within _ 0 c.session_tests-refusal.ensures c.if-refusal-eq4.false in
     let s = (view c.args.self c.args.h0.now c.args.h1.now c.args.list.now) in
     step-done s tested at_root_mark c.in-3.is (c.root_mark.ensures s refl)
 
 pub returns-in-4 : goal.returns-in-4
 returns-in-4 c =
     let tested : in_range (view c.args.self c.args.h0.now c.args.h1.now c.args.list.now) ≡ true =
-        within _ 0 c.session_tests-refusal.ensures c.if-refusal-eq4.false in
+    within _ 0 c.session_tests-refusal.ensures c.if-refusal-eq4.false in
     let s = (view c.args.self c.args.h0.now c.args.h1.now c.args.list.now) in
     step-done s tested at_heap_mark c.in-4.is (c.heap_mark.ensures s refl)
 
 pub returns-in-5 : goal.returns-in-5
 returns-in-5 c =
     let tested : in_range (view c.args.self c.args.h0.now c.args.h1.now c.args.list.now) ≡ true =
-        within _ 0 c.session_tests-refusal.ensures c.if-refusal-eq4.false in
+    within _ 0 c.session_tests-refusal.ensures c.if-refusal-eq4.false in
     let s = (view c.args.self c.args.h0.now c.args.h1.now c.args.list.now) in
     step-done s tested at_allocate c.in-5.is (c.allocate_shells.ensures s s.list.words (c.have_level-ready.ensures s.memory.half0 s.memory.half1 s.list.words))
 
 pub returns-in-7 : goal.returns-in-7
 returns-in-7 c =
     let tested : in_range (view c.args.self c.args.h0.now c.args.h1.now c.args.list.now) ≡ true =
-        within _ 0 c.session_tests-refusal.ensures c.if-refusal-eq4.false in
+    within _ 0 c.session_tests-refusal.ensures c.if-refusal-eq4.false in
     let s = (view c.args.self c.args.h0.now c.args.h1.now c.args.list.now) in
     step-done s tested at_copy c.in-7.is (c.copy.ensures s s.list.words)
 
 pub returns-in-10 : goal.returns-in-10
 returns-in-10 c =
     let tested : in_range (view c.args.self c.args.h0.now c.args.h1.now c.args.list.now) ≡ true =
-        within _ 0 c.session_tests-refusal.ensures c.if-refusal-eq4.false in
+    within _ 0 c.session_tests-refusal.ensures c.if-refusal-eq4.false in
     let s = (view c.args.self c.args.h0.now c.args.h1.now c.args.list.now) in
     step-done s tested at_root_flip c.in-10.is (c.root_flip.ensures s s.list.words refl)
 
 pub returns-in-11 : goal.returns-in-11
 returns-in-11 c =
     let tested : in_range (view c.args.self c.args.h0.now c.args.h1.now c.args.list.now) ≡ true =
-        within _ 0 c.session_tests-refusal.ensures c.if-refusal-eq4.false in
+    within _ 0 c.session_tests-refusal.ensures c.if-refusal-eq4.false in
     let s = (view c.args.self c.args.h0.now c.args.h1.now c.args.list.now) in
     step-done s tested at_stack_flip c.in-11.is (c.stack_flip.ensures s s.list.words refl)
 
 pub returns-in-12 : goal.returns-in-12
 returns-in-12 c =
     let tested : in_range (view c.args.self c.args.h0.now c.args.h1.now c.args.list.now) ≡ true =
-        within _ 0 c.session_tests-refusal.ensures c.if-refusal-eq4.false in
+    within _ 0 c.session_tests-refusal.ensures c.if-refusal-eq4.false in
     let s = (view c.args.self c.args.h0.now c.args.h1.now c.args.list.now) in
     step-done s tested at_reclaim c.in-12.is (c.reclaim.ensures s s.list.words (c.have_level-ready-in-12.ensures s.memory.half0 s.memory.half1 s.list.words))
 
--- ?? match: ['in-0', 'in-3', 'in-4', 'in-5', 'in-7', 'in-10', 'in-11', 'in-12', 'in_default']
 pub returns-in_default : goal.returns-in_default
 returns-in_default c =
     let tested : in_range (view c.args.self c.args.h0.now c.args.h1.now c.args.list.now) ≡ true =
-        within _ 0 c.session_tests-refusal.ensures c.if-refusal-eq4.false in
+    within _ 0 c.session_tests-refusal.ensures c.if-refusal-eq4.false in
     let s = (view c.args.self c.args.h0.now c.args.h1.now c.args.list.now) in
-    let r = c.in-0.rest in
-    let n = waits s.phase r.0.0.0.0.0.0.0.1 r.0.0.0.0.0.0.1 r.0.0.0.0.0.1 r.0.0.0.0.1
-    r.0.0.0.1 r.0.0.1 r.0.1 r.1 in
+    let n = waits s.phase (λ e. omega (arith, e)) (λ e. omega (arith, e)) (λ e. omega (arith, e)) (λ e. omega (arith, e))
+    (λ e. omega (arith, e)) (λ e. omega (arith, e)) (λ e. omega (arith, e)) (λ e. omega (arith, e)) in
     step_waits s tested n
     (c.handshake.ensures s s.memory.half0 s.memory.half1 s.list.words (c.have_level-ready-in_default.ensures s.memory.half0 s.memory.half1 s.list.words))

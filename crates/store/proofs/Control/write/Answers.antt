@@ -1,7 +1,5 @@
 -- Write: the tests, then the words written.
-use Prim.Native.Nat.{ℕ}
 use Rattle.store.proofs.calls.Write.{unwritten, writable, written}
-use borrow.Author.Rules.{rules}
 use Rattle.store.proofs.Control.write.Goals as goal
 
 pub put_both-requires : goal.put_both-requires

@@ -7,7 +7,6 @@ use Rattle.store.proofs.tests.Flags.{no, yes}
 use Rattle.store.proofs.collector.Numbers.{goes, shells}
 use Rattle.store.proofs.collector.Walk.{AtWalk, AtRecord, at_walk, at_record, header_of, past}
 use Rattle.store.proofs.collector.Shells.{AtShell, front-small, shell_ready, shells_done, shells_lost, shells_passed, shells_full, shells_made}
-use borrow.Author.Rules.{rules}
 use mathlib.Core.Bool.{not}
 use mathlib.Core.Path.{ap}
 use Rattle.store.proofs.Cursor.allocate_shells.Goals as goal
@@ -18,43 +17,43 @@ returns-then-not-below c = λ s l e. shells_done _ (no (c.below-below.ensures s 
 pub returns-in_default : goal.returns-in_default
 returns-in_default c =
     let walk : let a = c.args in AtWalk a.self a.h0.now a.h1.now c.walked-v.result =
-        at_walk c.requires c.below-below.ensures (ap not c.if-not-below.false) c.walked-v.ensures in
+    at_walk c.requires c.below-below.ensures (ap not c.if-not-below.false) c.walked-v.ensures in
     λ s l e. shells_lost s l walk (lost _ _ c.follow.ensures c.in_default.is)
 
 pub needs_shell-needed-requires : goal.needs_shell-needed-requires
 needs_shell-needed-requires c =
     let walk : let a = c.args in AtWalk a.self a.h0.now a.h1.now c.walked-v.result =
-        at_walk c.requires c.below-below.ensures (ap not c.if-not-below.false) c.walked-v.ensures in
+    at_walk c.requires c.below-below.ensures (ap not c.if-not-below.false) c.walked-v.ensures in
     let known : let a = c.args in AtRecord a.self a.h0.now a.h1.now c.walked-v.result c.in-Sound.field-0 c.in-Sound.r c.in-Sound.p =
-        at_record walk c.follow.ensures c.in-Sound.is in
+    at_record walk c.follow.ensures c.in-Sound.is in
     let k = known in
     (header_of k colour_at (omega arith), header_of k replica_at (omega arith))
 
 pub past_record-requires : goal.past_record-requires
 past_record-requires c =
     let walk : let a = c.args in AtWalk a.self a.h0.now a.h1.now c.walked-v.result =
-        at_walk c.requires c.below-below.ensures (ap not c.if-not-below.false) c.walked-v.ensures in
+    at_walk c.requires c.below-below.ensures (ap not c.if-not-below.false) c.walked-v.ensures in
     let known : let a = c.args in AtRecord a.self a.h0.now a.h1.now c.walked-v.result c.in-Sound.field-0 c.in-Sound.r c.in-Sound.p =
-        at_record walk c.follow.ensures c.in-Sound.is in
+    at_record walk c.follow.ensures c.in-Sound.is in
     past known
 
 pub returns-then-not-needed : goal.returns-then-not-needed
 returns-then-not-needed c =
     let walk : let a = c.args in AtWalk a.self a.h0.now a.h1.now c.walked-v.result =
-        at_walk c.requires c.below-below.ensures (ap not c.if-not-below.false) c.walked-v.ensures in
+    at_walk c.requires c.below-below.ensures (ap not c.if-not-below.false) c.walked-v.ensures in
     let known : let a = c.args in AtRecord a.self a.h0.now a.h1.now c.walked-v.result c.in-Sound.field-0 c.in-Sound.r c.in-Sound.p =
-        at_record walk c.follow.ensures c.in-Sound.is in
+    at_record walk c.follow.ensures c.in-Sound.is in
     λ s l e. goes _ c.past_record.ensures
     (shells_passed s l known (no (c.needs_shell-needed.ensures _ _) (ap not c.if-not-needed.true)))
 
 pub overflow_add-at : goal.overflow_add-at
 overflow_add-at c =
     let walk : let a = c.args in AtWalk a.self a.h0.now a.h1.now c.walked-v.result =
-        at_walk c.requires c.below-below.ensures (ap not c.if-not-below.false) c.walked-v.ensures in
+    at_walk c.requires c.below-below.ensures (ap not c.if-not-below.false) c.walked-v.ensures in
     let known : let a = c.args in AtRecord a.self a.h0.now a.h1.now c.walked-v.result c.in-Sound.field-0 c.in-Sound.r c.in-Sound.p =
-        at_record walk c.follow.ensures c.in-Sound.is in
+    at_record walk c.follow.ensures c.in-Sound.is in
     let shell : let a = c.args in AtShell a.self a.h0.now a.h1.now c.walked-v.result c.in-Sound.field-0 c.in-Sound.r c.in-Sound.p c.other_half-other.result c.frontier-at.result =
-        record {
+    record {
       here = known;
       needed = yes (c.needs_shell-needed.ensures _ _) (ap not c.if-not-needed.false);
       other = c.other_half-other.ensures;
@@ -66,11 +65,11 @@ overflow_add-at c =
 pub returns-then-h0-at : goal.returns-then-h0-at
 returns-then-h0-at c =
     let walk : let a = c.args in AtWalk a.self a.h0.now a.h1.now c.walked-v.result =
-        at_walk c.requires c.below-below.ensures (ap not c.if-not-below.false) c.walked-v.ensures in
+    at_walk c.requires c.below-below.ensures (ap not c.if-not-below.false) c.walked-v.ensures in
     let known : let a = c.args in AtRecord a.self a.h0.now a.h1.now c.walked-v.result c.in-Sound.field-0 c.in-Sound.r c.in-Sound.p =
-        at_record walk c.follow.ensures c.in-Sound.is in
+    at_record walk c.follow.ensures c.in-Sound.is in
     let shell : let a = c.args in AtShell a.self a.h0.now a.h1.now c.walked-v.result c.in-Sound.field-0 c.in-Sound.r c.in-Sound.p c.other_half-other.result c.frontier-at.result =
-        record {
+    record {
       here = known;
       needed = yes (c.needs_shell-needed.ensures _ _) (ap not c.if-not-needed.false);
       other = c.other_half-other.ensures;
@@ -81,11 +80,11 @@ returns-then-h0-at c =
 pub put_shell-requires : goal.put_shell-requires
 put_shell-requires c =
     let walk : let a = c.args in AtWalk a.self a.h0.now a.h1.now c.walked-v.result =
-        at_walk c.requires c.below-below.ensures (ap not c.if-not-below.false) c.walked-v.ensures in
+    at_walk c.requires c.below-below.ensures (ap not c.if-not-below.false) c.walked-v.ensures in
     let known : let a = c.args in AtRecord a.self a.h0.now a.h1.now c.walked-v.result c.in-Sound.field-0 c.in-Sound.r c.in-Sound.p =
-        at_record walk c.follow.ensures c.in-Sound.is in
+    at_record walk c.follow.ensures c.in-Sound.is in
     let shell : let a = c.args in AtShell a.self a.h0.now a.h1.now c.walked-v.result c.in-Sound.field-0 c.in-Sound.r c.in-Sound.p c.other_half-other.result c.frontier-at.result =
-        record {
+    record {
       here = known;
       needed = yes (c.needs_shell-needed.ensures _ _) (ap not c.if-not-needed.false);
       other = c.other_half-other.ensures;
@@ -96,11 +95,11 @@ put_shell-requires c =
 pub past_record-requires-2 : goal.past_record-requires-2
 past_record-requires-2 c =
     let walk : let a = c.args in AtWalk a.self a.h0.now a.h1.now c.walked-v.result =
-        at_walk c.requires c.below-below.ensures (ap not c.if-not-below.false) c.walked-v.ensures in
+    at_walk c.requires c.below-below.ensures (ap not c.if-not-below.false) c.walked-v.ensures in
     let known : let a = c.args in AtRecord a.self a.h0.now a.h1.now c.walked-v.result c.in-Sound.field-0 c.in-Sound.r c.in-Sound.p =
-        at_record walk c.follow.ensures c.in-Sound.is in
+    at_record walk c.follow.ensures c.in-Sound.is in
     let shell : let a = c.args in AtShell a.self a.h0.now a.h1.now c.walked-v.result c.in-Sound.field-0 c.in-Sound.r c.in-Sound.p c.other_half-other.result c.frontier-at.result =
-        record {
+    record {
       here = known;
       needed = yes (c.needs_shell-needed.ensures _ _) (ap not c.if-not-needed.false);
       other = c.other_half-other.ensures;
@@ -111,11 +110,11 @@ past_record-requires-2 c =
 pub returns : goal.returns
 returns c =
     let walk : let a = c.args in AtWalk a.self a.h0.now a.h1.now c.walked-v.result =
-        at_walk c.requires c.below-below.ensures (ap not c.if-not-below.false) c.walked-v.ensures in
+    at_walk c.requires c.below-below.ensures (ap not c.if-not-below.false) c.walked-v.ensures in
     let known : let a = c.args in AtRecord a.self a.h0.now a.h1.now c.walked-v.result c.in-Sound.field-0 c.in-Sound.r c.in-Sound.p =
-        at_record walk c.follow.ensures c.in-Sound.is in
+    at_record walk c.follow.ensures c.in-Sound.is in
     let shell : let a = c.args in AtShell a.self a.h0.now a.h1.now c.walked-v.result c.in-Sound.field-0 c.in-Sound.r c.in-Sound.p c.other_half-other.result c.frontier-at.result =
-        record {
+    record {
       here = known;
       needed = yes (c.needs_shell-needed.ensures _ _) (ap not c.if-not-needed.false);
       other = c.other_half-other.ensures;

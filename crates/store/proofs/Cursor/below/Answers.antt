@@ -1,6 +1,5 @@
 -- The walk place against the frontier.
 use Rattle.rules.specs.Collector.{below}
-use borrow.Author.Rules.{rules}
 use Rattle.store.proofs.Cursor.below.Goals as goal
 
 pub returns : goal.returns

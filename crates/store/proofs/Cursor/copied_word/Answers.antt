@@ -1,9 +1,8 @@
 -- A plain field as it is, a reference forwarded.
 use mathlib.Core.Path.{sym, refl}
 use native.Mathlib.Omega.{arith}
-use borrow.Author.Tests.{lt-ltb, le-ltb}
+use borrow.Author.Tests.{lt-ltb}
 use Rattle.store.proofs.collector.Numbers.{bounds_within, forward_by}
-use borrow.Author.Rules.{rules}
 use Rattle.store.proofs.Cursor.copied_word.Goals as goal
 
 pub forward-requires : goal.forward-requires

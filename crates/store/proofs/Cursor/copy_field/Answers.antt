@@ -4,7 +4,6 @@ use Rattle.heap.specs.View.{checked}
 use Rattle.store.specs.Cursors.{having}
 use Rattle.store.proofs.collector.Numbers.{goes}
 use Rattle.store.proofs.collector.Copy.{copy_follows, field-here, field_there, field_lost, field_copied}
-use borrow.Author.Rules.{rules}
 use Rattle.store.proofs.Cursor.copy_field.Goals as goal
 
 pub get_word-x-requires : goal.get_word-x-requires

@@ -1,21 +1,17 @@
-use Rattle.std.proofs.Common.{rules, ◌≡◌, ◌≤◌, length, ℕ, ◌+◌, ◌-◌, ◌*◌, ◌<◌, ◌/◌, ◌%◌, Bool, true, false, nat_eq, nat_lt, List, [], ◌∷◌, ◌++◌, slice_index_or, slice_set, bit_and, bit_or, Fits, w8, w32, w64, Bor, MutBor}
-use Rattle.rules.specs.Refusals.{refusal_of}
-use Rattle.rules.specs.Calls.{load_plan}
-use Rattle.rules.specs.Runs.{apply, Load, Read}
-use Rattle.heap.specs.View.{memory}
-use Rattle.store.specs.View.{view, outcome}
-use Rattle.store.specs.Plans.{loading}
-use Rattle.store.specs.Fields.{named, reference_in, word_in, field_reference, field_word}
+-- The tests before it, and then the field.
+use Rattle.store.specs.Fields.{field_reference}
+use Rattle.store.proofs.calls.Fields.{unnamed, is-named}
 use Rattle.store.proofs.Cursor.field_reference.Goals as goal
 
--- src/fields.rt:82:13
 pub returns-then-refusal-ne0 : goal.returns-then-refusal-ne0
-returns-then-refusal-ne0 c = ?
+unfolding field_reference
+returns-then-refusal-ne0 c = rw (unnamed _ _ c.reference_tests-refusal.ensures c.if-refusal-ne0.true)
 
--- src/fields.rt:84:9
 pub reference_in-requires : goal.reference_in-requires
-reference_in-requires c = ?
+reference_in-requires c =
+    let k = is-named _ _ c.reference_tests-refusal.ensures c.if-refusal-ne0.false in
+    (k.low, k.high)
 
--- src/fields.rt:77:5
 pub returns : goal.returns
-returns c = ?
+unfolding field_reference
+returns c = rw (is-named _ _ c.reference_tests-refusal.ensures c.if-refusal-ne0.false).passes c.reference_in.ensures

@@ -1,7 +1,6 @@
 -- Fromspace by phase and current half.
 use borrow.Author.Tests.{eq-eqb, ne_eqb}
 use Rattle.rules.specs.Phases.{fromspace}
-use borrow.Author.Rules.{rules}
 use Rattle.store.proofs.Cursor.fromspace.Goals as goal
 
 pub returns-then-self-eq-RECLAIM : goal.returns-then-self-eq-RECLAIM

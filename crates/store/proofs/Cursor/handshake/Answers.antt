@@ -2,7 +2,6 @@
 use mathlib.Core.Path.{◌∙◌, sym}
 use Rattle.rules.specs.Phases.{move_on}
 use Rattle.rules.specs.Collector.{handshake}
-use borrow.Author.Rules.{rules}
 use Rattle.store.proofs.Cursor.handshake.Goals as goal
 
 pub returns-then-ready : goal.returns-then-ready

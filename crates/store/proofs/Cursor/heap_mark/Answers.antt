@@ -21,9 +21,9 @@ returns-then-head-self c =
 pub returns-then-n-lt-SESSIONS : goal.returns-then-n-lt-SESSIONS
 returns-then-n-lt-SESSIONS c =
     let count : length c.args.sessions ≡ session_count =
-        search (rules, unmapped) in
+    search (rules, unmapped) in
     let next : (s : Store) → c.args.sessions ≡ s.sessions → (c.lowest-n.result ≡ lowest_unmarked s.sessions) × (length s.sessions ≡ session_count) =
-        λ s e. lowest_of_lem c.args.sessions s.sessions e count c.lowest-n.ensures in
+    λ s e. lowest_of_lem c.args.sessions s.sessions e count c.lowest-n.ensures in
     let a = c.args in
     let i = c.lowest-n.result in
     λ s e.
@@ -34,9 +34,9 @@ returns-then-n-lt-SESSIONS c =
 pub returns : goal.returns
 returns c =
     let count : length c.args.sessions ≡ session_count =
-        search (rules, unmapped) in
+    search (rules, unmapped) in
     let next : (s : Store) → c.args.sessions ≡ s.sessions → (c.lowest-n.result ≡ lowest_unmarked s.sessions) × (length s.sessions ≡ session_count) =
-        λ s e. lowest_of_lem c.args.sessions s.sessions e count c.lowest-n.ensures in
+    λ s e. lowest_of_lem c.args.sessions s.sessions e count c.lowest-n.ensures in
     let a = c.args in
     λ s e.
     let m = next s e in

@@ -1,21 +1,16 @@
-use Rattle.std.proofs.Common.{rules, ◌≡◌, ◌≤◌, length, ℕ, ◌+◌, ◌-◌, ◌*◌, ◌<◌, ◌/◌, ◌%◌, Bool, true, false, nat_eq, nat_lt, List, [], ◌∷◌, ◌++◌, slice_index_or, slice_set, bit_and, bit_or, Fits, w8, w32, w64, Bor, MutBor}
-use Rattle.rules.specs.Refusals.{refusal_of}
-use Rattle.rules.specs.Calls.{load_plan}
-use Rattle.rules.specs.Runs.{apply, Load, Read}
-use Rattle.heap.specs.View.{memory}
-use Rattle.store.specs.View.{view, outcome}
-use Rattle.store.specs.Plans.{loading}
-use Rattle.store.specs.Fields.{named, reference_in, word_in, field_reference, field_word}
+-- The tests in order.
+use borrow.Author.Tests.{ne_eqb}
+use Rattle.store.specs.Fields.{named}
 use Rattle.store.proofs.Cursor.reference_tests.Goals as goal
 
--- src/fields.rt:71:13
 pub returns-then-not-within : goal.returns-then-not-within
-returns-then-not-within c = ?
+unfolding named
+returns-then-not-within c = rw c.if-not-within.true
 
--- src/fields.rt:66:5
 pub returns-then-v-eq0 : goal.returns-then-v-eq0
-returns-then-v-eq0 c = ?
+unfolding named
+returns-then-v-eq0 c = rw (c.if-not-within.false, c.if-v-eq0.true)
 
--- src/fields.rt:66:5
 pub returns-else-v-eq0 : goal.returns-else-v-eq0
-returns-else-v-eq0 c = ?
+unfolding named
+returns-else-v-eq0 c = rw (c.if-not-within.false, ne_eqb _ _ c.if-v-eq0.false)

@@ -1,6 +1,5 @@
 -- The list is emptied and the step moves on.
 use Rattle.store.proofs.collector.Step.{rests}
-use borrow.Author.Rules.{rules}
 use Rattle.store.proofs.Cursor.rest.Goals as goal
 
 pub returns : goal.returns

@@ -8,7 +8,6 @@ use Rattle.heap.specs.View.{checked}
 use Rattle.store.specs.Cursors.{having}
 use Rattle.store.proofs.collector.Numbers.{moves, bounds_within, forward_by}
 use Rattle.store.proofs.collector.Flip.{roots_done, root_lost, root_flips}
-use borrow.Author.Rules.{rules}
 use Rattle.store.proofs.Cursor.root_flip.Goals as goal
 
 pub returns-then-place-ge-GLOBALS : goal.returns-then-place-ge-GLOBALS

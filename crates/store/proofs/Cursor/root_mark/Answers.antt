@@ -6,7 +6,6 @@ use lib.ListN.{get_or}
 use Rattle.store.specs.Cursors.{having}
 use Rattle.store.proofs.collector.Numbers.{moves}
 use Rattle.store.proofs.shading.Phases.{roots_done, root_next}
-use borrow.Author.Rules.{rules}
 use Rattle.store.proofs.Cursor.root_mark.Goals as goal
 
 pub returns-then-place-ge-GLOBALS : goal.returns-then-place-ge-GLOBALS

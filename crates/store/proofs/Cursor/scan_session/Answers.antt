@@ -14,13 +14,13 @@ use Rattle.store.proofs.Cursor.scan_session.Goals as goal
 pub count_whites-requires : goal.count_whites-requires
 count_whites-requires c =
     let count : length c.args.session.registers ≡ register_count =
-        search rules in
+    search rules in
     (count, bounds_within c.args.self _ _ c.bounds-b.ensures c.requires.0 c.requires.1)
 
 pub returns-in_default : goal.returns-in_default
 returns-in_default c =
     let known : let a = c.args in Scanning a.self a.h0.now a.h1.now a.list.now a.session.registers c.count_whites.result =
-        record {
+    record {
       ranges = c.requires.0;
       ends = c.requires.1;
       answer = c.count_whites.ensures ∙ ap (λ (z : Heap). white_count z.memory c.args.session.registers) (c.bounds-b.ensures some _ _ c.args.list.now refl);
@@ -30,7 +30,7 @@ returns-in_default c =
 pub returns-then-capacity-tail : goal.returns-then-capacity-tail
 returns-then-capacity-tail c =
     let known : let a = c.args in Scanning a.self a.h0.now a.h1.now a.list.now a.session.registers c.count_whites.result =
-        record {
+    record {
       ranges = c.requires.0;
       ends = c.requires.1;
       answer = c.count_whites.ensures ∙ ap (λ (z : Heap). white_count z.memory c.args.session.registers) (c.bounds-b.ensures some _ _ c.args.list.now refl);
@@ -40,13 +40,13 @@ returns-then-capacity-tail c =
 pub shade_registers-requires : goal.shade_registers-requires
 shade_registers-requires c =
     let known : let a = c.args in Scanning a.self a.h0.now a.h1.now a.list.now a.session.registers c.count_whites.result =
-        record {
+    record {
       ranges = c.requires.0;
       ends = c.requires.1;
       answer = c.count_whites.ensures ∙ ap (λ (z : Heap). white_count z.memory c.args.session.registers) (c.bounds-b.ensures some _ _ c.args.list.now refl);
     } in
     let count : length c.args.session.registers ≡ register_count =
-        search rules in
+    search rules in
     let k = known in
     let d = c.in-Whites.is in
     (count, λ j h. scan_inside k d j (omega (arith, count, h)), scan_last k d, omega (arith, k.ends, c.if-capacity-tail.false))
@@ -55,7 +55,7 @@ pub returns : goal.returns
 unfolding session_at with_session
 returns c =
     let known : let a = c.args in Scanning a.self a.h0.now a.h1.now a.list.now a.session.registers c.count_whites.result =
-        record {
+    record {
       ranges = c.requires.0;
       ends = c.requires.1;
       answer = c.count_whites.ensures ∙ ap (λ (z : Heap). white_count z.memory c.args.session.registers) (c.bounds-b.ensures some _ _ c.args.list.now refl);

@@ -1,6 +1,5 @@
 -- The reference of the walk place.
 use Rattle.rules.specs.Collector.{walked}
-use borrow.Author.Rules.{rules}
 use Rattle.store.proofs.Cursor.walked.Goals as goal
 
 pub returns : goal.returns

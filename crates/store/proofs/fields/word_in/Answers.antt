@@ -1,25 +1,19 @@
-use Rattle.std.proofs.Common.{rules, ◌≡◌, ◌≤◌, length, ℕ, ◌+◌, ◌-◌, ◌*◌, ◌<◌, ◌/◌, ◌%◌, Bool, true, false, nat_eq, nat_lt, List, [], ◌∷◌, ◌++◌, slice_index_or, slice_set, bit_and, bit_or, Fits, w8, w32, w64, Bor, MutBor}
-use Rattle.rules.specs.Refusals.{refusal_of}
-use Rattle.rules.specs.Calls.{load_plan}
-use Rattle.rules.specs.Runs.{apply, Load, Read}
-use Rattle.heap.specs.View.{memory}
-use Rattle.store.specs.View.{view, outcome}
-use Rattle.store.specs.Plans.{loading}
-use Rattle.store.specs.Fields.{named, reference_in, word_in, field_reference, field_word}
+-- By what following found.
+use mathlib.Core.Path.{sym}
+use Rattle.heap.proofs.Soundness.{found, lost}
+use Rattle.heap.proofs.Fields.{found_plain}
+use Rattle.store.proofs.calls.Fields.{word_lost, word_past, word-here}
 use Rattle.store.proofs.fields.word_in.Goals as goal
 
--- src/fields.rt:54:9
 pub returns-in_default : goal.returns-in_default
-returns-in_default c = ?
+returns-in_default c = sym (word_lost _ _ _ (lost _ _ c.follow.ensures c.in_default.is))
 
--- src/fields.rt:57:9
 pub returns-then-p-field : goal.returns-then-p-field
-returns-then-p-field c = ?
+returns-then-p-field c = sym (word_past _ _ _ (found _ _ c.follow.ensures c.in-Sound.is) c.if-p-field.true)
 
--- src/fields.rt:59:9
 pub get_word-word-requires : goal.get_word-word-requires
-get_word-word-requires c = ?
+get_word-word-requires c =
+    found_plain _ _ _ _ _ (found _ _ c.follow.ensures c.in-Sound.is) c.requires.0 c.requires.1 _ c.if-p-field.false
 
--- src/fields.rt:49:1
 pub returns : goal.returns
-returns c = ?
+returns c = rw (c.get_word-word.ensures c.args.f0 c.args.f1) (sym (word-here _ _ _ (found _ _ c.follow.ensures c.in-Sound.is) c.if-p-field.false))

@@ -1,12 +1,9 @@
 -- Invariant: the registers below i are forwarded, and the others remain to be.
-use Prim.Native.Nat.{◌≤◌, ◌-◌}
-use mathlib.Core.Path.{◌≡◌, ◌∙◌, sym, ap}
+use mathlib.Core.Path.{◌∙◌, sym, ap}
 use native.Mathlib.Omega.{arith}
-use lib.ListN.{length}
-use Rattle.rules.specs.Control.{register_count}
-use Rattle.rules.specs.Barriers.{Heap, to}
+use Rattle.rules.specs.Barriers.{to}
 use Rattle.heap.specs.View.{heap, checked}
-use Rattle.store.proofs.collector.Forward.{So, all_start, all_lost, all_more, all_done}
+use Rattle.store.proofs.collector.Forward.{all_start, all_lost, all_more, all_done}
 use borrow.Author.Rules.{rules}
 use Rattle.store.proofs.flipping.forward_all.Goals as goal
 

@@ -1,12 +1,10 @@
 use Prim.Native.Nat.{◌≤◌, ◌-◌}
-use mathlib.Core.Path.{◌≡◌, ◌∙◌, sym, ap}
-use native.Mathlib.Omega.{arith}
+use mathlib.Core.Path.{◌≡◌}
 use lib.ListN.{length}
 use Rattle.rules.specs.Control.{register_count}
-use Rattle.rules.specs.Barriers.{Heap, to}
-use Rattle.heap.specs.View.{heap, checked}
-use Rattle.store.proofs.collector.Forward.{So, all_start, all_lost, all_more, all_done}
-use borrow.Author.Rules.{rules}
+use Rattle.rules.specs.Barriers.{to}
+use Rattle.heap.specs.View.{heap}
+use Rattle.store.proofs.collector.Forward.{So}
 use Rattle.store.proofs.flipping.forward_all.Given as goal
 
 abbrev pub invariant-loop-i : goal.invariant-loop-i

@@ -1,9 +1,7 @@
 -- Invariant: the entries from i on are left to write.
-use Prim.Native.Nat.{suc, ◌+◌, ◌-◌, ◌≤◌}
+use Prim.Native.Nat.{suc, ◌+◌}
 use mathlib.Core.Path.{◌≡◌, refl, ◌∙◌}
 use native.Mathlib.Omega.{arith}
-use lib.ListN.{length, drop}
-use lib.Seq.{sets}
 use Rattle.store.proofs.calls.Rows.{sets_on, sets-ended}
 use borrow.Author.Rules.{rules}
 use Rattle.store.proofs.links.put_entries.Goals as goal

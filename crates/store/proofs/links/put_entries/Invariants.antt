@@ -1,10 +1,7 @@
-use Prim.Native.Nat.{suc, ◌+◌, ◌-◌, ◌≤◌}
-use mathlib.Core.Path.{◌≡◌, refl, ◌∙◌}
-use native.Mathlib.Omega.{arith}
+use Prim.Native.Nat.{◌+◌, ◌-◌, ◌≤◌}
+use mathlib.Core.Path.{◌≡◌}
 use lib.ListN.{length, drop}
 use lib.Seq.{sets}
-use Rattle.store.proofs.calls.Rows.{sets_on, sets-ended}
-use borrow.Author.Rules.{rules}
 use Rattle.store.proofs.links.put_entries.Given as goal
 
 abbrev pub invariant-loop-i : goal.invariant-loop-i

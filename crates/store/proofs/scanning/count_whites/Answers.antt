@@ -1,14 +1,11 @@
 -- Invariant: the different white records among the registers before register i are counted, and the registers from i on are left to test.
-use Prim.Native.Nat.{◌≤◌, ◌<◌, ◌-◌}
-use mathlib.Core.Path.{◌≡◌, sym, ◌∙◌, ap}
+use Prim.Native.Nat.{◌≤◌, ◌<◌}
+use mathlib.Core.Path.{sym, ◌∙◌, ap}
 use native.Mathlib.Omega.{arith}
-use lib.ListN.{length, take, drop}
-use Rattle.rules.specs.Control.{register_count}
-use Rattle.rules.specs.Barriers.{to_shade_all}
+use lib.ListN.{length, take}
 use Rattle.heap.specs.View.{heap, checked}
-use Rattle.store.specs.Marking.{whites_among}
-use Rattle.store.proofs.shading.Whites.{up_to, up_to-all}
-use Rattle.store.proofs.shading.Counting.{yields, count-first, count_last, count_damage, count_on, count-more, few-more}
+use Rattle.store.proofs.shading.Whites.{up_to-all}
+use Rattle.store.proofs.shading.Counting.{count-first, count_last, count_damage, count_on, count-more, few-more}
 use borrow.Author.Rules.{rules}
 use Rattle.store.proofs.scanning.count_whites.Goals as goal
 

@@ -1,14 +1,12 @@
-use Prim.Native.Nat.{◌≤◌, ◌<◌, ◌-◌}
-use mathlib.Core.Path.{◌≡◌, sym, ◌∙◌, ap}
-use native.Mathlib.Omega.{arith}
-use lib.ListN.{length, take, drop}
+use Prim.Native.Nat.{◌≤◌, ◌-◌}
+use mathlib.Core.Path.{◌≡◌}
+use lib.ListN.{length, drop}
 use Rattle.rules.specs.Control.{register_count}
 use Rattle.rules.specs.Barriers.{to_shade_all}
-use Rattle.heap.specs.View.{heap, checked}
+use Rattle.heap.specs.View.{heap}
 use Rattle.store.specs.Marking.{whites_among}
-use Rattle.store.proofs.shading.Whites.{up_to, up_to-all}
-use Rattle.store.proofs.shading.Counting.{yields, count-first, count_last, count_damage, count_on, count-more, few-more}
-use borrow.Author.Rules.{rules}
+use Rattle.store.proofs.shading.Whites.{up_to}
+use Rattle.store.proofs.shading.Counting.{yields}
 use Rattle.store.proofs.scanning.count_whites.Given as goal
 
 abbrev pub invariant-loop-i : goal.invariant-loop-i

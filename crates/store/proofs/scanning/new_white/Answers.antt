@@ -1,11 +1,6 @@
 -- Invariant: v is among the registers before register i exactly where it is among those from register j on.
-use Prim.Native.Nat.{◌≤◌, ◌-◌}
-use mathlib.Core.Path.{◌≡◌, refl}
+use mathlib.Core.Path.{refl}
 use native.Mathlib.Omega.{arith}
-use lib.ListN.{length, drop, take}
-use borrow.Author.Tests.{eq-eqb}
-use Rattle.rules.specs.Control.{register_count}
-use Rattle.store.specs.Marking.{among}
 use Rattle.store.proofs.shading.Counting.{search_found, search_on, search_ended}
 use borrow.Author.Rules.{rules}
 use Rattle.store.proofs.scanning.new_white.Goals as goal

@@ -1,12 +1,8 @@
 use Prim.Native.Nat.{◌≤◌, ◌-◌}
-use mathlib.Core.Path.{◌≡◌, refl}
-use native.Mathlib.Omega.{arith}
+use mathlib.Core.Path.{◌≡◌}
 use lib.ListN.{length, drop, take}
-use borrow.Author.Tests.{eq-eqb}
 use Rattle.rules.specs.Control.{register_count}
 use Rattle.store.specs.Marking.{among}
-use Rattle.store.proofs.shading.Counting.{search_found, search_on, search_ended}
-use borrow.Author.Rules.{rules}
 use Rattle.store.proofs.scanning.new_white.Given as goal
 
 abbrev pub invariant-loop-j : goal.invariant-loop-j

@@ -7,13 +7,12 @@ use Rattle.heap.proofs.Halves.{inside_kept}
 use Rattle.store.specs.Marking.{ending}
 use Rattle.store.proofs.collector.Numbers.{some}
 use Rattle.store.proofs.shading.Shade.{shade-end}
-use borrow.Author.Rules.{rules}
 use Rattle.store.proofs.shade.shade_both.Goals as goal
 
 pub shade_one-requires : goal.shade_one-requires
 shade_one-requires c =
     let next : c.shade_one-next.result ≤ c.args.end + 1 =
-        let a = c.args in
+    let a = c.args in
     let e = ap (λ (s : Store). s.list.tail) (c.shade_one-next.ensures some) in
     omega (arith, e, shade-end (ending some a.h0.now a.h1.now a.list.now a.end) a.first) in
     λ n.

@@ -1,7 +1,5 @@
 -- The record coloured and listed; nothing for null.
-use native.Mathlib.Omega.{arith}
 use Rattle.store.proofs.shading.Shade.{shade-null, shade_record}
-use borrow.Author.Rules.{rules}
 use Rattle.store.proofs.shade.shade_one.Goals as goal
 
 pub returns-then-v-eq0 : goal.returns-then-v-eq0

@@ -1,7 +1,6 @@
 -- The colour and the replica word tested.
 use Rattle.rules.specs.Memory.{colour, replica}
 use Rattle.rules.specs.Collector.{needs_shell}
-use borrow.Author.Rules.{rules}
 use Rattle.store.proofs.shells.needs_shell.Goals as goal
 
 pub returns : goal.returns

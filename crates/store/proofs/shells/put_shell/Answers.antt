@@ -1,7 +1,6 @@
 -- The shell appended, and the record's replica word set.
 use Rattle.heap.proofs.Halves.{inside_kept}
 use Rattle.store.proofs.collector.Shells.{shell_put}
-use borrow.Author.Rules.{rules}
 use Rattle.store.proofs.shells.put_shell.Goals as goal
 
 pub put_word-requires : goal.put_word-requires

@@ -1,12 +1,9 @@
 -- The kinds, one after another.
-use Prim.Native.Nat.{◌≤◌, zero-le}
 use mathlib.Core.Path.{◌≡◌}
 use native.Mathlib.Omega.{arith}
 use native.Mathlib.Nat.{add-zero}
-use Rattle.rules.proofs.memory.Cases.{above}
 use Rattle.workload.specs.Load.{forms, form_at}
 use Rattle.workload.specs.Entries.{arguments_into}
-use borrow.Author.Rules.{rules}
 use Rattle.workload.proofs.entries.draw_arguments.Goals as goal
 
 pub draw_one-requires : goal.draw_one-requires
@@ -113,11 +110,8 @@ pub returns-in-12 : goal.returns-in-12
 unfolding form_at forms
 returns-in-12 c = rw c.in-12.is c.draw_three-in-12.ensures
 
--- ?? match: ['in-0', 'in-1', 'in-2', 'in-3', 'in-4', 'in-5', 'in-6', 'in-7', 'in-8', 'in-9', 'in-10', 'in-11', 'in-12', 'in_default']
 pub returns-in_default : goal.returns-in_default
 unfolding form_at forms arguments_into
 returns-in_default c =
-    let r = c.in-0.rest in
-    let least : 13 ≤ c.args.k = above (above (above (above (above (above (above (above (above (above (above (above (above zero-le r.0.0.0.0.0.0.0.0.0.0.0.0.1) r.0.0.0.0.0.0.0.0.0.0.0.1) r.0.0.0.0.0.0.0.0.0.0.1) r.0.0.0.0.0.0.0.0.0.1) r.0.0.0.0.0.0.0.0.1) r.0.0.0.0.0.0.0.1) r.0.0.0.0.0.0.1) r.0.0.0.0.0.1) r.0.0.0.0.1) r.0.0.0.1) r.0.0.1) r.0.1) r.1 in
-    let last : c.args.k ≡ 13 = omega (arith, least) in
+    let last : c.args.k ≡ 13 = omega arith in
     rw (last, add-zero)

@@ -2,8 +2,7 @@
 use mathlib.Core.Path.{◌∙◌}
 use mathlib.Core.List.{[], ◌∷◌}
 use Rattle.workload.specs.declared.entries.Class.TheVariants.{Session}
-use Rattle.workload.proofs.Arguments.{first-room, more_room, placed-more}
-use borrow.Author.Rules.{rules}
+use Rattle.workload.proofs.Arguments.{more_room, placed-more}
 use Rattle.workload.proofs.entries.draw_four.Goals as goal
 
 pub draw_next-requires : goal.draw_next-requires

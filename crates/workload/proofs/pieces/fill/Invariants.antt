@@ -1,11 +1,8 @@
-use mathlib.Core.Path.{◌∙◌}
-use native.Mathlib.Omega.{arith}
-use Rattle.workload.proofs.Filling.{Going, next-room, one_more, no_more, begun, all_in, nothing_in}
+use Rattle.workload.proofs.Filling.{Going}
 use Rattle.workload.proofs.pieces.fill.Given as goal
 
 abbrev pub invariant-loop-left : goal.invariant-loop-left
 invariant-loop-left l = Going l.initial.out l.last l.initial.end l.initial.value l.initial.left l.out l.end l.value l.left
 
--- proposed from the loop's first test
 abbrev pub decreases-loop-left : goal.decreases-loop-left
 decreases-loop-left l = l.left

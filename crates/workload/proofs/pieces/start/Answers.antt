@@ -2,7 +2,6 @@
 use borrow.Author.Tests.{eq-eqb, ne_eqb, le-leb, lt-leb}
 use Rattle.workload.specs.Load.{accepted}
 use Rattle.workload.specs.Pieces.{started}
-use borrow.Author.Rules.{rules}
 use Rattle.workload.proofs.pieces.start.Goals as goal
 
 pub returns-then-input-ne8 : goal.returns-then-input-ne8
