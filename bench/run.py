@@ -3,12 +3,12 @@
 
     python3 bench/run.py
 
-Needs the program built (`rt check`), rustc, valgrind and GNU time; it says which are missing and how to get them. Both programs must
+Needs the program built (`rt all test`), rustc, valgrind and GNU time; it says which are missing and how to get them. Both programs must
 write the same bytes. For each script it prints, side by side, the best of five times (start of the program included), instructions
 per entry (callgrind: the program's own, not the kernel's), peak memory and the share of the Rust program's speed; then the instructions
 of a step that scans a session; then, for each script, how the instructions of an entry grow with live records and with the halves'
-length. For longer halves it proves and builds the script program once more, in a copy of the repository under target/ where the two
-arrays and the list of its `main` are longer and nothing else differs (about a minute).
+length. For longer halves it proves and builds the script program once more, in a copy of the repository where the two
+arrays and the list of its `main` are longer and nothing else differs (about a minute with an older kit, rattle-kit-5b).
 """
 import os
 import re
@@ -21,15 +21,13 @@ import time
 from workloads import SCANS, STEP, WORKLOADS, encode, scan_is_next
 
 ROOT = os.path.join(os.path.dirname(os.path.abspath(__file__)), "..")
-OURS = os.path.join(ROOT, "target", "bin", "script_main")
+OURS = os.path.join(ROOT, "crates", "script_main", "out", "script_main")
 PLAIN = os.path.join(ROOT, "target", "bench", "plain")
-COPY = os.path.join(ROOT, "target", "bench", "longer")
-LONGER = os.path.join(COPY, "target", "bin", "script_main")
 TIME = "/usr/bin/time"
 LONG = 65536
 ENTRIES = 120000
 # what the benchmark runs, and how to get it
-NEEDS = {"rt": "it is the Rattle kit's", OURS: "the script program; rt check proves and builds it",
+NEEDS = {"rt": "it is the Rattle kit's", OURS: "the script program; rt all test proves and builds it",
          "rustc": "on Debian: apt-get install rustc", "valgrind": "on Debian: apt-get install valgrind",
          TIME: "GNU time; on Debian: apt-get install time"}
 
@@ -46,20 +44,20 @@ def build():
     subprocess.run(["rustc", "-O", "-C", "codegen-units=1", "-C", "panic=abort", "-o", PLAIN, os.path.join(ROOT, "bench", "plain.rs")], check=True)
 
 
-def build_longer():
+def build_longer(copy):
     """The script program with halves of LONG words, proved and built in a copy of the repository."""
-    shutil.rmtree(COPY, ignore_errors=True)
-    for part in ("crates", os.path.join("target", "rlib"), os.path.join("target", "stamp")):
-        shutil.copytree(os.path.join(ROOT, part), os.path.join(COPY, part))
-    shutil.copy(os.path.join(ROOT, "crates.txt"), COPY)
-    source = os.path.join(COPY, "crates", "script_main", "src", "main.rt")
+    shutil.copytree(os.path.join(ROOT, "crates"), os.path.join(copy, "crates"), ignore=shutil.ignore_patterns("out"))
+    shutil.copy(os.path.join(ROOT, "crates.txt"), copy)
+    folder = os.path.join(copy, "crates", "script_main")
+    source = os.path.join(folder, "src", "main.rt")
     text = open(source).read()
     for old, new in ((4096, LONG), (1365, LONG // 3)):
         if f"[0u32; {old}]" not in text:
             sys.exit(f"no array of {old} words in the program's main")
         text = text.replace(f"[0u32; {old}]", f"[0u32; {new}]")
     open(source, "w").write(text)
-    subprocess.run(["rt", "check", "script_main"], cwd=COPY, stdout=subprocess.DEVNULL, check=True)
+    subprocess.run(["rt", "run"], cwd=folder, stdin=subprocess.DEVNULL, stdout=subprocess.DEVNULL, check=True)
+    return os.path.join(folder, "out", "script_main")
 
 
 def run(command, data):
@@ -132,8 +130,8 @@ def main():
         compare(name, make(ENTRIES))
     scans()
     growth("halves of 4,096 words", [OURS], [PLAIN], (10, 100, 250))
-    build_longer()
-    growth("halves of 65,536 words", [LONGER], [PLAIN, str(LONG)], (10, 100, 250, 4000))
+    with tempfile.TemporaryDirectory() as copy:
+        growth("halves of 65,536 words", [build_longer(copy)], [PLAIN, str(LONG)], (10, 100, 250, 4000))
 
 
 if __name__ == "__main__":

@@ -4,7 +4,7 @@ the same calls written the usual way in Rust (plain_directory.rs), on the same s
 
     python3 bench/run_directory.py
 
-Needs the program built (`rt check`), rustc and valgrind. Both programs must write the same bytes. A call's instructions are counted as the
+Needs the program built (`rt all test`), rustc and valgrind. Both programs must write the same bytes. A call's instructions are counted as the
 difference of two runs, one with the calls behind a script that makes the directory and one without them, divided by their number; what
 reading an entry and writing its line cost is in it. The store calls are those that the directory in Python makes.
 """
@@ -19,9 +19,9 @@ from models.directory_model import Directory  # noqa: E402
 from programs.directory_scripts import encode  # noqa: E402
 from models.table_model import OPEN, ADD, REMOVE, MAKE, JOIN, LEAVE, LIST, LAST  # noqa: E402
 
-OURS = os.path.join(ROOT, "target", "bin", "directory_main")
+OURS = os.path.join(ROOT, "crates", "directory_main", "out", "directory_main")
 PLAIN = os.path.join(ROOT, "target", "bench", "plain_directory")
-NEEDS = {OURS: "the directory program; rt check proves and builds it", "rustc": "on Debian: apt-get install rustc",
+NEEDS = {OURS: "the directory program; rt all test proves and builds it", "rustc": "on Debian: apt-get install rustc",
          "valgrind": "on Debian: apt-get install valgrind"}
 TIMES = 20  # calls that are counted together
 SIZES = [(20, 2, 20), (100, 10, 20), (100, 10, 60), (300, 10, 60), (300, 40, 60)]  # people, groups, members of group 0

@@ -11,7 +11,7 @@ FOLDERS = ["crates", "docs", "tests", "demo", "bench", "tools"]
 ENDINGS = "antt|rt|py|rs|edit|script|txt|notes|md"
 NAME = re.compile(r"[^\W\d][\w-]*")
 # in the pages' backquotes, but of the kit: its version and what it prints; or for any name
-FOREIGN = {"rattle-kit-5b", "solution", "axioms", "NAME", "REQUEST"}
+FOREIGN = {"rattle-kit-13f", "logic", "dac8208d650f15bf", "rattle-kit-5b", "axioms", "rattle_errno", "NAME", "REQUEST"}
 
 
 def text_of(path):
@@ -23,7 +23,7 @@ def tree():
     """The files of the repository's folders, from its top."""
     for folder in FOLDERS:
         for place, folders, files in os.walk(os.path.join(TOP, folder)):
-            folders[:] = [name for name in folders if name != "__pycache__"]
+            folders[:] = [name for name in folders if name not in ("__pycache__", "out")]  # what was made here
             for name in files:
                 yield os.path.relpath(os.path.join(place, name), TOP)
 
@@ -63,10 +63,16 @@ def bad_links(page, text):
                 yield f"no {name} in {path}"
 
 
+def is_there(path):
+    """Whether there is such a file or folder; a program that is built counts as there where its crate has a `main`."""
+    built = re.fullmatch(r"crates/(\w+)/out/\1", path)
+    return os.path.exists(os.path.join(TOP, f"crates/{built[1]}/src/main.rt" if built else path))
+
+
 def bad_names(text, known):
     for quoted in re.findall(r"`([^`\n]*)`", text) + re.findall(r"^    (\S.*)$", text, re.M):
         for path in re.findall(rf"(?<![\w/.·])(?:{'|'.join(FOLDERS)})/[\w./·+-]+", quoted):
-            if "NAME" not in path and not os.path.exists(os.path.join(TOP, path.rstrip("."))):
+            if "NAME" not in path and not is_there(path.rstrip(".")):
                 yield f"no {path}"
         for name in re.findall(rf"(?<![\w/.-])[^\W\d][\w-]*(?:\.(?:{ENDINGS}))?(?![\w/.-])", quoted):
             if name not in known.files and name not in known.words and not name.startswith("NAME."):

@@ -85,7 +85,7 @@ def unbuilt(folder):
     """The tool in a repository where nothing is built."""
     shutil.copytree(os.path.join(TOP, "tools"), os.path.join(folder, "tools"))
     done = subprocess.run([os.path.join(folder, "tools", "explain"), "-"], input=GOOD, stdout=subprocess.PIPE, stderr=subprocess.PIPE)
-    want = b"tools/explain: the directory program target/bin/directory_main is not built: run `rt check` first\n"
+    want = b"tools/explain: the directory program crates/directory_main/out/directory_main is not built: run `rt all test` first\n"
     need((done.returncode, done.stdout, done.stderr) == (2, b"", want), f"unbuilt: {done.stderr!r}")
 
 

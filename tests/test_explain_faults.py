@@ -71,7 +71,7 @@ def unbuilt(folder):
     """The tool in a repository where nothing is built; and by a link from there, as it is here."""
     shutil.copytree(os.path.join(TOP, "tools"), os.path.join(folder, "tools"))
     done = subprocess.run([os.path.join(folder, "tools", "explain"), DAY], stdout=subprocess.PIPE, stderr=subprocess.PIPE, timeout=120)
-    want = b"tools/explain: the script program target/bin/script_main is not built: run `rt check` first\n"
+    want = b"tools/explain: the script program crates/script_main/out/script_main is not built: run `rt all test` first\n"
     need((done.returncode, done.stdout, done.stderr) == (2, b"", want), f"unbuilt: {done.stderr!r}")
     link = os.path.join(folder, "explain")
     os.symlink(EXPLAIN, link)

@@ -47,10 +47,10 @@ class Boxes:
     def tool(self, workload=built_programs.WORKLOAD, script=built_programs.PROGRAM):
         self.count += 1
         top = os.path.join(self.folder, f"box{self.count}")
-        built = os.path.join(top, "target", "bin")
-        os.makedirs(built)
-        os.mkdir(os.path.join(top, "tools"))
+        os.makedirs(os.path.join(top, "tools"))
         for name, path in (("workload_main", workload), ("script_main", script)):
+            built = os.path.join(top, "crates", name, "out")
+            os.makedirs(built)
             if path is not None:
                 os.symlink(os.path.abspath(path), os.path.join(built, name))
         return shutil.copy(TOOL, os.path.join(top, "tools"))
@@ -131,10 +131,10 @@ def bad_programs(boxes, programs):
     def wrong(line, entry):
         return f"the script program wrote {line.encode()!r} where the line of entry {entry} was due"
     for changed, reason in (
-            ({"workload": None}, "the load program target/bin/workload_main is not built: run `rt check` first"),
-            ({"script": None}, "the script program target/bin/script_main is not built: run `rt check` first"),
-            ({"workload": plain}, "the load program target/bin/workload_main can't be started: Permission denied"),
-            ({"script": plain}, "the script program target/bin/script_main can't be started: Permission denied"),
+            ({"workload": None}, "the load program crates/workload_main/out/workload_main is not built: run `rt all test` first"),
+            ({"script": None}, "the script program crates/script_main/out/script_main is not built: run `rt all test` first"),
+            ({"workload": plain}, "the load program crates/workload_main/out/workload_main can't be started: Permission denied"),
+            ({"script": plain}, "the script program crates/script_main/out/script_main can't be started: Permission denied"),
             ({"workload": programs.writing("\\001", "exit 3")}, "the load program ended with status 3"),
             (writing(good, "exit 4"), "the script program ended with status 4"),
             (writing(good, "kill -9 $$"), "the script program ended with status -9"),

@@ -1,6 +1,6 @@
 #!/usr/bin/env python3
-"""tests/run itself, with an rt and a python3 that are made up, and made-up tests: it passes only if rt ci and every test do, and its last
-line is rt ci's verdict. A test that fails, crashes or is killed is named. What the tests print comes whole, in the order of their names.
+"""tests/run itself, with an rt and a python3 that are made up, and made-up tests: it passes only if rt ci and every test do and no must-fail
+edit is bad, and its last line is rt ci's verdict. A test that fails, crashes or is killed is named. What the tests print comes whole, in the order of their names.
 One test alone goes by its name; of a name that no test has, asked for or in the list of the longest, it says so at once."""
 import glob
 import itertools
@@ -14,6 +14,8 @@ from programs.explain_tool import need
 HERE = os.path.dirname(os.path.abspath(__file__))
 NAMES = sorted(os.path.basename(path).removesuffix(".py").removeprefix("test_") for path in glob.glob(os.path.join(HERE, "test_*.py")))
 VERDICT = "7 passed, 0 failed"
+# rt ci's line before that, with what it says of the must-fail edits
+OK = "rt: ok; handles allowed: none{}; every proof and must-fail edit was done in this run"
 # a test, in the words of the made-up python3: it prints its name twice, and in between others might print
 GOOD = 'echo "$0"; sleep 0.01; echo "ends $0"'
 BAD = {"exits": "echo began; exit 1", "crashes": "echo began; kill -SEGV $$", "is killed": "echo began; kill -KILL $$",
@@ -22,15 +24,15 @@ BAD = {"exits": "echo began; exit 1", "crashes": "echo began; kill -SEGV $$", "i
 
 class Made:
     """A folder with tests/run, a made-up test in the place of every real one, a python3 that takes them for scripts of the shell, and an
-    rt that says this and ends with this status."""
+    rt that says this, all well where `ok` is a line, and ends with this status."""
 
-    def __init__(self, folder, said=VERDICT, status=0):
+    def __init__(self, folder, said=VERDICT, status=0, ok=OK.format("; must-fail edits: 5 refused")):
         self.folder = tempfile.mkdtemp(dir=folder)
         os.makedirs(os.path.join(self.folder, "tests"))
         shutil.copy(os.path.join(HERE, "run"), os.path.join(self.folder, "tests", "run"))
         for name in NAMES:
             self.test(name, GOOD)
-        self.command("rt", f"printf 'rt: %s\\n{said}\\n' \"$*\"\nexit {status}")
+        self.command("rt", f"printf 'rt: %s\\n{ok}\\n{said}\\n' \"$*\"\nexit {status}")
         self.command("python3", 'exec sh "$1"')
 
     def command(self, name, text):
@@ -62,9 +64,9 @@ def printed(names):
 def check_passed(folder):
     """All is well: rt ci first, then every test once, then the verdict. Without rt, on what is built, the same but for it."""
     status, lines, _ = Made(folder).run()
-    need(status == 0 and lines[:2] == ["rt: ci", VERDICT] and lines[-1] == VERDICT, f"all is well: {status}, {lines[:2]}, {lines[-1:]}")
+    need(status == 0 and lines[0] == "rt: ci" and lines[2] == VERDICT and lines[-1] == VERDICT, f"all is well: {status}, {lines[:3]}, {lines[-1:]}")
     need(lines[-1 - 2 * len(NAMES):-1] == printed(NAMES), "the tests' lines are not whole and in order")
-    timed = sorted(line.rsplit(":", 1)[0] for line in lines[2:-1 - 2 * len(NAMES)])
+    timed = sorted(line.rsplit(":", 1)[0] for line in lines[3:-1 - 2 * len(NAMES)])
     need(timed == [f"tests/test_{name}.py" for name in NAMES], f"not every test has run once: {timed}")
     status, lines, _ = Made(folder, "not called", 1).run("--built")
     need(status == 0 and lines[-1 - 2 * len(NAMES):-1] == printed(NAMES), f"on what is built: {status}, {lines}")
@@ -94,10 +96,16 @@ def check_left_alone(folder):
 
 
 def check_rt(folder):
-    """Where rt ci doesn't pass, by its verdict or by its status, no test runs."""
-    for said, status in (("6 passed, 1 failed", 1), ("6 passed, 1 failed", 0), (VERDICT, 1), ("rt: killed", 0), (f"{VERDICT}\\nmore", 0)):
+    """Where rt ci doesn't pass, by its verdict or by its status, or has a bad must-fail edit, no test runs."""
+    for said, status in (("6 passed, 1 failed", 1), ("6 passed, 1 failed", 0), (VERDICT, 1), ("rt: killed", 0), (f"{VERDICT}\\nmore", 0),
+                         (f"{VERDICT} (some and the crates below alone: not the gate)", 0)):
         ended, lines, _ = Made(folder, said, status).run()
         need(ended != 0 and not any("tests/" in line for line in lines), f"rt says '{said}' with status {status}: {ended}, {lines}")
+    for edits, passes in ((", 1 bad", False), (", 2 of them only by a limit, 12 bad", False), (", 0 bad", True), (", 1 of them only by a limit", True)):
+        ended, lines, _ = Made(folder, ok=OK.format(f"; must-fail edits: 5 refused{edits}")).run()
+        need((ended == 0) == passes == any("tests/" in line for line in lines), f"rt says of the edits '{edits}': {ended}, {lines}")
+    ended, lines, _ = Made(folder, ok="").run()
+    need(ended != 0 and not any("tests/" in line for line in lines), f"rt doesn't say that all is well: {ended}, {lines}")
 
 
 def check_names(folder):

@@ -1,13 +1,20 @@
-"""Runs the script program, the directory program and the load program, or those that the environment names as SCRIPT_PROGRAM,
-DIRECTORY_PROGRAM and WORKLOAD_PROGRAM."""
+"""Runs the script program, the directory program and the load program, where `rt ci`, `rt all test` and `rt run` build them, or those that
+the environment names as SCRIPT_PROGRAM, DIRECTORY_PROGRAM and WORKLOAD_PROGRAM."""
 import os
 import resource
 import subprocess
 
-BUILT = os.path.join(os.path.dirname(os.path.abspath(__file__)), "..", "..", "target", "bin")
-PROGRAM = os.environ.get("SCRIPT_PROGRAM", os.path.join(BUILT, "script_main"))
-DIRECTORY = os.environ.get("DIRECTORY_PROGRAM", os.path.join(BUILT, "directory_main"))
-WORKLOAD = os.environ.get("WORKLOAD_PROGRAM", os.path.join(BUILT, "workload_main"))
+CRATES = os.path.join(os.path.dirname(os.path.abspath(__file__)), "..", "..", "crates")
+
+
+def built(name):
+    """Where the program of a crate stands once it is built."""
+    return os.path.join(CRATES, name, "out", name)
+
+
+PROGRAM = os.environ.get("SCRIPT_PROGRAM", built("script_main"))
+DIRECTORY = os.environ.get("DIRECTORY_PROGRAM", built("directory_main"))
+WORKLOAD = os.environ.get("WORKLOAD_PROGRAM", built("workload_main"))
 
 
 def run(data, stack=None, program=PROGRAM):

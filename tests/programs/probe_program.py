@@ -19,10 +19,10 @@ from models import table_model
 from models.directory_model import Directory
 from models.free_store import ATTACH, LINKS, MOST_LINKS, share_in
 from models.store_model import BIRTH, COMPANION, STRETCH, Sapphire
+from programs.built_programs import built
 from programs.store_scripts import ARGUMENTS
 
-BUILT = os.path.join(os.path.dirname(os.path.abspath(__file__)), "..", "..", "target", "bin", "probe")
-PROGRAM = os.environ.get("PROBE_PROGRAM", BUILT)
+PROGRAM = os.environ.get("PROBE_PROGRAM", built("probe"))
 MAKE = 0
 OPEN, ADD, REMOVE, MAKE_GROUP, JOIN, LEAVE, LIST = range(100 + table_model.OPEN, 100 + table_model.LIST + 1)
 MOST_LENT = 64  # words that a list may be lent
