@@ -1,5 +1,4 @@
 -- One byte more is put.
-use mathlib.Core.Path.{◌≡◌}
 use native.Mathlib.Omega.{arith}
 use borrow.Author.Rules.{rules}
 use Rattle.directory_main.proofs.Text.{byte_put}
