@@ -11,7 +11,7 @@ FOLDERS = ["crates", "docs", "tests", "demo", "bench", "tools"]
 ENDINGS = "antt|rt|py|rs|edit|script|txt|notes|md"
 NAME = re.compile(r"[^\W\d][\w-]*")
 # in the pages' backquotes, but of the kit: its version and what it prints; or for any name
-FOREIGN = {"rattle-kit-13f", "logic", "dac8208d650f15bf", "rattle-kit-5b", "axioms", "rattle_errno", "NAME", "REQUEST"}
+FOREIGN = {"rattle-kit-13f", "logic", "dac8208d650f15bf", "rattle-kit-5b", "axioms", "libc", "rattle_errno", "NAME", "REQUEST"}
 
 
 def text_of(path):
