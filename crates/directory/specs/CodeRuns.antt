@@ -29,7 +29,7 @@ pub data Answered (control : Control) (h0 h1 list : List ℕ) : Request → Give
   by_remove : (person : ℕ) (r : Reply) (h0' h1' list' : List ℕ)
       → left r h0' h1' list' [] ≡ directory_call (view control h0 h1 list) (Remove person)
       → Answered control h0 h1 list (Remove person) (given r []) (lent r.control h0' h1' list')
-  by_make-group : (group : ℕ) (r : Reply) (h0' h1' list' : List ℕ)
+  by_make_group : (group : ℕ) (r : Reply) (h0' h1' list' : List ℕ)
       → left r h0' h1' list' [] ≡ directory_call (view control h0 h1 list) (Make group)
       → Answered control h0 h1 list (Make group) (given r []) (lent r.control h0' h1' list')
   by_join : (person group : ℕ) (r : Reply) (h0' h1' list' : List ℕ)
@@ -38,7 +38,7 @@ pub data Answered (control : Control) (h0 h1 list : List ℕ) : Request → Give
   by_leave : (person group : ℕ) (r : Reply) (h0' h1' list' : List ℕ)
       → left r h0' h1' list' [] ≡ directory_call (view control h0 h1 list) (Leave person group)
       → Answered control h0 h1 list (Leave person group) (given r []) (lent r.control h0' h1' list')
-  by_list-members : (group : ℕ) (out out' : List ℕ) (r : Reply)
+  by_list_members : (group : ℕ) (out out' : List ℕ) (r : Reply)
       → left r h0 h1 list out' ≡ directory_call (view control h0 h1 list) (Members group out)
       → Answered control h0 h1 list (Members group out) (given r out') (lent r.control h0 h1 list)
 

@@ -8,7 +8,7 @@ use Rattle.store.specs.CodeRuns.{lent}
 use Rattle.store.specs.declared.Control.{Control}
 use Rattle.store.proofs.runs.Contracts.{Slice, Gives}
 use Rattle.directory_rules.specs.Table.{Open, Add, Remove, Make, Join, Leave, Members}
-use Rattle.directory.specs.CodeRuns.{given, Answered, by_open, by_add, by_remove, by_make-group, by_join, by_leave, by_list-members}
+use Rattle.directory.specs.CodeRuns.{given, Answered, by_open, by_add, by_remove, by_make_group, by_join, by_leave, by_list_members}
 use Rattle.directory.specs.declared.Reply.{Reply}
 use Rattle.directory.specs.contracts.calls.open as opens
 use Rattle.directory.proofs.calls.open.Reads as open_reads
@@ -16,14 +16,14 @@ use Rattle.directory.specs.contracts.calls.add as add
 use Rattle.directory.proofs.calls.add.Reads as add_reads
 use Rattle.directory.specs.contracts.calls.remove as remove
 use Rattle.directory.proofs.calls.remove.Reads as remove_reads
-use Rattle.directory.specs.contracts.calls.make_group as make-group
-use Rattle.directory.proofs.calls.make_group.Reads as make-group_reads
+use Rattle.directory.specs.contracts.calls.make_group as make_group
+use Rattle.directory.proofs.calls.make_group.Reads as make_group_reads
 use Rattle.directory.specs.contracts.calls.join as join
 use Rattle.directory.proofs.calls.join.Reads as join_reads
 use Rattle.directory.specs.contracts.calls.leave as leave
 use Rattle.directory.proofs.calls.leave.Reads as leave_reads
-use Rattle.directory.specs.contracts.calls.list_members as list-members
-use Rattle.directory.proofs.calls.list_members.Reads as list-members_reads
+use Rattle.directory.specs.contracts.calls.list_members as list_members
+use Rattle.directory.proofs.calls.list_members.Reads as list_members_reads
 
 -- words lent by `&mut`
 abbrev Changing : Type 0
@@ -47,11 +47,11 @@ pub remove_answered : (κs : Lfts 3) (control : Control) (h0 h1 list : Changing)
     (Answered control h0.now h1.now list.now (Remove person) (given r []) (lent r.control h0' h1' list'))
 remove_answered κs control h0 h1 list person r h0' h1' list' = (tt, by_remove person r h0' h1' list')
 
-pub make-group-answered : (κs : Lfts 3) (control : Control) (h0 h1 list : Changing) (group : ℕ) (r : Reply) (h0' h1' list' : List ℕ)
-    → Gives make-group.ended make-group_reads.Asked make-group_reads.Learnt κs
+pub make_group_answered : (κs : Lfts 3) (control : Control) (h0 h1 list : Changing) (group : ℕ) (r : Reply) (h0' h1' list' : List ℕ)
+    → Gives make_group.ended make_group_reads.Asked make_group_reads.Learnt κs
     (control, (h0, (h1, (list, (group, tt))))) r (tt, (h0', (h1', (list', (tt, tt)))))
     (Answered control h0.now h1.now list.now (Make group) (given r []) (lent r.control h0' h1' list'))
-make-group-answered κs control h0 h1 list group r h0' h1' list' = (tt, by_make-group group r h0' h1' list')
+make_group_answered κs control h0 h1 list group r h0' h1' list' = (tt, by_make_group group r h0' h1' list')
 
 pub join_answered : (κs : Lfts 3) (control : Control) (h0 h1 list : Changing) (person group : ℕ) (r : Reply) (h0' h1' list' : List ℕ)
     → Gives join.ended join_reads.Asked join_reads.Learnt κs
@@ -65,8 +65,8 @@ pub leave_answered : (κs : Lfts 3) (control : Control) (h0 h1 list : Changing) 
     (Answered control h0.now h1.now list.now (Leave person group) (given r []) (lent r.control h0' h1' list'))
 leave_answered κs control h0 h1 list person group r h0' h1' list' = (tt, by_leave person group r h0' h1' list')
 
-pub list-members-answered : (κs : Lfts 3) (control : Control) (h0 h1 list : Slice) (group : ℕ) (out : Changing) (r : Reply) (out' : List ℕ)
-    → Gives list-members.ended list-members_reads.Asked list-members_reads.Learnt κs
+pub list_members_answered : (κs : Lfts 3) (control : Control) (h0 h1 list : Slice) (group : ℕ) (out : Changing) (r : Reply) (out' : List ℕ)
+    → Gives list_members.ended list_members_reads.Asked list_members_reads.Learnt κs
     (control, (h0, (h1, (list, (group, (out, tt)))))) r (tt, (tt, (tt, (tt, (tt, (out', tt))))))
     (Answered control h0.now h1.now list.now (Members group out.now) (given r out') (lent r.control h0.now h1.now list.now))
-list-members-answered κs control h0 h1 list group out r out' = (tt, by_list-members group out.now out' r)
+list_members_answered κs control h0 h1 list group out r out' = (tt, by_list_members group out.now out' r)

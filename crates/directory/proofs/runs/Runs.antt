@@ -12,7 +12,7 @@ use Rattle.directory_rules.specs.Directory.{directory_call}
 use Rattle.directory_rules.specs.Runs.{Item, after_items, directory_run}
 use Rattle.directory_rules.specs.Claims.{TableAnswers}
 use Rattle.directory_rules.proofs.runs.Run.{table_answers}
-use Rattle.directory.specs.CodeRuns.{Answered, by_open, by_add, by_remove, by_make-group, by_join, by_leave, by_list-members, CodeItems, ended, next-call, next-request, CodeItemsRun, CodeTableAnswers}
+use Rattle.directory.specs.CodeRuns.{Answered, by_open, by_add, by_remove, by_make_group, by_join, by_leave, by_list_members, CodeItems, ended, next-call, next-request, CodeItemsRun, CodeTableAnswers}
 
 -- a directory call leaves what the rules give
 pub answered_leaves : {control : Control} {h0 h1 list : List ℕ} {q : Request} {g : Given} {b : Lent}
@@ -20,10 +20,10 @@ pub answered_leaves : {control : Control} {h0 h1 list : List ℕ} {q : Request} 
 answered_leaves (by_open share r e) = e
 answered_leaves (by_add person r h0' h1' list' e) = e
 answered_leaves (by_remove person r h0' h1' list' e) = e
-answered_leaves (by_make-group group r h0' h1' list' e) = e
+answered_leaves (by_make_group group r h0' h1' list' e) = e
 answered_leaves (by_join person group r h0' h1' list' e) = e
 answered_leaves (by_leave person group r h0' h1' list' e) = e
-answered_leaves (by_list-members group out out' r e) = e
+answered_leaves (by_list_members group out out' r e) = e
 
 pub items_run : {a e : Lent} {xs : List Item} {gs : List Given}
     → CodeItems a xs gs e → (gs ≡ directory_run (viewed a) xs) × (viewed e ≡ after_items (viewed a) xs)
