@@ -1,5 +1,6 @@
 #!/usr/bin/env python3
-"""The documents name what is there. Of every page but the notes in docs/changes, which tell of their own time: links, their headings
+"""The documents name what is there. Of every page but the notes in docs/changes and
+docs/PORT.md, which tell of their own time: links, their headings
 and the names beside them; paths, file names and other names in backquotes or in a command; must-fail edits; points of
 docs/DECISIONS.md, which are numbered one after another. That a name or a point is the one that is meant, only a reader sees."""
 import os
@@ -8,6 +9,7 @@ import sys
 
 TOP = os.path.join(os.path.dirname(os.path.abspath(__file__)), "..")
 FOLDERS = ["crates", "docs", "tests", "demo", "bench", "tools"]
+OF_THEIR_TIME = ("docs/changes/", "docs/PORT.md")
 ENDINGS = "antt|rt|py|rs|edit|script|txt|notes|md"
 NAME = re.compile(r"[^\W\d][\w-]*")
 # in the pages' backquotes, but of the kit: its version and what it prints; or for any name
@@ -107,7 +109,7 @@ def faults(pages, known):
 
 def main():
     known = Known()
-    pages = ["README.md"] + [path for path in known.paths if path.endswith(".md") and not path.startswith("docs/changes/")]
+    pages = ["README.md"] + [path for path in known.paths if path.endswith(".md") and not path.startswith(OF_THEIR_TIME)]
     found = list(faults(pages, known))
     for fault in found:
         print(f"test_documents: {fault}")
