@@ -1,7 +1,6 @@
 #!/usr/bin/env python3
-"""The documents name what is there. Of every page but the notes in docs/changes and
-docs/PORT.md, which tell of their own time: links, their headings
-and the names beside them; paths, file names and other names in backquotes or in a command; must-fail edits; points of
+"""The documents name what is there. Of every page but the notes in docs/changes, docs/PORT.md and docs/DESIGN-PASS.md, which tell of
+their own time: links, their headings and the names beside them; paths, file names and other names in backquotes or in a command; must-fail edits; points of
 docs/DECISIONS.md, which are numbered one after another. That a name or a point is the one that is meant, only a reader sees."""
 import os
 import re
@@ -9,7 +8,7 @@ import sys
 
 TOP = os.path.join(os.path.dirname(os.path.abspath(__file__)), "..")
 FOLDERS = ["crates", "docs", "tests", "demo", "bench", "tools"]
-OF_THEIR_TIME = ("docs/changes/", "docs/PORT.md")
+OF_THEIR_TIME = ("docs/changes/", "docs/PORT.md", "docs/DESIGN-PASS.md")
 ENDINGS = "antt|rt|py|rs|edit|script|txt|notes|md"
 NAME = re.compile(r"[^\W\d][\w-]*")
 # in the pages' backquotes, but of the kit: its version and what it prints; or for any name

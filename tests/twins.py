@@ -25,9 +25,9 @@ import sys
 import tempfile
 
 ROOT = os.path.dirname(os.path.dirname(os.path.abspath(__file__)))
-QUICK = ("rules", "directory_rules")  # crates without a function, proved in seconds; any other takes up to minutes
-# a bracket, comma or semicolon; else all up to the next one or to white space
-TOKEN = re.compile(r"[()\[\]{},;]|[^\s()\[\]{},;]+")
+QUICK = ("rules", "directory_rules")  # proved in seconds; any other crate takes up to minutes
+# a bracket, comma, semicolon or the dots of a range; else all up to the next one or to white space
+TOKEN = re.compile(r"[()\[\]{},;]|\.\.=?|(?:(?!\.\.)[^\s()\[\]{},;])+")
 PATH = re.compile(r"(?:^|\.)[A-Z]")  # in a name with the module that it stands in
 FIELD = re.compile(r"(?<=[\w'])(?=\.[a-z_])")  # where the field of a name begins
 VALUE = re.compile(r"(\.?)\w(?:[\w.:'-]*[\w'])?")

@@ -2,17 +2,9 @@
 
 -- one act after another
 pub mod Sequence
--- a store call of the code, as an act
-pub mod Calling
--- a test before an act
-pub mod Tests
--- walks and counts of the code, as acts
-pub mod Results
--- walks of the code whose end is tested
-pub mod Found
 -- what stands at a place of a chain
 pub mod Looking
--- walks: a step, and their ends
+-- walks
 pub mod Walking
 -- going through the groups
 pub mod Groups

@@ -6,7 +6,7 @@ use Rattle.rules.specs.Cycle.{at_rest, at_reclaim}
 use Rattle.rules.specs.Runs.{Call, Allocate, Step, after, spent}
 use Rattle.rules.specs.Tracking.{Beside}
 use Rattle.rules.specs.Claims.{FreedBetween, left_in, scans_and_move, used_words, all_shares, SharesKept}
-use Rattle.rules.specs.declared.Answer.TheVariants.{Refused}
+use Rattle.rules.specs.Answers.{Refused}
 use Rattle.store.specs.CodeRuns.{Lent, viewed, CodeMade, Called}
 use Rattle.directory_rules.specs.Table.{Given}
 use Rattle.directory_rules.specs.Runs.{Item, call, allowed, calls_of, beside_items}

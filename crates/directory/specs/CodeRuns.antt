@@ -9,12 +9,13 @@ use Rattle.store.specs.declared.Control.{Control}
 use Rattle.directory_rules.specs.Table.{Request, Open, Add, Remove, Make, Join, Leave, Members, Given, new_table}
 use Rattle.directory_rules.specs.Directory.{directory_call}
 use Rattle.directory_rules.specs.Runs.{Item, call, request, allowed, after_items, directory_run, feeds_of, table_run}
+use Rattle.directory.specs.Answers.{number_of, count_of}
 use Rattle.directory.specs.View.{left}
 use Rattle.directory.specs.declared.Reply.{Reply}
 
 -- what a call answers, with the lent words as it leaves them
 abbrev pub given : Reply → List ℕ → Given
-given r ws = record { number = r.number; count = r.count; words = ws }
+given r ws = record { number = number_of r.answer; count = count_of r.answer; words = ws }
 
 -- A directory call of the code on a control record and the words h0, h1 and list: the request, what it answers, and what the next
 -- call gets. Each case is one function, with its contract as its `ensures` has it. That the contract of each function, as the

@@ -1,127 +1,76 @@
 // Changes of a chain: what names a record is made to name another, a record leaves, a new one comes.
 ghost use Rattle.std.specs.Prelude.{◌≡◌};
-ghost use Rattle.store.specs.View.{view};
 ghost use Rattle.directory_rules.specs.Acts.{perform};
 ghost use Rattle.directory_rules.specs.Directory.{link, cut, fresh, append};
-ghost use Rattle.directory.specs.View.{acted};
-ghost use Rattle.directory.specs.Parts.{cutting};
+ghost use Rattle.directory.specs.View.{Same, viewed_mut, acted_mut};
 
+use crate::asks::{allocate, load, put, store, write};
+use crate::lent::LentMut;
 use crate::walks::other_of;
-use crate::{FIRST_FIELD, GROUP_REGISTER, NEXT_FIELD, NUMBER_FIELD, OWN_GLOBAL, OWN_SESSION, Walk};
+use crate::{FIRST_FIELD, GROUP_REGISTER, NEXT_FIELD, Refusal};
 use directory_rules::{Place, Via};
-use rules::Answer;
+use store::Control;
 
 // What names the record at hand now names what register `from` holds.
 pub(crate) fn link(
-    control: store::Control,
-    h0: &mut [u32],
-    h1: &mut [u32],
-    list: &mut [u32],
+    control: &mut Control,
+    lent: &mut LentMut,
     at: u32,
     via: Via,
     from: u32,
-) -> store::Reply
-    ensures { acted result h0.new h1.new list.new
-        ≡ perform (view control h0.old h1.old list.old) (link at via from) }
+) -> Result<(), Refusal>
+    ensures did { acted_mut control.new lent.new result ≡ perform (viewed_mut control.old lent.old) (link at via from) }
+    ensures same { Same lent.old lent.new }
 {
     match via {
-        Via::Next => {
-            let before = other_of(at);
-            control.store(h0, h1, list, OWN_SESSION, before, NEXT_FIELD, from)
-        }
-        Via::First => {
-            control.store(h0, h1, list, OWN_SESSION, GROUP_REGISTER, FIRST_FIELD, from)
-        }
-        Via::Top => control.put(h0, h1, list, OWN_SESSION, OWN_GLOBAL, from),
+        Via::Next => store(control, lent, other_of(at), NEXT_FIELD, from),
+        Via::First => store(control, lent, GROUP_REGISTER, FIRST_FIELD, from),
+        Via::Top => put(control, lent, from),
     }
 }
 
 // The record at hand leaves its chain.
+#[tactic(auto, using(crate::proofs::acts::Sequence::after))]
 pub(crate) fn cut(
-    control: store::Control,
-    h0: &mut [u32],
-    h1: &mut [u32],
-    list: &mut [u32],
+    control: &mut Control,
+    lent: &mut LentMut,
     at: u32,
     via: Via,
-) -> store::Reply
-    ensures { acted result h0.new h1.new list.new
-        ≡ perform (view control h0.old h1.old list.old) (cut at via) }
+) -> Result<(), Refusal>
+    ensures did { acted_mut control.new lent.new result ≡ perform (viewed_mut control.old lent.old) (cut at via) }
+    ensures same { Same lent.old lent.new }
 {
-    let reply = control.load(h0, h1, list, OWN_SESSION, at, at, NEXT_FIELD);
-    let answer = reply.answer;
-    if let Answer::Refused(_) = answer {
-        return reply;
-    }
-    let next = reply.control;
-    link(next, h0, h1, list, at, via, at)
-}
-
-// The same where a walk found its record; else nothing. A refused walk stays refused.
-pub(crate) fn cut_found(
-    control: store::Control,
-    h0: &mut [u32],
-    h1: &mut [u32],
-    list: &mut [u32],
-    walk: Walk,
-) -> store::Reply
-    ensures { acted result h0.new h1.new list.new
-        ≡ perform (view control h0.old h1.old list.old) (cutting walk) }
-{
-    let answer = match walk {
-        Walk::Stopped(n) => Answer::Refused(n),
-        Walk::Ended(place) => {
-            if place.found {
-                let via = place.via;
-                return cut(control, h0, h1, list, place.at, via);
-            }
-            Answer::Done
-        }
-    };
-    store::Reply { control, answer }
+    load(control, lent.read(), at, at, NEXT_FIELD)?;
+    link(control, lent, at, via, at)
 }
 
 // A new record of some reference fields, with its word, in a register.
+#[tactic(auto, using(crate::proofs::acts::Sequence::after))]
 pub(crate) fn fresh(
-    control: store::Control,
-    h0: &mut [u32],
-    h1: &mut [u32],
-    list: &[u32],
+    control: &mut Control,
+    lent: &mut LentMut,
     register: u32,
     refs: u32,
     word: u32,
-) -> store::Reply
-    ensures { acted result h0.new h1.new list.now
-        ≡ perform (view control h0.old h1.old list.now) (fresh register refs word) }
+) -> Result<(), Refusal>
+    ensures did { acted_mut control.new lent.new result ≡ perform (viewed_mut control.old lent.old) (fresh register refs word) }
+    ensures same { Same lent.old lent.new }
 {
-    let reply = control.allocate(h0, h1, list, OWN_SESSION, register, refs, 1);
-    let answer = reply.answer;
-    if let Answer::Refused(_) = answer {
-        return reply;
-    }
-    let next = reply.control;
-    next.write(h0, h1, list, OWN_SESSION, register, NUMBER_FIELD, word)
+    allocate(control, lent, register, refs)?;
+    write(control, lent, register, word)
 }
 
 // A new person or link at the end of the chain.
+#[tactic(auto, using(crate::proofs::acts::Sequence::after), unfolding(directory_rules::specs::Directory::append))]
 pub(crate) fn append(
-    control: store::Control,
-    h0: &mut [u32],
-    h1: &mut [u32],
-    list: &mut [u32],
+    control: &mut Control,
+    lent: &mut LentMut,
     place: Place,
     person: u32,
-) -> store::Reply
-    ensures { acted result h0.new h1.new list.new
-        ≡ perform (view control h0.old h1.old list.old) (append place person) }
+) -> Result<(), Refusal>
+    ensures did { acted_mut control.new lent.new result ≡ perform (viewed_mut control.old lent.old) (append place person) }
+    ensures same { Same lent.old lent.new }
 {
-    let at = place.at;
-    let via = place.via;
-    let reply = fresh(control, h0, h1, list, at, 1, person);
-    let answer = reply.answer;
-    if let Answer::Refused(_) = answer {
-        return reply;
-    }
-    let next = reply.control;
-    link(next, h0, h1, list, at, via, at)
+    fresh(control, lent, place.at, 1, person)?;
+    link(control, lent, place.at, place.via, place.at)
 }

@@ -3,6 +3,13 @@
 
 #![tactic(auto)]
 
+ghost use Rattle.std.specs.Prelude.{◌≡◌};
+ghost use Rattle.rules.specs.Refusals.{check};
+ghost use Rattle.directory_rules.specs.Table.{is_number, unknown};
+ghost use Rattle.directory.specs.Answers.{number, number_of, count_of, tested};
+
+mod lent; // lent.rt: what a call is lent beside the control record
+mod asks; // asks.rt: the store's calls for session 15
 mod walks; // walks.rt: the record at hand, and walks over the entries and over a group's members
 mod chains; // chains.rt: changes of a chain
 mod people; // people.rt: adding a person
@@ -13,80 +20,65 @@ mod calls; // calls.rt: the calls
 
 pub use calls::{add, join, leave, list_members, make_group, open, remove};
 
-// What a call leaves: the next control record, the number of its refusal or 0, and, of a list, how many members there are.
+// Why a directory call is refused: as the store refused it, or for a reason of the directory's own.
+#[derive(Clone, Copy, Debug, PartialEq, Eq)]
+pub enum Refusal {
+    Store(rules::Refusal),
+    Unknown,
+    Already,
+    NotMember,
+    TooLong,
+}
+
+impl Refusal {
+    // The number.
+    pub fn number(self) -> u32
+        ensures { result ≡ number self }
+    {
+        match self {
+            Refusal::Store(refusal) => refusal.number(),
+            Refusal::Unknown => 23,
+            Refusal::Already => 24,
+            Refusal::NotMember => 25,
+            Refusal::TooLong => 26,
+        }
+    }
+}
+
+impl From<rules::Refusal> for Refusal {
+    ghost use Rattle.directory.specs.declared.Refusal.TheVariants.{Store};
+
+    ghost from_gives = { λ r e. e ≡ Store r };
+
+    fn from(refusal: rules::Refusal) -> Refusal {
+        Refusal::Store(refusal)
+    }
+}
+
+// What a call leaves: the next control record, and its refusal, or, of a list, how many members there are, of another 0.
 #[derive(Clone, Copy)]
 pub struct Reply {
     pub control: store::Control,
-    pub number: u32,
-    pub count: usize,
+    pub answer: Result<usize, Refusal>,
 }
 
-// What is asked to be changed: a person added or removed, a group made, a person in a group or out of it.
-#[derive(Clone, Copy)]
-pub enum Change {
-    Add(u32),
-    Remove(u32),
-    Make(u32),
-    Join(u32, u32),
-    Leave(u32, u32),
-}
+impl Reply {
+    // The number of its refusal, or 0.
+    pub fn number(&self) -> u32
+        ensures { result ≡ number_of self.now.answer }
+    {
+        match self.answer {
+            Ok(_) => 0,
+            Err(refusal) => refusal.number(),
+        }
+    }
 
-// What a walk finds at a place: the chain's end, a refusal, or the record's word.
-#[derive(Clone, Copy)]
-pub enum Found {
-    Ended,
-    Failed(u32),
-    Word(u32),
-}
-
-// What passing a record leaves.
-#[derive(Clone, Copy)]
-pub struct Passed {
-    pub control: store::Control,
-    pub found: Found,
-}
-
-// How a walk ends: refused, or at a place.
-#[derive(Clone, Copy)]
-pub enum Walk {
-    Stopped(u32),
-    Ended(directory_rules::Place),
-}
-
-// Whether a walk ends at a place, and how.
-#[derive(Clone, Copy)]
-pub enum Judged {
-    End(Walk),
-    On,
-}
-
-// What a walk leaves.
-#[derive(Clone, Copy)]
-pub struct Sought {
-    pub control: store::Control,
-    pub walk: Walk,
-}
-
-// What stands at a place of the entries, for one who goes through the groups: another group, or the end of the groups or a
-// refusal.
-#[derive(Clone, Copy)]
-pub enum Entry {
-    End(rules::Answer),
-    Group,
-}
-
-// How a count ends: refused, or with a number.
-#[derive(Clone, Copy)]
-pub enum Tally {
-    Stopped(u32),
-    Count(usize),
-}
-
-// What a count leaves.
-#[derive(Clone, Copy)]
-pub struct Counted {
-    pub control: store::Control,
-    pub tally: Tally,
+    // How many members there are, of a list that isn't refused; else 0.
+    pub fn count(&self) -> usize
+        ensures { result ≡ count_of self.now.answer }
+    {
+        self.answer.unwrap_or(0)
+    }
 }
 
 // "Session 15 and global 31 are the directory's alone."
@@ -98,17 +90,6 @@ const OWN_GLOBAL: u32 = 31;
 const GROUP_MARK: u32 = 100000000;
 
 const LAST_NUMBER: u32 = GROUP_MARK - 1;
-
-// The refusals: the store's of a null register, and the directory's own.
-const AT_NULL: u32 = 11;
-
-const UNKNOWN: u32 = 23;
-
-const ALREADY: u32 = 24;
-
-const NOT_MEMBER: u32 = 25;
-
-const TOO_LONG: u32 = 26;
 
 // The reference field that names the next entry or link, that of a group's first link, and the plain field.
 const NEXT_FIELD: u32 = 0;
@@ -131,3 +112,14 @@ const WALK_REGISTERS: u32 = 2;
 const GROUP_REGISTERS: u32 = 3;
 
 const REMOVE_REGISTERS: u32 = 5;
+
+// A number above 99,999,999 is nobody's.
+fn test_number(number: u32) -> Result<(), Refusal>
+    ensures { tested result ≡ check (is_number number) unknown }
+{
+    if number <= LAST_NUMBER {
+        Ok(())
+    } else {
+        Err(Refusal::Unknown)
+    }
+}

@@ -1,250 +1,93 @@
 // The members of a group: counted, and then as many taken as the lent words hold.
-ghost use Rattle.std.specs.Prelude.{◌≡◌, ◌≤◌, length};
-ghost use Rattle.store.specs.View.{view};
+ghost use Rattle.std.specs.Prelude.{◌≡◌, length};
 ghost use Rattle.directory_rules.specs.Acts.{perform};
-ghost use Rattle.directory_rules.specs.Directory.{counting, taking, taking_first, least, listing};
-ghost use Rattle.directory.specs.View.{passed_by, counted, left, left_by, Taken};
-ghost use Rattle.directory.specs.Parts.{passing, counting_members, listing_from};
+ghost use Rattle.directory_rules.specs.Directory.{counting, taking, taking_first, listing};
+ghost use Rattle.directory.specs.View.{viewed, acted, answered, left_by};
+ghost use Rattle.directory.specs.Parts.{passing, counting_members};
+ghost use Rattle.directory.specs.Taking.{taken_to};
 
+use crate::asks::load;
 use crate::groups::grouping;
-use crate::walks::look;
-use crate::{
-    AT_NULL, Counted, FIRST_FIELD, Found, GROUP_REGISTER, LAST_NUMBER, NEXT_FIELD, OWN_SESSION,
-    Passed, Reply, Tally, UNKNOWN, Walk,
-};
-use rules::Answer;
+use crate::lent::Lent;
+use crate::walks::{end, look};
+use crate::{FIRST_FIELD, GROUP_REGISTER, NEXT_FIELD, Refusal, test_number};
+use store::Control;
 
 // The record in register 0 is read, and the next one comes there.
-fn passing<'a>(
-    control: store::Control,
-    h0: &'a [u32],
-    h1: &'a [u32],
-    list: &[u32],
-    left: usize,
-) -> Passed
-    ensures { passed_by result h0.now h1.now list.now
-        ≡ perform (view control h0.now h1.now list.now) (passing left) }
+#[tactic(auto, using(crate::proofs::acts::Sequence::after), unfolding(crate::specs::Parts::passing))]
+fn passing(control: &mut Control, lent: Lent) -> Result<Option<u32>, Refusal>
+    ensures { acted control.new lent.entry result ≡ perform (viewed control.old lent.entry) passing }
 {
-    let found = look(control, h0, h1, list, left, 0);
-    let Found::Word(_) = found else {
-        return Passed { control, found };
+    let Some(word) = look(control, lent, 0)? else {
+        return Ok(None);
     };
-    let reply = control.load(h0, h1, list, OWN_SESSION, 0, 0, NEXT_FIELD);
-    let next = reply.control;
-    let answer = reply.answer;
-    if let Answer::Refused(n) = answer {
-        return Passed {
-            control: next,
-            found: Found::Failed(n),
-        };
-    }
-    Passed {
-        control: next,
-        found,
-    }
+    load(control, lent, 0, 0, NEXT_FIELD)?;
+    Ok(Some(word))
 }
 
 // How many records the chain from register 0 has; refused where it passes `bound` links and finds one more.
-fn counting<'a>(
-    mut control: store::Control,
-    h0: &'a [u32],
-    h1: &'a [u32],
-    list: &[u32],
-    bound: usize,
-) -> Counted
-    ensures { counted result h0.now h1.now list.now
-        ≡ perform (view control h0.now h1.now list.now) (counting bound 0) }
+#[tactic(auto, using(crate::proofs::acts::Sequence::after, crate::proofs::acts::Counting::counting_step, crate::proofs::acts::Counting::counting_none))]
+fn counting(control: &mut Control, lent: Lent, bound: usize) -> Result<usize, Refusal>
+    ensures { acted control.new lent.entry result ≡ perform (viewed control.old lent.entry) (counting bound 0) }
 {
-    let mut left = bound;
-    let mut count: usize = 0;
-    loop {
-        let passed = passing(control, h0, h1, list, left);
-        control = passed.control;
-        let found = passed.found;
-        match found {
-            Found::Ended => {
-                return Counted {
-                    control,
-                    tally: Tally::Count(count),
-                };
-            }
-            Found::Failed(n) => {
-                return Counted {
-                    control,
-                    tally: Tally::Stopped(n),
-                };
-            }
-            Found::Word(_) => {
-                left -= 1;
-                count += 1;
-            }
+    for count in 0..bound {
+        if passing(control, lent)?.is_none() {
+            return Ok(count);
         }
     }
+    end(control, lent, 0)?;
+    Ok(bound)
 }
 
 // The same of the members of the group in its register.
-fn counting_members<'a>(
-    control: store::Control,
-    h0: &'a [u32],
-    h1: &'a [u32],
-    list: &[u32],
-    half: usize,
-) -> Counted
-    ensures { counted result h0.now h1.now list.now
-        ≡ perform (view control h0.now h1.now list.now) (counting_members half) }
+#[tactic(auto, using(crate::proofs::acts::Sequence::after), unfolding(crate::specs::Parts::counting_members))]
+fn counting_members(control: &mut Control, lent: Lent, half: usize) -> Result<usize, Refusal>
+    ensures { acted control.new lent.entry result ≡ perform (viewed control.old lent.entry) (counting_members half) }
 {
-    let reply = control.load(h0, h1, list, OWN_SESSION, 0, GROUP_REGISTER, FIRST_FIELD);
-    let next = reply.control;
-    let answer = reply.answer;
-    if let Answer::Refused(n) = answer {
-        return Counted {
-            control: next,
-            tally: Tally::Stopped(n),
-        };
-    }
-    counting(next, h0, h1, list, half)
+    load(control, lent, 0, GROUP_REGISTER, FIRST_FIELD)?;
+    counting(control, lent, half)
 }
 
-// The words of the first records of the chain from register 0, to the first lent words.
-fn taking<'a>(
-    mut control: store::Control,
-    h0: &'a [u32],
-    h1: &'a [u32],
-    list: &[u32],
-    count: usize,
-    out: &mut [u32],
-) -> store::Reply
-    requires { count ≤ length out.old }
-    ensures { Taken (perform (view control h0.now h1.now list.now) (taking count))
-        result h0.now h1.now list.now out.old out.new }
+// The words of the first records of the chain from register 0, one for each lent word.
+#[tactic(auto, using(crate::proofs::acts::Sequence::after, crate::proofs::acts::Taking::taking_step))]
+fn taking(control: &mut Control, lent: Lent, out: &mut [u32]) -> Result<(), Refusal>
+    ensures { acted control.new lent.entry (taken_to result out.new) ≡ perform (viewed control.old lent.entry) (taking (length out.old)) }
 {
-    let mut i: usize = 0;
-    while i < count {
-        let passed = passing(control, h0, h1, list, 1);
-        control = passed.control;
-        let found = passed.found;
-        match found {
-            Found::Ended => {
-                return store::Reply {
-                    control,
-                    answer: Answer::Refused(AT_NULL),
-                };
-            }
-            Found::Failed(n) => {
-                return store::Reply {
-                    control,
-                    answer: Answer::Refused(n),
-                };
-            }
-            Found::Word(w) => {
-                out[i] = w;
-                i += 1;
-            }
-        }
+    for slot in out.iter_mut() {
+        *slot = passing(control, lent)?.ok_or(Refusal::Store(rules::Refusal::NullRegister))?;
     }
-    let answer = Answer::Done;
-    store::Reply { control, answer }
+    Ok(())
 }
 
 // The words of the group's first members; no call for none.
-fn taking_first<'a>(
-    control: store::Control,
-    h0: &'a [u32],
-    h1: &'a [u32],
-    list: &[u32],
-    count: usize,
-    out: &mut [u32],
-) -> store::Reply
-    requires { count ≤ length out.old }
-    ensures { Taken (perform (view control h0.now h1.now list.now) (taking_first count))
-        result h0.now h1.now list.now out.old out.new }
+#[tactic(auto, using(crate::proofs::acts::Sequence::after, crate::proofs::acts::Taking::first_step))]
+fn taking_first(control: &mut Control, lent: Lent, out: &mut [u32]) -> Result<(), Refusal>
+    ensures { acted control.new lent.entry (taken_to result out.new) ≡ perform (viewed control.old lent.entry) (taking_first (length out.old)) }
 {
-    if count == 0 {
-        return store::Reply {
-            control,
-            answer: Answer::Done,
-        };
+    if out.is_empty() {
+        return Ok(());
     }
-    let reply = control.load(h0, h1, list, OWN_SESSION, 0, GROUP_REGISTER, FIRST_FIELD);
-    let answer = reply.answer;
-    if let Answer::Refused(_) = answer {
-        return reply;
-    }
-    let next = reply.control;
-    taking(next, h0, h1, list, count, out)
+    load(control, lent, 0, GROUP_REGISTER, FIRST_FIELD)?;
+    taking(control, lent, out)
 }
 
-// The least of two numbers.
-fn least(a: usize, b: usize) -> usize
-    ensures { result ≡ least a b }
-{
-    if a <= b { a } else { b }
-}
-
-// The group in its register: its members counted, and then its first members to the lent words. A count that ends is
-// never followed by a refusal: the same records are read again.
-fn listing_from<'a>(
-    control: store::Control,
-    h0: &'a [u32],
-    h1: &'a [u32],
-    list: &[u32],
-    half: usize,
-    out: &mut [u32],
-) -> Reply
-    ensures { left result h0.now h1.now list.now out.new
-        ≡ left_by out.old (perform (view control h0.now h1.now list.now) (listing_from half out.old)) }
-{
-    let counted = counting_members(control, h0, h1, list, half);
-    let next = counted.control;
-    let tally = counted.tally;
-    match tally {
-        Tally::Stopped(n) => Reply {
-            control: next,
-            number: n,
-            count: 0,
-        },
-        Tally::Count(count) => {
-            let room = least(count, out.len());
-            let taken = taking_first(next, h0, h1, list, room, out);
-            let last = taken.control;
-            Reply {
-                control: last,
-                number: 0,
-                count,
-            }
-        }
-    }
-}
-
-// List: the group's members.
-pub(crate) fn listing<'a>(
-    control: store::Control,
-    h0: &'a [u32],
-    h1: &'a [u32],
-    list: &[u32],
+// List: how many members the group has, and the first of them to the lent words. A count that ends is never followed by a
+// refusal: the same records are read again.
+#[tactic(auto, using(crate::proofs::acts::Sequence::after, crate::proofs::acts::Listing::listing_as))]
+pub(crate) fn listing(
+    control: &mut Control,
+    lent: Lent,
     half: usize,
     group: u32,
     out: &mut [u32],
-) -> Reply
-    ensures { left result h0.now h1.now list.now out.new
-        ≡ left_by out.old (perform (view control h0.now h1.now list.now) (listing half group out.old)) }
+) -> Result<usize, Refusal>
+    ensures { answered control.new lent.entry result out.new
+        ≡ left_by out.old (perform (viewed control.old lent.entry) (listing half group out.old)) }
 {
-    if LAST_NUMBER < group {
-        return Reply {
-            control,
-            number: UNKNOWN,
-            count: 0,
-        };
-    }
-    let sought = grouping(control, h0, h1, list, half, group);
-    let next = sought.control;
-    let walk = sought.walk;
-    match walk {
-        Walk::Stopped(n) => Reply {
-            control: next,
-            number: n,
-            count: 0,
-        },
-        Walk::Ended(_) => listing_from(next, h0, h1, list, half, out),
-    }
+    test_number(group)?;
+    grouping(control, lent, half, group)?;
+    let count = counting_members(control, lent, half)?;
+    let room = count.min(out.len());
+    taking_first(control, lent, &mut out[..room])?;
+    Ok(count)
 }

@@ -1,42 +1,30 @@
 // Adding a person.
 ghost use Rattle.std.specs.Prelude.{◌≡◌};
-ghost use Rattle.store.specs.View.{view};
 ghost use Rattle.directory_rules.specs.Acts.{perform};
 ghost use Rattle.directory_rules.specs.Directory.{adding};
-ghost use Rattle.directory.specs.View.{acted};
+ghost use Rattle.directory.specs.View.{Same, viewed_mut, acted_mut};
 
 use crate::chains::append;
-use crate::walks::{entries, vacant};
-use crate::{LAST_NUMBER, UNKNOWN, Walk};
-use rules::Answer;
+use crate::lent::LentMut;
+use crate::walks::entries;
+use crate::{Refusal, test_number};
+use store::Control;
 
 // Add: a new person behind the last entry.
+#[tactic(auto, using(crate::proofs::acts::Sequence::after), unfolding(directory_rules::specs::Directory::adding))]
 pub(crate) fn adding(
-    control: store::Control,
-    h0: &mut [u32],
-    h1: &mut [u32],
-    list: &mut [u32],
+    control: &mut Control,
+    lent: &mut LentMut,
     half: usize,
     person: u32,
-) -> store::Reply
-    ensures { acted result h0.new h1.new list.new
-        ≡ perform (view control h0.old h1.old list.old) (adding half person) }
+) -> Result<(), Refusal>
+    ensures did { acted_mut control.new lent.new result ≡ perform (viewed_mut control.old lent.old) (adding half person) }
+    ensures same { Same lent.old lent.new }
 {
-    if LAST_NUMBER < person {
-        return store::Reply {
-            control,
-            answer: Answer::Refused(UNKNOWN),
-        };
+    test_number(person)?;
+    let place = entries(control, lent.read(), half, person, 0)?;
+    if place.found {
+        return Err(Refusal::Already);
     }
-    let sought = entries(control, h0, h1, list, half, person, 0);
-    let next = sought.control;
-    let end = sought.walk;
-    let walk = vacant(end);
-    match walk {
-        Walk::Stopped(n) => store::Reply {
-            control: next,
-            answer: Answer::Refused(n),
-        },
-        Walk::Ended(place) => append(next, h0, h1, list, place, person),
-    }
+    append(control, lent, place, person)
 }

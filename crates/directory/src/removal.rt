@@ -1,269 +1,137 @@
 // Removing a person.
 ghost use Rattle.std.specs.Prelude.{◌≡◌};
-ghost use Rattle.store.specs.View.{view};
-ghost use Rattle.directory_rules.specs.Acts.{Act, perform};
-ghost use Rattle.directory_rules.specs.Directory.{keep_before, link_person, each_group, leaving_all, removing};
-ghost use Rattle.directory.specs.View.{found, entering, acted};
-ghost use Rattle.directory.specs.Parts.{holding, unlinking, leaving_one, removing_found};
+ghost use Rattle.directory_rules.specs.Acts.{perform};
+ghost use Rattle.directory_rules.specs.Directory.{keep_before, link_person, cut_found, leaving_all, removing};
+ghost use Rattle.directory.specs.View.{Same, viewed, acted, viewed_mut, acted_mut};
+ghost use Rattle.directory.specs.Parts.{leaving_one, removing_found};
 
-use crate::chains::cut_found;
-use crate::walks::{entries, look, members, other_of, standing};
+use crate::asks::{get, load, move_register, put, store};
+use crate::chains::cut;
+use crate::lent::{Lent, LentMut};
+use crate::walks::{end, entries, look, members, other_of};
 use crate::{
-    BEFORE_REGISTER, Entry, Found, GROUP_MARK, GROUP_REGISTER, LAST_NUMBER, NEXT_FIELD, OWN_GLOBAL,
-    OWN_SESSION, PERSON_REGISTER, UNKNOWN, Walk,
+    BEFORE_REGISTER, GROUP_MARK, GROUP_REGISTER, NEXT_FIELD, PERSON_REGISTER, Refusal, test_number,
 };
-use directory_rules::Via;
-use rules::Answer;
+use directory_rules::{Place, Via};
+use store::Control;
 
 // The entry before the person, where there is one, in its register.
-fn keep_before(
-    control: store::Control,
-    h0: &[u32],
-    h1: &[u32],
-    list: &[u32],
-    at: u32,
-    via: Via,
-) -> store::Reply
-    ensures { acted result h0.now h1.now list.now
-        ≡ perform (view control h0.now h1.now list.now) (keep_before at via) }
+fn keep_before(control: &mut Control, lent: Lent, at: u32, via: Via) -> Result<(), Refusal>
+    ensures { acted control.new lent.entry result ≡ perform (viewed control.old lent.entry) (keep_before at via) }
 {
     match via {
-        Via::Next => {
-            let before = other_of(at);
-            control.move_register(h0, h1, list, OWN_SESSION, BEFORE_REGISTER, before)
-        }
-        Via::First => store::Reply {
-            control,
-            answer: Answer::Done,
-        },
-        Via::Top => store::Reply {
-            control,
-            answer: Answer::Done,
-        },
+        Via::Next => move_register(control, lent, BEFORE_REGISTER, other_of(at)),
+        Via::First | Via::Top => Ok(()),
     }
 }
 
-// The entry before the person, the person, and the first group, each in its register.
-fn holding(
-    control: store::Control,
-    h0: &[u32],
-    h1: &[u32],
-    list: &[u32],
-    at: u32,
-    via: Via,
-) -> store::Reply
-    ensures { acted result h0.now h1.now list.now
-        ≡ perform (view control h0.now h1.now list.now) (holding at via) }
+// The record that a walk found leaves its chain; where it found none, nothing does.
+fn cut_found(control: &mut Control, lent: &mut LentMut, place: Place) -> Result<(), Refusal>
+    ensures did { acted_mut control.new lent.new result ≡ perform (viewed_mut control.old lent.old) (cut_found place) }
+    ensures same { Same lent.old lent.new }
 {
-    let kept = keep_before(control, h0, h1, list, at, via);
-    let first = kept.answer;
-    if let Answer::Refused(_) = first {
-        return kept;
+    if place.found {
+        cut(control, lent, place.at, place.via)
+    } else {
+        Ok(())
     }
-    let before = kept.control;
-    let moved = before.move_register(h0, h1, list, OWN_SESSION, PERSON_REGISTER, at);
-    let second = moved.answer;
-    if let Answer::Refused(_) = second {
-        return moved;
-    }
-    let next = moved.control;
-    next.get(h0, h1, list, OWN_SESSION, GROUP_REGISTER, OWN_GLOBAL)
 }
 
 // The person leaves the group in its register, if it is in it, and the next entry comes there.
+#[tactic(auto, using(crate::proofs::acts::Sequence::after), unfolding(crate::specs::Parts::leaving_one))]
 fn leaving_one(
-    control: store::Control,
-    h0: &mut [u32],
-    h1: &mut [u32],
-    list: &mut [u32],
+    control: &mut Control,
+    lent: &mut LentMut,
     half: usize,
     person: u32,
-) -> store::Reply
-    ensures { acted result h0.new h1.new list.new
-        ≡ perform (view control h0.old h1.old list.old) (leaving_one half person) }
+) -> Result<(), Refusal>
+    ensures did { acted_mut control.new lent.new result ≡ perform (viewed_mut control.old lent.old) (leaving_one half person) }
+    ensures same { Same lent.old lent.new }
 {
-    let sought = members(control, h0, h1, list, half, person);
-    let next = sought.control;
-    let walk = sought.walk;
-    let reply = cut_found(next, h0, h1, list, walk);
-    let answer = reply.answer;
-    if let Answer::Refused(_) = answer {
-        return reply;
-    }
-    let after = reply.control;
-    after.load(
-        h0,
-        h1,
-        list,
-        OWN_SESSION,
+    let place = members(control, lent.read(), half, person)?;
+    cut_found(control, lent, place)?;
+    load(
+        control,
+        lent.read(),
         GROUP_REGISTER,
         GROUP_REGISTER,
         NEXT_FIELD,
     )
 }
 
-// Whether the groups end with what is found: at the chain's end, at the first person, or refused.
-fn entry_of(f: Found) -> Entry
-    ensures { (on : Act (Unit {0})) → entering result on ≡ each_group on (found f) }
-{
-    match f {
-        Found::Ended => Entry::End(Answer::Done),
-        Found::Failed(n) => Entry::End(Answer::Refused(n)),
-        Found::Word(w) => if w < GROUP_MARK {
-            Entry::End(Answer::Done)
-        } else {
-            Entry::Group
-        },
-    }
-}
-
-// The person leaves the group in its register and those after it.
+// The person leaves the group in its register and those after it, to the first person or the end.
+#[tactic(auto, using(crate::proofs::acts::Sequence::after, crate::proofs::acts::Groups::groups_step, crate::proofs::acts::Groups::groups_none))]
 fn leaving_all(
-    mut control: store::Control,
-    h0: &mut [u32],
-    h1: &mut [u32],
-    list: &mut [u32],
+    control: &mut Control,
+    lent: &mut LentMut,
     half: usize,
     person: u32,
-) -> store::Reply
-    ensures { acted result h0.new h1.new list.new
-        ≡ perform (view control h0.old h1.old list.old) (leaving_all half half person) }
+) -> Result<(), Refusal>
+    ensures did { acted_mut control.new lent.new result ≡ perform (viewed_mut control.old lent.old) (leaving_all half half person) }
+    ensures same { Same lent.old lent.new }
 {
-    let mut left = half;
-    loop {
-        let found = look(control, h0, h1, list, left, GROUP_REGISTER);
-        let entry = entry_of(found);
-        if let Entry::End(answer) = entry {
-            return store::Reply { control, answer };
+    for _ in 0..half {
+        match look(control, lent.read(), GROUP_REGISTER)? {
+            Some(word) if GROUP_MARK <= word => leaving_one(control, lent, half, person)?,
+            _ => return Ok(()),
         }
-        let reply = leaving_one(control, h0, h1, list, half, person);
-        let answer = reply.answer;
-        if let Answer::Refused(_) = answer {
-            return reply;
-        }
-        control = reply.control;
-        left -= 1;
     }
+    end(control, lent.read(), GROUP_REGISTER)
 }
 
 // What named the person now names what its register holds.
-fn link_person(
-    control: store::Control,
-    h0: &mut [u32],
-    h1: &mut [u32],
-    list: &mut [u32],
-    via: Via,
-) -> store::Reply
-    ensures { acted result h0.new h1.new list.new
-        ≡ perform (view control h0.old h1.old list.old) (link_person via) }
+fn link_person(control: &mut Control, lent: &mut LentMut, via: Via) -> Result<(), Refusal>
+    ensures did { acted_mut control.new lent.new result ≡ perform (viewed_mut control.old lent.old) (link_person via) }
+    ensures same { Same lent.old lent.new }
 {
     match via {
-        Via::Next => {
-            control.store(
-                h0,
-                h1,
-                list,
-                OWN_SESSION,
-                BEFORE_REGISTER,
-                NEXT_FIELD,
-                PERSON_REGISTER,
-            )
-        }
-        Via::First => store::Reply {
-            control,
-            answer: Answer::Done,
-        },
-        Via::Top => control.put(h0, h1, list, OWN_SESSION, OWN_GLOBAL, PERSON_REGISTER),
+        Via::Next => store(control, lent, BEFORE_REGISTER, NEXT_FIELD, PERSON_REGISTER),
+        Via::First => Ok(()),
+        Via::Top => put(control, lent, PERSON_REGISTER),
     }
-}
-
-// The person in its register leaves the entries.
-fn unlinking(
-    control: store::Control,
-    h0: &mut [u32],
-    h1: &mut [u32],
-    list: &mut [u32],
-    via: Via,
-) -> store::Reply
-    ensures { acted result h0.new h1.new list.new
-        ≡ perform (view control h0.old h1.old list.old) (unlinking via) }
-{
-    let reply = control.load(
-        h0,
-        h1,
-        list,
-        OWN_SESSION,
-        PERSON_REGISTER,
-        PERSON_REGISTER,
-        NEXT_FIELD,
-    );
-    let answer = reply.answer;
-    if let Answer::Refused(_) = answer {
-        return reply;
-    }
-    let next = reply.control;
-    link_person(next, h0, h1, list, via)
 }
 
 // The person that a walk found leaves all groups and then the entries.
+#[tactic(auto, using(crate::proofs::acts::Sequence::after))]
 fn removing_found(
-    control: store::Control,
-    h0: &mut [u32],
-    h1: &mut [u32],
-    list: &mut [u32],
+    control: &mut Control,
+    lent: &mut LentMut,
     half: usize,
     person: u32,
-    at: u32,
-    via: Via,
-) -> store::Reply
-    ensures { acted result h0.new h1.new list.new
-        ≡ perform (view control h0.old h1.old list.old) (removing_found half person at via) }
+    place: Place,
+) -> Result<(), Refusal>
+    ensures did { acted_mut control.new lent.new result ≡ perform (viewed_mut control.old lent.old) (removing_found half person place) }
+    ensures same { Same lent.old lent.new }
 {
-    let held = holding(control, h0, h1, list, at, via);
-    let first = held.answer;
-    if let Answer::Refused(_) = first {
-        return held;
-    }
-    let next = held.control;
-    let gone = leaving_all(next, h0, h1, list, half, person);
-    let second = gone.answer;
-    if let Answer::Refused(_) = second {
-        return gone;
-    }
-    let after = gone.control;
-    unlinking(after, h0, h1, list, via)
+    keep_before(control, lent.read(), place.at, place.via)?;
+    move_register(control, lent.read(), PERSON_REGISTER, place.at)?;
+    get(control, lent.read(), GROUP_REGISTER)?;
+    leaving_all(control, lent, half, person)?;
+    load(
+        control,
+        lent.read(),
+        PERSON_REGISTER,
+        PERSON_REGISTER,
+        NEXT_FIELD,
+    )?;
+    link_person(control, lent, place.via)
 }
 
 // Remove: the person leaves all groups and the entries.
+#[tactic(auto, using(crate::proofs::acts::Sequence::after), unfolding(directory_rules::specs::Directory::removing))]
 pub(crate) fn removing(
-    control: store::Control,
-    h0: &mut [u32],
-    h1: &mut [u32],
-    list: &mut [u32],
+    control: &mut Control,
+    lent: &mut LentMut,
     half: usize,
     person: u32,
-) -> store::Reply
-    ensures { acted result h0.new h1.new list.new
-        ≡ perform (view control h0.old h1.old list.old) (removing half person) }
+) -> Result<(), Refusal>
+    ensures did { acted_mut control.new lent.new result ≡ perform (viewed_mut control.old lent.old) (removing half person) }
+    ensures same { Same lent.old lent.new }
 {
-    if LAST_NUMBER < person {
-        return store::Reply {
-            control,
-            answer: Answer::Refused(UNKNOWN),
-        };
+    test_number(person)?;
+    let place = entries(control, lent.read(), half, person, 0)?;
+    if !place.found {
+        return Err(Refusal::Unknown);
     }
-    let sought = entries(control, h0, h1, list, half, person, 0);
-    let next = sought.control;
-    let end = sought.walk;
-    let walk = standing(end, UNKNOWN);
-    match walk {
-        Walk::Stopped(n) => store::Reply {
-            control: next,
-            answer: Answer::Refused(n),
-        },
-        Walk::Ended(place) => {
-            let via = place.via;
-            removing_found(next, h0, h1, list, half, person, place.at, via)
-        }
-    }
+    removing_found(control, lent, half, person, place)
 }

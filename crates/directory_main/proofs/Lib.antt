@@ -2,8 +2,6 @@
 
 -- the length byte of each kind
 pub mod Sizes
--- the input buffer read on
-pub mod Buffer
 -- the text of a line as it is written
 pub mod Text
 -- what one entry leaves

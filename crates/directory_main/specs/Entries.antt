@@ -1,11 +1,9 @@
 -- The entries of the directory's own kinds, and the requests that they make.
-use Rattle.std.specs.Prelude.{ℕ, ◌+◌, ◌-◌, Bool, cond, ◌&&◌, List, [], ◌∷◌, leb, eqb, length, get_or}
+use Rattle.std.specs.Prelude.{ℕ, ◌+◌, ◌-◌, Bool, cond, ◌&&◌, Option, None, Some, List, [], ◌∷◌, leb, eqb, length, get_or}
 use Rattle.rules.specs.Script.{number_at, script_share}
 use Rattle.directory_rules.specs.Table as table
 use Rattle.directory_main.specs.declared.entries.Request.{Request}
 use Rattle.directory_main.specs.declared.entries.Request.TheVariants.{Open, Add, Remove, Make, Join, Leave, List as Members}
-use Rattle.directory_main.specs.declared.entries.Entry.{Entry}
-use Rattle.directory_main.specs.declared.entries.Entry.TheVariants.{Own, Other}
 
 -- ---- the code's requests as those of the directory
 
@@ -58,5 +56,6 @@ is_own b =
     leb 16 (get_or b 1 0) && leb (get_or b 1 0) 22 && eqb (get_or b 0 0) (kind_of b (get_or b 1 0)).size
     && eqb (length b) (1 + get_or b 0 0)
 
-unfoldable pub entry_of : List ℕ → Entry
-entry_of b = cond (is_own b) (Own (kind_of b (get_or b 1 0)).request) Other
+-- the request of an entry of the directory's own kinds
+unfoldable pub entry_of : List ℕ → Option Request
+entry_of b = cond (is_own b) (Some (kind_of b (get_or b 1 0)).request) None

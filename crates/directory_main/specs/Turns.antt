@@ -1,5 +1,5 @@
 -- One entry, and what is left after it.
-use Rattle.std.specs.Prelude.{ℕ, ◌+◌, Bool, true, List, [], length, take, replicate}
+use Rattle.std.specs.Prelude.{ℕ, ◌+◌, Bool, true, Option, None, Some, List, [], length, take, replicate}
 use Rattle.std.proofs.lemmas.List.Edits.{sets}
 use Rattle.rules.specs.Control.{Store}
 use Rattle.store.specs.View.{view}
@@ -8,9 +8,7 @@ use Rattle.directory_rules.specs.Table.{Given}
 use Rattle.directory_rules.specs.Directory.{directory_call}
 use Rattle.directory_main.specs.declared.entries.Request.{Request}
 use Rattle.directory_main.specs.declared.entries.Request.TheVariants.{Open, Add, Remove, Make, Join, Leave, List as Members}
-use Rattle.directory_main.specs.declared.entries.Entry.{Entry}
-use Rattle.directory_main.specs.declared.entries.Entry.TheVariants.{Own, Other}
-use Rattle.directory_main.specs.declared.turns.Turn.{Turn}
+use Rattle.script.specs.declared.turns.Turn.{Turn}
 use Rattle.directory_main.specs.Entries.{asked, lent_by, entry_of}
 use Rattle.directory_main.specs.Lines.{line_text}
 
@@ -56,9 +54,9 @@ other_turn s b n out end =
     let x = script.turns 1 1 b (script.begun s 0 n out end) in
     record { store = x.store; out = x.out; end = x.end; more = x.more }
 
-abbrev pub turn_by : Entry → Store → List ℕ → ℕ → List ℕ → ℕ → Left
-turn_by (Own q) s b n out end = own_turn s q (replicate (lent_by q) 0) n out end
-turn_by Other s b n out end = other_turn s b n out end
+abbrev pub turn_by : Option Request → Store → List ℕ → ℕ → List ℕ → ℕ → Left
+turn_by (Some q) s b n out end = own_turn s q (replicate (lent_by q) 0) n out end
+turn_by None s b n out end = other_turn s b n out end
 
 -- entry n, of which b is all the bytes: its call, and its line
 unfoldable pub turn_of : Store → List ℕ → ℕ → List ℕ → ℕ → Left

@@ -7,39 +7,14 @@ ghost use Rattle.directory_main.specs.Lines.{longest, words_text, line_text};
 // No line is longer than this: 20, 10 and 20 digits, 255 members of 10 digits, 257 spaces and a newline.
 pub(crate) const LONGEST_LINE: usize = 2858;
 
-// Puts some bytes at a place of the output and answers the place after them.
-fn put_bytes(out: &mut [u8], at: usize, text: &[u8]) -> usize
-    requires { at + length text.now ≤ length out.old }
-    ensures end { result ≡ at + length text.now }
-    ensures text { out.new ≡ sets out.old at text.now }
-{
-    let mut i: usize = 0;
-    while i < text.len() {
-        out[at + i] = text[i];
-        i += 1;
-    }
-    at + i
-}
-
-// Puts a number's decimal digits at a place of the output and answers the place after them.
-fn put_number(out: &mut [u8], at: usize, n: u64) -> usize
-    requires { at + length (decimal n) ≤ length out.old }
-    ensures end { result ≡ at + length (decimal n) }
-    ensures text { out.new ≡ sets out.old at (decimal n) }
-{
-    let mut text = [0u8; 20];
-    let k = io::decimal(n, &mut text);
-    put_bytes(out, at, &text[..k])
-}
-
-// The same with a space before them.
+// Puts a space and a number's decimal digits at a place of the output and answers the place after them.
 fn put_next(out: &mut [u8], at: usize, n: u64) -> usize
     requires { at + 1 + length (decimal n) ≤ length out.old }
     ensures end { result ≡ at + length (space ∷ decimal n) }
     ensures text { out.new ≡ sets out.old at (space ∷ decimal n) }
 {
     out[at] = b' ';
-    put_number(out, at + 1, n)
+    script::write_decimal(out, at + 1, n)
 }
 
 // Puts some words at a place of the output, each after a space, and answers the place after them.
@@ -50,15 +25,14 @@ fn put_words(out: &mut [u8], at: usize, words: &[u32]) -> usize
     ensures short { result ≤ at + 11 * length words.now }
 {
     let mut end = at;
-    let mut i: usize = 0;
-    while i < words.len() {
-        end = put_next(out, end, words[i] as u64);
-        i += 1;
+    for word in words {
+        end = put_next(out, end, u64::from(*word));
     }
     end
 }
 
 // Puts a line at a place of the output that has room for the longest one and answers the place after it.
+#[tactic(auto, using(script::proofs::Digits::line_lengths))]
 pub(crate) fn write_line(
     out: &mut [u8],
     at: usize,
@@ -72,7 +46,7 @@ pub(crate) fn write_line(
     ensures text { out.new ≡ sets out.old at (line_text entry refusal value words.now) }
     ensures short { result ≤ at + longest }
 {
-    let first = put_number(out, at, entry);
+    let first = script::write_decimal(out, at, entry);
     let second = put_next(out, first, refusal as u64);
     let third = put_next(out, second, value);
     let end = put_words(out, third, words);

@@ -7,146 +7,60 @@ mod entries; // entries.rt: the entries of the directory's own kinds
 mod lines; // lines.rt: the text of their lines
 mod turns; // turns.rt: one entry, its call and its line
 
-ghost use Rattle.std.specs.Prelude.{◌≡◌, ◌+◌, ◌≤◌, length};
 ghost use Rattle.directory_main.specs.Lines.{longest};
-ghost use Rattle.directory_main.specs.Window.{is_short, Fetched};
 
-use std::io::{Read, Write};
+use script::{Program, Turn};
 
-// The bytes of the longest entry that isn't 15, its length byte among them.
-const LONGEST_ENTRY: usize = 10;
+// The program for scripts with calls of the directory.
+struct Directory;
 
-// Where the next entry starts in the input buffer, and how many bytes of the buffer are filled.
-#[derive(Clone, Copy)]
-struct Window {
-    at: usize,
-    filled: usize,
-}
+impl Program for Directory {
+    const VERSION: u8 = 2;
 
-// Where the next line goes, and whether the output so far could be written.
-#[derive(Clone, Copy)]
-struct Room {
-    at: usize,
-    written: bool,
-}
+    const LONGEST_ENTRY: usize = 10;
 
-// Whether an entry at this place may run past what is filled. A buffer that isn't full holds the end of the input.
-fn is_short(at: usize, filled: usize, size: usize) -> bool
-    ensures { result ≡ is_short at filled size }
-{
-    if filled < size {
-        return false;
-    }
-    if filled <= at {
-        return true;
-    }
-    filled - at < LONGEST_ENTRY
-}
+    const LONGEST_LINE: usize = lines::LONGEST_LINE;
 
-// The input buffer with the whole of the next entry in it, as far as the input has it.
-fn fetch<R: Read>(stdin: &mut R, input: &mut [u8], at: usize, filled: usize) -> Window
-    requires { (at ≤ filled) × (filled ≤ length input.old) }
-    ensures { Fetched input.old at filled input.new result.at result.filled }
-{
-    if !is_short(at, filled, input.len()) {
-        return Window { at, filled };
-    }
-    let kept = script::keep(input, at, filled);
-    let got = streams::read_full(stdin, &mut input[kept..]);
-    Window {
-        at: 0,
-        filled: kept + got,
-    }
-}
+    ghost LONGEST_LINE = { longest };
 
-// Writes the output so far and answers whether all of it was written.
-fn write_out<W: Write>(stdout: &mut W, out: &[u8], end: usize) -> bool
-    requires { end ≤ length out.now }
-{
-    streams::write_all(stdout, &out[..end])
-}
-
-// Writes the output so far where a line may not fit after it.
-fn flush<W: Write>(stdout: &mut W, out: &[u8], end: usize) -> Room
-    requires { (end ≤ length out.now) × (longest ≤ length out.now) }
-    ensures { result.at + longest ≤ length out.now }
-{
-    if lines::LONGEST_LINE <= out.len() - end {
-        return Room {
-            at: end,
-            written: true,
-        };
-    }
-    Room {
-        at: 0,
-        written: write_out(stdout, out, end),
-    }
-}
-
-// The entries of the input, from the first on, until the input ends, an entry is 15 or a write fails. Answers whether all
-// lines were written; after a write that failed there is no other.
-fn run<R: Read, W: Write>(
-    stdin: &mut R,
-    stdout: &mut W,
-    h0: &mut [u32],
-    h1: &mut [u32],
-    list: &mut [u32],
-    input: &mut [u8],
-    first: usize,
-    out: &mut [u8],
-) -> bool
-    requires { (1 ≤ first) × (first ≤ length input.old) × (longest ≤ length out.old) }
-{
-    let made = store::Control::make(h0, h1, list);
-    let mut control = made.control;
-    let mut at: usize = 1;
-    let mut filled = first;
-    let mut end: usize = 0;
-    let mut number: u64 = 1;
-    let mut more = true;
-    while more & (number < u64::MAX) {
-        let window = fetch(stdin, input, at, filled);
-        let start = window.at;
-        filled = window.filled;
-        let room = flush(stdout, out, end);
-        if !room.written {
-            return false;
+    fn take(
+        turn: Turn,
+        h0: &mut [u32],
+        h1: &mut [u32],
+        list: &mut [u32],
+        input: &[u8],
+        _size: usize,
+        out: &mut [u8],
+    ) -> Turn {
+        if turn.number == u64::MAX {
+            return turn;
         }
-        at = entries::end_of(&input[..filled], start);
-        let entry = &input[start..at];
-        let turn = turns::take_turn(control, h0, h1, list, entry, number, out, room.at);
-        let next = turn.control;
-        control = next;
-        end = turn.end;
-        more = turn.more;
-        number += 1;
+        let number = turn.number + 1;
+        let at = entries::end_of(input, turn.at);
+        let entry = &input[turn.at..at];
+        let taken = turns::take_turn(turn, h0, h1, list, entry, out);
+        Turn {
+            at,
+            number,
+            ..taken
+        }
     }
-    write_out(stdout, out, end)
 }
 
 // The program ends well on every input, so what `run` answers goes no further.
 fn main(rt: HostRuntime) {
-    let mut stdin = rt.stdin();
-    let mut stdout = rt.stdout();
     let mut half0 = [0u32; 4096];
     let mut half1 = [0u32; 4096];
     let mut list = [0u32; 1365];
     let mut input = [0u8; 4096];
     let mut out = [0u8; 4096];
-    let filled = streams::read_full(&mut stdin, &mut input);
-    if entries::is_version(&input[..filled]) {
-        run(
-            &mut stdin,
-            &mut stdout,
-            &mut half0,
-            &mut half1,
-            &mut list,
-            &mut input,
-            filled,
-            &mut out,
-        );
-    } else {
-        let end = script::write_bad_version(&mut out);
-        write_out(&mut stdout, &out, end);
-    }
+    script::run::<Directory>(
+        &mut rt.stdin(),
+        &mut rt.stdout(),
+        &mut half0,
+        &mut half1,
+        &mut list,
+        &mut input,
+        &mut out,
+    );
 }

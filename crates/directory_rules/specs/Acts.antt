@@ -4,7 +4,7 @@ use Rattle.rules.specs.Refusals.{Tested, refused, passed, Reply, answer, words}
 use Rattle.rules.specs.Control.{Store}
 use Rattle.rules.specs.Runs.{Call, Attach, SafePoint, Allocate, Load, StoreRef, Read, Write, Move, Clear, Get, Put, apply, is_allocation}
 use Rattle.rules.specs.Claims.{allocation_numbers}
-use Rattle.rules.specs.declared.Answer.TheVariants.{Refused, Done, Word, Same, Phase}
+use Rattle.rules.specs.Answers.{Refused, Done, Word, Same, Phase}
 use Rattle.directory_rules.specs.Table.{among}
 
 -- "Session 15 and global 31 are the directory's alone"

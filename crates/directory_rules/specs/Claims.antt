@@ -7,7 +7,7 @@ use Rattle.rules.specs.Phases.{session_at}
 use Rattle.rules.specs.Runs.{Call, Attach, Detach, SafePoint, Allocate, Load, StoreRef, StoreLinks, Read, Write, Move, Clear, SameAs, Get, Put, Stretch, Companion, Birth, Step, apply}
 use Rattle.rules.specs.Claims.{Made, allocation_numbers}
 use Rattle.rules.specs.Examples.{Computed}
-use Rattle.rules.specs.declared.Answer.TheVariants.{Refused}
+use Rattle.rules.specs.Answers.{Refused}
 use Rattle.directory_rules.specs.Table.{Request, Open, Add, Remove, Make, Join, Leave, Members, new_table, among, unknown, already, not_member, lent_by}
 use Rattle.directory_rules.specs.Acts.{own_session, perform, calls_made}
 use Rattle.directory_rules.specs.Directory.{directory_call, program_on}

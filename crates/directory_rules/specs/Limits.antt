@@ -5,7 +5,7 @@ use Rattle.rules.specs.Refusals.{refusal_of, answer}
 use Rattle.rules.specs.Control.{Store, new_store}
 use Rattle.rules.specs.Runs.{Clear, Get, Load, Put, StoreRef}
 use Rattle.rules.specs.Examples.{Example}
-use Rattle.rules.specs.declared.Answer.TheVariants.{Refused}
+use Rattle.rules.specs.Answers.{Refused}
 use Rattle.directory_rules.specs.Table.{Request, Open, Add, Remove, Make, Join, Leave, Members}
 use Rattle.directory_rules.specs.Acts.{perform, refused_by}
 use Rattle.directory_rules.specs.Directory.{group_mark, program, fed_number}

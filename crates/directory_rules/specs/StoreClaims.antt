@@ -5,7 +5,7 @@ use Rattle.rules.specs.Cycle.{at_rest, at_reclaim}
 use Rattle.rules.specs.Control.{Store}
 use Rattle.rules.specs.Runs.{Call, Allocate, Step, apply, after, spent}
 use Rattle.rules.specs.Claims.{Made, FreedBetween, left_in, scans_and_move, EndsReclaim, used_words, all_shares, SharesKept}
-use Rattle.rules.specs.declared.Answer.TheVariants.{Refused}
+use Rattle.rules.specs.Answers.{Refused}
 use Rattle.directory_rules.specs.Runs.{Item, call, after_items, calls_of, beside_items}
 
 -- the items leave what their store calls leave, one after another. So the store's claims are about every such run, whatever its calls name

@@ -12,7 +12,8 @@ pub enum Via {
 }
 
 // Where a walk ended: whether at the record that it looked for, the register of the record at hand, what names that
-// record, and how many links the walk had left.
+// record, and how many links the walk had left. `found` is a flag and no Option, as what isn't found is put in at that place
+// (`append`), and `place`, `absent` and `present` of the rules name it.
 #[derive(Clone, Copy)]
 pub struct Place {
     pub found: bool,

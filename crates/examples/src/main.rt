@@ -1,29 +1,28 @@
 // Checks the example of document 01 that is not starred: in an empty store without sessions a collection takes 77 steps.
+// The halves and the list are lent one by one, as the store's calls take them.
 
 #![tactic(auto)]
 
 use store::Control;
 
-// How many steps a control record takes until its phase is 0 again, or `most` if it has not come there by then.
+// The most steps that are tried.
+const MANY: u64 = 1000;
+
+// How many steps a control record takes until its phase is 0 again, if no more than `most`.
 fn steps_to_rest(
-    made: Control,
+    mut control: Control,
     h0: &mut [u32],
     h1: &mut [u32],
     list: &mut [u32],
     most: u64,
-) -> u64 {
-    let mut control = made;
-    let mut n: u64 = 0;
-    while n < most {
-        let reply = control.step(h0, h1, list);
-        let next = reply.control;
-        control = next;
-        n += 1;
+) -> Option<u64> {
+    for steps in 1..=most {
+        control = control.step(h0, h1, list).control;
         if control.cursor.phase == Control::REST {
-            return n;
+            return Some(steps);
         }
     }
-    n
+    None
 }
 
 fn main(rt: HostRuntime) {
@@ -31,7 +30,6 @@ fn main(rt: HostRuntime) {
     let mut h1 = [0u32; 16];
     let mut list = [0u32; 5];
     let made = Control::make(&h0, &h1, &list);
-    let control = made.control;
-    let n = steps_to_rest(control, &mut h0, &mut h1, &mut list, 1000);
-    let _ = println!(rt; "empty store, steps from phase 0 back to 0: {n}");
+    let steps = steps_to_rest(made.control, &mut h0, &mut h1, &mut list, MANY).unwrap_or(MANY);
+    let _ = println!(rt; "empty store, steps from phase 0 back to 0: {steps}");
 }

@@ -1,69 +1,15 @@
--- The arms of following: a record that is sound, by its replica word and what the test of its replica answered.
+-- What the code asks of a replica, only what its record hasn't shown, is the rules' test.
 use Prim.Native.Nat.{ℕ, ◌+◌, ◌≤◌, ◌<◌}
-use mathlib.Core.Path.{◌≡◌, ◌∙◌, sym}
-use mathlib.Core.Bool.{Bool, true, false, ◌&&◌, ◌||◌, and-true, and-false}
+use mathlib.Core.Path.{◌≡◌}
+use mathlib.Core.Bool.{true, false, ◌&&◌, and-true, and-false}
 use native.Mathlib.Omega.{arith}
-use lib.Dec.{leb, ltb, eqb}
-use borrow.Author.Tests.{ltb-true, ltb-false, eqb-false, eq-eqb, ne_eqb, le-leb, lt-leb}
-use Rattle.rules.specs.Memory.{Memory, frontier, half_of, word_of, header, most_shape, black, shape_at, colour_at, replica_at, word, colour, replica, refs, plains, size, sound, points_back, followable, follow}
-use Rattle.rules.specs.declared.Followed.{Followed}
-use Rattle.rules.specs.declared.Followed.TheVariants.{Sound, Damage}
-use Rattle.rules.proofs.memory.Cases.{bool_or, eq_or, or_second, neither}
-use Rattle.heap.specs.View.{sound_at}
-use Rattle.heap.proofs.Soundness.{split, unsplit, sound-shape}
-
--- ---- a sound record
-
-module _ {x : Followed} (M : Memory) (v : ℕ) (e : x ≡ sound_at M v) where
-  pub is-sound : {at r p : ℕ} → x ≡ Sound at r p → sound M v ≡ true
-  is-sound s = (split (sound M v) _ _ _ (sym e ∙ s)).0
-
-  -- its words
-  pub sound-size : {at r p : ℕ} → x ≡ Sound at r p → header + r + p ≡ size M v
-  unfolding size
-  sound-size s = let q = split (sound M v) (word_of v) (refs M v) (plains M v) (sym e ∙ s) in rw (q.2, q.3)
-
-  not_sound : x ≡ Damage → sound M v ≡ false
-  not_sound d = unsplit (sound M v) _ _ _ (sym e ∙ d)
-
-  -- ---- following it
-
-  pub follow_unsound : x ≡ Damage → Damage ≡ follow M v
-  unfolding follow followable
-  follow_unsound d = rw (not_sound d)
-
-  module _ {at r p w : ℕ} (s : x ≡ Sound at r p) (n : w ≡ word M v replica_at) where
-    found_at : followable M v ≡ true → Sound at r p ≡ follow M v
-    unfolding follow
-    found_at f = let q = split (sound M v) (word_of v) (refs M v) (plains M v) (sym e ∙ s) in rw (f, q.1, q.2, q.3)
-
-    pub follow_alone : w ≡ 0 → Sound at r p ≡ follow M v
-    unfolding followable replica
-    follow_alone z = found_at (rw (is-sound s, ← n, eq-eqb w 0 z))
-
-    module _ {b : Bool} (z : w ≡ 0 → ⊥) (t : b ≡ points_back M w v) where
-      pub follow-paired : b ≡ true → Sound at r p ≡ follow M v
-      unfolding followable replica
-      follow-paired y = found_at (rw (is-sound s, ← n, ne_eqb w 0 z, ← t, y))
-
-      pub follow_astray : b ≡ false → Damage ≡ follow M v
-      unfolding follow followable replica
-      follow_astray y = rw (is-sound s, ← n, ne_eqb w 0 z, ← t, y)
-
--- ---- the test of its replica
-
--- w is in the other half
-pub across : (w v : ℕ) → (ltb w 2 || eqb (half_of w) (half_of v)) ≡ false → (2 ≤ w) × (half_of w ≡ half_of v → ⊥)
-across w v e = let b = neither (ltb w 2) (eqb (half_of w) (half_of v)) e in (ltb-false w 2 b.0, eqb-false (half_of w) (half_of v) b.1)
+use lib.Dec.{leb, eqb}
+use borrow.Author.Tests.{eq-eqb, ne_eqb, le-leb, lt-leb}
+use Rattle.rules.specs.Memory.{Memory, frontier, half_of, word_of, most_shape, black, shape_at, colour_at, replica_at, word, colour, replica, refs, plains, size, sound, points_back}
+use Rattle.rules.proofs.memory.Cases.{eq_or}
+use Rattle.heap.proofs.Soundness.{sound-shape}
 
 module _ (M : Memory) (w v : ℕ) where
-  -- w names nothing, or the half of v
-  pub back_outside : (ltb w 2 || eqb (half_of w) (half_of v)) ≡ true → false ≡ points_back M w v
-  unfolding points_back sound
-  back_outside e = bool_or (ltb w 2)
-      (λ t. rw (lt-leb 2 w (ltb-true w 2 t)))
-      (λ f. rw (or_second (ltb w 2) (eqb (half_of w) (half_of v)) e f, and-false))
-
   back_other : (word M w shape_at ≡ word M v shape_at → ⊥) → false ≡ points_back M w v
   unfolding points_back
   back_other d = rw (ne_eqb (word M w shape_at) (word M v shape_at) d, and-false)

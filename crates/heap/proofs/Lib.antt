@@ -2,18 +2,17 @@
 
 -- for callers: which half, what following found, its fields, answers taken apart, what there is to shade, what a plan writes, room for
 -- a record
-pub mod Halves
+pub mod Placing
 pub mod Soundness
 pub mod Fields
 pub mod Laid
+pub mod Lent
 pub mod Answers
 pub mod Passed
 pub mod ToShade
 pub mod Plans
 pub mod Written
 -- the arms of this crate's functions
-pub mod Followings
-pub mod Copies
-pub mod Shadings
 pub mod Levels
 pub mod Replicas
+pub mod Followings

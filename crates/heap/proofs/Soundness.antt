@@ -1,50 +1,20 @@
 -- What following a reference finds.
-use Prim.Native.Nat.{ℕ, ◌+◌, ◌/◌, ◌%◌, ◌≤◌, ◌<◌}
+use Prim.Native.Nat.{ℕ, ◌+◌, ◌≤◌, ◌<◌}
 use mathlib.Core.Path.{◌≡◌, ◌∙◌, sym, refl, ap}
-use mathlib.Core.Bool.{Bool, true, false, cond, ◌&&◌, and-false}
+use mathlib.Core.Bool.{Bool, true, false, cond, ◌&&◌}
 use mathlib.Core.List.{List}
 use native.Mathlib.Omega.{arith}
 use lib.Dec.{leb}
 use lib.ListN.{length}
-use borrow.Author.Tests.{le-leb, lt-leb, leb-true}
+use borrow.Author.Tests.{leb-true}
 use Rattle.rules.specs.Refusals.{refused, passed}
 use Rattle.rules.specs.Memory.{Memory, frontier, half_of, word_of, header, shape_at, black, refs_of, plains_of, word, colour, refs, plains, size, sound, followable, follow, followed, most_count, most_shape}
 use Rattle.rules.specs.declared.Followed.{Followed}
 use Rattle.rules.specs.declared.Followed.TheVariants.{Sound, Damage}
 use Rattle.rules.proofs.Ranges.{both}
 use Rattle.rules.proofs.memory.Followed.{can_follow}
-use Rattle.heap.specs.View.{memory, Inside, sound_at}
-use Rattle.heap.proofs.Halves.{half_any, frontier-within}
-
--- ---- the code's tests are those of sound
-
-pub sound_none : (M : Memory) (v : ℕ) → v < 2 → Damage ≡ sound_at M v
-unfolding sound
-sound_none M v l = rw (lt-leb 2 v l)
-
-module _ (M : Memory) (v at f : ℕ) (a : at ≡ word_of v) (e : f ≡ frontier M (half_of v)) where
-  pub sound-short : f < at + header → Damage ≡ sound_at M v
-  unfolding sound size
-  sound-short l =
-      let s : frontier M (half_of v) < word_of v + size M v = omega arith in
-      rw (lt-leb (word_of v + size M v) (frontier M (half_of v)) s, and-false)
-
-  -- x is its shape word, y its colour
-  module _ {x y : ℕ} (shape : x ≡ word M v shape_at) (tint : y ≡ colour M v) where
-    end-word : word_of v + size M v ≡ at + header + x / 256 + x % 256
-    unfolding size refs plains refs_of plains_of
-    end-word = rw (shape, a) (omega arith)
-
-    sound_tests : 2 ≤ v → sound M v ≡ (leb x 65535 && leb y black && leb (at + header + x / 256 + x % 256) f)
-    unfolding sound
-    sound_tests n = rw (le-leb 2 v n, ← end-word, ← e, shape, tint)
-
-    pub sound_passes : 2 ≤ v → (leb x 65535 && leb y black && leb (at + header + x / 256 + x % 256) f) ≡ true → Sound at (x / 256) (x % 256) ≡ sound_at M v
-    unfolding refs plains refs_of plains_of
-    sound_passes n b = rw (sound_tests n ∙ b, shape, a)
-
-    pub sound_fails : 2 ≤ v → (leb x 65535 && leb y black && leb (at + header + x / 256 + x % 256) f) ≡ false → Damage ≡ sound_at M v
-    sound_fails n b = rw (sound_tests n ∙ b)
+use Rattle.heap.specs.View.{memory, Inside}
+use Rattle.heap.proofs.Placing.{half_any, frontier-within}
 
 -- ---- what is known of a record found
 
@@ -91,6 +61,11 @@ sound-below M v e = (sound-passed M v e).2
 pub sound-small : (M : Memory) (v : ℕ) → sound M v ≡ true → (refs M v ≤ most_count) × (plains M v ≤ most_count)
 unfolding refs plains
 sound-small M v e = small (word M v shape_at) (sound-passed M v e).1
+
+-- its length
+pub size_most : (M : Memory) (v : ℕ) → sound M v ≡ true → size M v ≤ header + most_count + most_count
+unfolding size
+size_most M v e = let n = sound-small M v e in omega arith
 
 pub found : {x : Followed} (M : Memory) (v : ℕ) {at r p : ℕ} → x ≡ follow M v → x ≡ Sound at r p → Found M v at r p
 unfolding follow followed

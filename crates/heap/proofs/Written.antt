@@ -1,14 +1,24 @@
 -- A new record written into a lent part of a half, and the part come back.
 use Prim.Native.Nat.{ℕ, suc, ◌+◌, ◌-◌, ◌≤◌}
-use mathlib.Core.Path.{◌≡◌, ◌∙◌, sym, ap}
+use mathlib.Core.Path.{◌≡◌, refl, ◌∙◌, sym, ap}
 use mathlib.Core.List.{List, [], ◌++◌, append_assoc, append-nil}
 use native.Mathlib.Omega.{arith}
 use native.Mathlib.Nat.{zero-add}
 use lib.ListN.{length, take, drop, set, replicate, length-drop, length-replicate, drop_of_length-le}
+use denote.Enum.Declared.{tag_of}
+use Rattle.std.proofs.lemmas.List.{length-take-le}
 use lib.Seq.{take_all, drop-drop, sets, sets-eq}
-use borrow.Author.Tests.{eq-eqb, ne_eqb}
 use Rattle.rules.specs.Memory.{Memory, half, frontier, with_half, with_frontier, new_record, append, header, shape_at, colour_at, replica_at, birth_at}
-use Rattle.heap.specs.View.{memory}
+use Rattle.heap.specs.Halves.{word_of_colour}
+use Rattle.heap.specs.contracts.Colour.{the_type}
+use Rattle.heap.specs.declared.Colour.{Colour}
+use Rattle.heap.specs.declared.Colour.TheVariants.{White, Grey, Black}
+
+-- the number of a colour in the code is its word
+pub colour-word : (x : Colour) → tag_of the_type x ≡ word_of_colour x
+colour-word White = refl
+colour-word Grey = refl
+colour-word Black = refl
 
 four : (n : ℕ) → n + header ≡ suc (suc (suc (suc n)))
 four n = omega arith
@@ -26,12 +36,12 @@ header-set : (part : List ℕ) (w c v b n : ℕ) → set (set (set (set (replica
 unfolding new_record
 header-set part w c v b n = rw (four n)
 
-pub record_written : (part : List ℕ) (w c v b n : ℕ) → n + header ≤ length part
-    → set (set (set (set (replicate (n + header) 0 ++ drop (n + header) part) shape_at w) colour_at c) replica_at v) birth_at b ≡ sets part 0 (new_record w c v b n)
-record_written part w c v b n h =
+pub record_written : {zeros : List ℕ} (part : List ℕ) (w c v b n : ℕ) → n + header ≤ length part → zeros ≡ replicate (length (take (n + header) part)) 0
+    → set (set (set (set (zeros ++ drop (n + header) part) shape_at w) colour_at c) replica_at v) birth_at b ≡ sets part 0 (new_record w c v b n)
+record_written part w c v b n h z =
     let e = record_length w c v b n in
     let g : length (new_record w c v b n) ≤ length part = omega arith in
-    header-set part w c v b n ∙ ap (λ (k : ℕ). new_record w c v b n ++ drop k part) (sym e) ∙ sym (sets_start (new_record w c v b n) part g)
+    rw (z, length-take-le (n + header) part h) (header-set part w c v b n) ∙ ap (λ (k : ℕ). new_record w c v b n ++ drop k part) (sym e) ∙ sym (sets_start (new_record w c v b n) part g)
 
 -- ---- the part from a word on, come back
 
@@ -47,45 +57,11 @@ sets_part a xs ws h =
     ap (λ (l : List ℕ). take a xs ++ l) (sets_start ws (drop a xs) g ∙ ap (λ (l : List ℕ). ws ++ l) (drop-drop (length ws) a xs))
     ∙ sym (append_assoc (take a xs) ws (drop (a + length ws) xs)) ∙ sym (sets-eq ws xs a h)
 
-part_back : (a : ℕ) (xs ws : List ℕ) → a + length ws ≤ length xs
+pub part_back : (a : ℕ) (xs ws : List ℕ) → a + length ws ≤ length xs
     → take a xs ++ (sets (take (length xs - a) (drop a xs)) 0 ws ++ drop (length xs - a) (drop a xs)) ≡ sets xs a ws
 part_back a xs ws h = rw (rest, none_left, append-nil) (sets_part a xs ws h)
 
--- the part overlaid with a record, come back
-abbrev back : ℕ → List ℕ → List ℕ → List ℕ
-back a xs ys = take a xs ++ (ys ++ drop (length xs - a) (drop a xs))
-
-abbrev lent : ℕ → List ℕ → List ℕ
-lent a xs = take (length xs - a) (drop a xs)
-
-record_back : {ys : List ℕ} (a : ℕ) (xs : List ℕ) (w c v b n : ℕ) → a + (n + header) ≤ length xs
-    → ys ≡ sets (lent a xs) 0 (new_record w c v b n) → back a xs ys ≡ sets xs a (new_record w c v b n)
-record_back a xs w c v b n h e = rw e (part_back a xs (new_record w c v b n) (rw (record_length w c v b n) h))
-
--- ---- in either half
-
-module _ (h0 h1 : List ℕ) (f0 f1 h at : ℕ) where
-  pub room-low : (n : ℕ) → at + n ≤ length (half (memory h0 h1 f0 f1) h) → h ≡ 0 → at + n ≤ length h0
-  unfolding half
-  room-low n r e = rw (eq-eqb h 0 e) at r
-
-  pub room-high : (n : ℕ) → at + n ≤ length (half (memory h0 h1 f0 f1) h) → (h ≡ 0 → ⊥) → at + n ≤ length h1
-  unfolding half
-  room-high n r e = rw (ne_eqb h 0 e) at r
-
-  pub placed-low : {ys : List ℕ} (w c v b n : ℕ) → at + (n + header) ≤ length h0 → h ≡ 0 → ys ≡ sets (lent at h0) 0 (new_record w c v b n)
-      → memory (back at h0 ys) h1 f0 f1
-      ≡ with_half (memory h0 h1 f0 f1) h (sets (half (memory h0 h1 f0 f1) h) at (new_record w c v b n))
-  unfolding with_half half
-  placed-low w c v b n r z e = rw (eq-eqb h 0 z, record_back at h0 w c v b n r e)
-
-  pub placed-high : {ys : List ℕ} (w c v b n : ℕ) → at + (n + header) ≤ length h1 → (h ≡ 0 → ⊥) → ys ≡ sets (lent at h1) 0 (new_record w c v b n)
-      → memory h0 (back at h1 ys) f0 f1
-      ≡ with_half (memory h0 h1 f0 f1) h (sets (half (memory h0 h1 f0 f1) h) at (new_record w c v b n))
-  unfolding with_half half
-  placed-high w c v b n r z e = rw (ne_eqb h 0 z, record_back at h1 w c v b n r e)
-
--- ---- room, and appending
+-- ---- appending
 
 -- the record put at the frontier, which moves past it, is the record appended
 pub appended : {N : Memory} (M : Memory) (h w c v b n : ℕ) → N ≡ with_half M h (sets (half M h) (frontier M h) (new_record w c v b n))

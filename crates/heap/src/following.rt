@@ -1,123 +1,80 @@
 // Following a reference: the tests of a sound one, that its replica points back, then the place and the shape of its record.
-ghost use Rattle.std.specs.Prelude.{◌≡◌, ℕ, ◌≤◌, List, length, take, true};
-ghost use Rattle.rules.specs.Memory.{frontier, half_of, size, sound, points_back, follow};
-ghost use Rattle.heap.specs.View.{memory, sound_at};
-ghost use Rattle.heap.specs.Pending.{memory_with};
+// Each function that follows takes the answer apart by `let .. else`: a form by place of docs/CALLS.md.
+ghost use Rattle.std.specs.Prelude.{◌≡◌, true};
+ghost use Rattle.rules.specs.Memory.{size, sound, points_back, follow};
+ghost use Rattle.heap.specs.View.{sound_at};
+ghost use Rattle.heap.specs.Halves.{as_memory};
 
-use super::pending::{pending_word, word_in};
-use super::words::{half_of, word_of};
-use crate::{BLACK, COLOUR_AT, HEADER, MOST_SHAPE, REPLICA_AT, SHAPE_AT};
+use crate::words::word_of;
+use crate::{COLOUR_AT, Colour, HEADER, Halves, MOST_SHAPE, REPLICA_AT, SHAPE_AT};
 use rules::Followed;
 
-// The frontier of the half that a reference is in.
-fn frontier_of(f0: usize, f1: usize, v: u32) -> usize
-    ensures { (h0 h1 : List ℕ) → result ≡ frontier (memory h0 h1 f0 f1) (half_of v) }
-{
-    if v % 2 == 0 { f0 } else { f1 }
-}
+impl Halves<'_> {
+    // The place and the shape of the record that a reference names, where it is sound, or damage.
+    #[tactic(auto, unfolding(rules::specs::Memory::word_of, rules::specs::Memory::word, rules::specs::Memory::colour, rules::specs::Memory::size, rules::specs::Memory::refs, rules::specs::Memory::plains, rules::specs::Memory::refs_of, rules::specs::Memory::plains_of, rules::specs::Memory::sound))]
+    fn sound_at(&self, v: u32) -> Followed
+        ensures { result ≡ sound_at (as_memory self.now) v }
+    {
+        if v < 2 {
+            return Followed::Damage;
+        }
+        let at = word_of(v);
+        let frontier = self.frontier_of(v);
+        if frontier < at + HEADER {
+            return Followed::Damage;
+        }
+        let shape = self.word_at(v, at + SHAPE_AT);
+        let colour = self.word_at(v, at + COLOUR_AT);
+        let r = shape / 256;
+        let p = shape % 256;
+        let end = at + HEADER + (r as usize) + (p as usize);
+        if (shape <= MOST_SHAPE) & (colour <= Colour::Black as u32) & (end <= frontier) {
+            Followed::Sound(at, r, p)
+        } else {
+            Followed::Damage
+        }
+    }
 
-// The place and the shape of the record that a reference names, where it is sound with the pending words written, or damage.
-fn sound_at<'a>(
-    pending: &[u32],
-    filled: usize,
-    h0: &'a [u32],
-    h1: &'a [u32],
-    f0: usize,
-    f1: usize,
-    v: u32,
-) -> Followed
-    requires { (f0 ≤ length h0.now) × (f1 ≤ length h1.now) }
-    ensures { result ≡ sound_at (memory_with (take filled pending.now) h0.now h1.now f0 f1) v }
-{
-    if v < 2 {
-        return Followed::Damage;
+    // Whether w, the replica word of a sound record v of n words, names a record that points back: in the other half, sound, with the
+    // same word 0, and so as long, and with v as its replica word.
+    #[tactic(auto, using(crate::proofs::Soundness::size_most), unfolding(rules::specs::Memory::word_of, rules::specs::Memory::half_of, rules::specs::Memory::word, rules::specs::Memory::colour, rules::specs::Memory::replica, rules::specs::Memory::size, rules::specs::Memory::refs, rules::specs::Memory::plains, rules::specs::Memory::sound, rules::specs::Memory::points_back))]
+    fn points_back(&self, w: u32, v: u32, n: usize) -> bool
+        requires { (sound (as_memory self.now) v ≡ true) × (n ≡ size (as_memory self.now) v) }
+        ensures { result ≡ points_back (as_memory self.now) w v }
+    {
+        if (w < 2) | (w % 2 == v % 2) {
+            return false;
+        }
+        let at = word_of(w);
+        let frontier = self.frontier_of(w);
+        if frontier < at + n {
+            return false;
+        }
+        let shape = self.word(v, SHAPE_AT);
+        let copied = self.word_at(w, at + SHAPE_AT);
+        let colour = self.word_at(w, at + COLOUR_AT);
+        let back = self.word_at(w, at + REPLICA_AT);
+        (copied == shape) & (colour <= Colour::Black as u32) & (back == v)
     }
-    let at = word_of(v);
-    let half = half_of(h0, h1, v);
-    let frontier = frontier_of(f0, f1, v);
-    if frontier < at + HEADER {
-        return Followed::Damage;
-    }
-    let shape = word_in(pending, filled, half, v % 2, at + SHAPE_AT);
-    let colour = word_in(pending, filled, half, v % 2, at + COLOUR_AT);
-    let r = shape / 256;
-    let p = shape % 256;
-    let end = at + HEADER + (r as usize) + (p as usize);
-    if (shape <= MOST_SHAPE) & (colour <= BLACK) & (end <= frontier) {
-        Followed::Sound(at, r, p)
-    } else {
-        Followed::Damage
-    }
-}
 
-// Whether w, the replica word of a sound record v of n words, names a record that points back: in the other half, sound, with the same
-// word 0, and so as long, and with v as its replica word.
-fn points_back<'a>(
-    pending: &[u32],
-    filled: usize,
-    h0: &'a [u32],
-    h1: &'a [u32],
-    f0: usize,
-    f1: usize,
-    w: u32,
-    v: u32,
-    n: usize,
-) -> bool
-    requires { (f0 ≤ length h0.now) × (f1 ≤ length h1.now) × (sound (memory_with (take filled pending.now) h0.now h1.now f0 f1) v ≡ true)
-        × (n ≡ size (memory_with (take filled pending.now) h0.now h1.now f0 f1) v) }
-    ensures { result ≡ points_back (memory_with (take filled pending.now) h0.now h1.now f0 f1) w v }
-{
-    if (w < 2) | (w % 2 == v % 2) {
-        return false;
+    // The place and the shape of the record that a reference names, or damage: it is sound, and its replica, if there is one, points
+    // back.
+    #[tactic(auto, unfolding(rules::specs::Memory::follow, rules::specs::Memory::followable, rules::specs::Memory::replica, rules::specs::Memory::size))]
+    pub fn follow(&self, v: u32) -> Followed
+        ensures { result ≡ follow (as_memory self.now) v }
+    {
+        let Followed::Sound(at, r, p) = self.sound_at(v) else {
+            return Followed::Damage;
+        };
+        let w = self.word(v, REPLICA_AT);
+        if w == 0 {
+            return Followed::Sound(at, r, p);
+        }
+        let n = HEADER + (r as usize) + (p as usize);
+        if self.points_back(w, v, n) {
+            Followed::Sound(at, r, p)
+        } else {
+            Followed::Damage
+        }
     }
-    let at = word_of(w);
-    // the half that v isn't in, and its frontier
-    let half = half_of(h1, h0, v);
-    let frontier = frontier_of(f1, f0, v);
-    if frontier < at + n {
-        return false;
-    }
-    let shape = pending_word(pending, filled, h0, h1, v, SHAPE_AT);
-    let copied = word_in(pending, filled, half, w % 2, at + SHAPE_AT);
-    let colour = word_in(pending, filled, half, w % 2, at + COLOUR_AT);
-    let back = word_in(pending, filled, half, w % 2, at + REPLICA_AT);
-    (copied == shape) & (colour <= BLACK) & (back == v)
-}
-
-// The place and the shape of the record that a reference names with the pending words written, or damage: it is sound, and its replica, if
-// there is one, points back.
-pub fn follow_pending<'a>(
-    pending: &[u32],
-    filled: usize,
-    h0: &'a [u32],
-    h1: &'a [u32],
-    f0: usize,
-    f1: usize,
-    v: u32,
-) -> Followed
-    requires { (f0 ≤ length h0.now) × (f1 ≤ length h1.now) }
-    ensures { result ≡ follow (memory_with (take filled pending.now) h0.now h1.now f0 f1) v }
-{
-    let Followed::Sound(at, r, p) = sound_at(pending, filled, h0, h1, f0, f1, v) else {
-        return Followed::Damage;
-    };
-    let w = pending_word(pending, filled, h0, h1, v, REPLICA_AT);
-    if w == 0 {
-        return Followed::Sound(at, r, p);
-    }
-    let n = HEADER + (r as usize) + (p as usize);
-    let back = points_back(pending, filled, h0, h1, f0, f1, w, v, n);
-    if back {
-        Followed::Sound(at, r, p)
-    } else {
-        Followed::Damage
-    }
-}
-
-// The same with the words as they are.
-pub fn follow<'a>(h0: &'a [u32], h1: &'a [u32], f0: usize, f1: usize, v: u32) -> Followed
-    requires { (f0 ≤ length h0.now) × (f1 ≤ length h1.now) }
-    ensures { result ≡ follow (memory h0.now h1.now f0 f1) v }
-{
-    follow_pending(h0, 0, h0, h1, f0, f1, v)
 }

@@ -2,9 +2,12 @@
 // forwarding, shading, comparing, and planning what a store or a put writes.
 // The contract of each function that another crate calls is one equation with a definition of the crate rules, or with a
 // part of one that `View.antt` names.
+// A reference is a word as any other, and null, which is 0, is one: so "none" is that and no Option. A half is a number, 0 or 1, as the
+// parity of its references gives it.
 
 #![tactic(auto)]
 
+mod halves; // halves.rt: what the functions look at
 pub mod following;
 pub mod forwarding;
 pub mod pending;
@@ -13,6 +16,8 @@ pub mod same;
 pub mod shades;
 pub mod stores;
 pub mod words;
+
+pub use halves::{Halves, Heap, Pending};
 
 // The words of a record before its fields, and which of them is the shape, the colour, the replica and the birth number.
 pub const HEADER: usize = 4;
@@ -25,42 +30,13 @@ pub const REPLICA_AT: usize = 2;
 
 pub const BIRTH_AT: usize = 3;
 
-// The colours, and the largest shape word.
-pub const WHITE: u32 = 0;
-
-pub const GREY: u32 = 1;
-
-pub const BLACK: u32 = 2;
-
+// The largest shape word.
 pub const MOST_SHAPE: u32 = 65535;
 
-// Where the records of each half end, which half is fromspace, and the end and the length of the grey list.
+// The colours, each with its word.
 #[derive(Clone, Copy)]
-pub struct Bounds {
-    pub frontier0: usize,
-    pub frontier1: usize,
-    pub from: u32,
-    pub tail: usize,
-    pub capacity: usize,
-}
-
-// A reference or a word after its tests, or damage.
-#[derive(Clone, Copy)]
-pub enum Checked {
-    Word(u32),
-    Damage,
-}
-
-// What comparing two references answers, or damage.
-#[derive(Clone, Copy)]
-pub enum Compared {
-    Equal(bool),
-    Damage,
-}
-
-// What a store or a put writes, or damage.
-#[derive(Clone, Copy)]
-pub enum Planned {
-    Plan(rules::Writes),
-    Damage,
+pub enum Colour {
+    White = 0,
+    Grey = 1,
+    Black = 2,
 }

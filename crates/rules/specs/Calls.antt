@@ -11,7 +11,9 @@ use Rattle.rules.specs.declared.Session.{Session}
 use Rattle.rules.specs.declared.Operands.{Operands}
 use Rattle.rules.specs.declared.Writes.{Writes}
 use Rattle.rules.specs.declared.Link.{Link}
-use Rattle.rules.specs.declared.Answer.TheVariants.{Word, Same}
+use Rattle.rules.specs.declared.StorePlan.{StorePlan}
+use Rattle.rules.specs.declared.WritePlan.{WritePlan}
+use Rattle.rules.specs.Answers.{Word, Same}
 
 -- ---- tests that calls share
 
@@ -121,11 +123,6 @@ load s n to k i = do
   w ← load_plan s n to k i
   done (with_register s n to w)
 
--- the record that a store writes, and what it writes to it and its replica
-pub record StorePlan : Type 0 where
-  pub into : ℕ
-  pub writes : Writes
-
 -- the tests of a store
 unfoldable pub store_plan : Store → ℕ → ℕ → ℕ → ℕ → Tested StorePlan
 store_plan s n k i from = do
@@ -172,12 +169,6 @@ unfoldable pub birth : Store → ℕ → ℕ → Tested (Outcome Store)
 birth s n k = do
   x ← record_of s n k k
   answered s (Word (birth_number s.memory x.own))
-
--- the record that a write goes to, its count of reference fields, and its replica, or null where none is written
-pub record WritePlan : Type 0 where
-  pub own : ℕ
-  pub refs : ℕ
-  pub replica : ℕ
 
 -- the tests of a write
 unfoldable pub write_plan : Store → ℕ → ℕ → ℕ → Tested WritePlan

@@ -15,7 +15,7 @@ use Rattle.rules.specs.Examples.{Computed, starred}
 use Rattle.rules.specs.Limits.{limits}
 use Rattle.rules.specs.declared.Session.{Session}
 use Rattle.rules.specs.declared.Link.{Link}
-use Rattle.rules.specs.declared.Answer.TheVariants.{Refused, Done}
+use Rattle.rules.specs.Answers.{Refused, Done}
 
 -- a store from a making that wasn't refused, "whatever words halves and list then hold"
 pub record Made (s : Store) : Type 0 where

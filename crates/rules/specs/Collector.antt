@@ -5,7 +5,7 @@ use Rattle.rules.specs.Memory.{Memory, half, frontier, with_frontier, null, refe
 use Rattle.rules.specs.Control.{Store, with_memory, with_walk, with_list, with_globals, with_current, in_range, global_count}
 use Rattle.rules.specs.Phases.{level_of, other_half, tospace, session_at, with_session, with_registers, with_mark, without_charges, all_at, lowest_unmarked, move_on}
 use Rattle.rules.specs.Barriers.{heap_of, shading, shade, shading_all, shade_all}
-use Rattle.rules.specs.declared.Answer.TheVariants.{Phase}
+use Rattle.rules.specs.Answers.{Phase}
 
 -- ---- the walk over the records of the current half
 

@@ -4,7 +4,7 @@ use Rattle.rules.specs.Memory.{Memory, null, header, most_count}
 use Rattle.rules.specs.Cycle.{at_rest, at_root_mark, at_root_flip, last_phase}
 use Rattle.rules.specs.Refusals.{Tested, refused, passed, check, ◌>>◌, Outcome, answer}
 use Rattle.rules.specs.declared.Session.{Session}
-use Rattle.rules.specs.declared.Answer.TheVariants.{Refused, Done}
+use Rattle.rules.specs.Answers.{Refused, Done}
 
 -- "the three lent lengths"
 pub record Lengths : Type 0 where

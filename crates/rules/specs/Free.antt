@@ -1,13 +1,13 @@
 -- The collector-free store: it keeps records in a list and never moves them. Its tests stand in the same order as the store's;
 -- it has no 4 and no 12.
-use Rattle.std.specs.Prelude.{ℕ, suc, ◌+◌, ◌-◌, Bool, true, false, cond, not, ◌&&◌, List, [], ◌∷◌, ◌++◌, leb, ltb, eqb, get_or, set, length, replicate, take}
+use Rattle.std.specs.Prelude.{ℕ, suc, ◌-◌, Bool, true, false, cond, not, ◌&&◌, List, [], ◌∷◌, ◌++◌, leb, ltb, eqb, get_or, set, length, replicate, take}
 use Rattle.rules.specs.Refusals.{Tested, passed, check, ◌>>=◌, ◌>>◌, Outcome, Reply, answer, words, settle, words_or, done_or, done, answered}
 use Rattle.rules.specs.Memory.{null}
 use Rattle.rules.specs.Control.{global_count, session_count, register_count, last_session}
 use Rattle.rules.specs.Calls.{is_register, is_global, is_shape, is_count, number_left}
 use Rattle.rules.specs.Runs.{Call, Attach, Detach, SafePoint, Allocate, Load, StoreRef, StoreLinks, Read, Write, Move, Clear, SameAs, Get, Put, Stretch, Companion, Birth, Step, is_allocation, Fed, fitted, over_share, no_room}
 use Rattle.rules.specs.declared.Link.{Link}
-use Rattle.rules.specs.declared.Answer.TheVariants.{Done, Word, Same}
+use Rattle.rules.specs.Answers.{Done, Word, Same}
 
 -- ---- what it keeps
 

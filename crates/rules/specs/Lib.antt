@@ -11,6 +11,7 @@ pub mod Phases
 pub mod Barriers
 pub mod Collector
 -- Refusal by place
+pub mod Answers
 pub mod Refusals
 -- Runs and the collector-free store
 pub mod Runs

@@ -1,6 +1,6 @@
 -- Limits: the numbers and orders that documents 01 and 02 name of the store, as one table. Each row has what the rules give and what the papers
 -- say. Of a limit it has the last value that passes and the first that doesn't, by the refusal number of a call, which is 0 where it is done.
-use Rattle.std.specs.Prelude.{ℕ, false, cond, List, [], ◌∷◌, ◌++◌, map, get_or, take, length, replicate}
+use Rattle.std.specs.Prelude.{false, cond, List, [], ◌∷◌, ◌++◌, map, get_or, take, length, replicate}
 use Rattle.rules.specs.Refusals.{refusal_of}
 use Rattle.rules.specs.Memory.{with_frontier, null, reference, refs, white, grey, black}
 use Rattle.rules.specs.Cycle.{at_root_mark, at_heap_mark, at_allocate, at_reclaim, phase_count, last_phase}

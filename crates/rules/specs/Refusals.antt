@@ -1,13 +1,24 @@
 -- Refusal by place: the tests of a call in their order, and what a call answers.
 -- "A call writes only after all its tests": a rule is a row of tests, then the store that they leave to write.
-use Rattle.std.specs.Prelude.{ℕ, Bool, true, false, cond, List, []}
-use Rattle.rules.specs.declared.Answer.{Answer}
-use Rattle.rules.specs.declared.Answer.TheVariants.{Refused, Done, Word, Same, Phase}
+use Rattle.std.specs.Prelude.{ℕ, Bool, true, false, cond, List, [], Result, Ok, Err}
+use Rattle.rules.specs.Answers.{Answer, Refused, Done, Word, Same, Phase, number}
+use Rattle.rules.specs.declared.Damage.{Damage}
+use Rattle.rules.specs.declared.Refusal.{Refusal}
 
 -- the number of the first test that failed, or what is done where all passed
 pub data Tested (A : Type 0) : Type 0 where
   refused : ℕ → Tested A
   passed : A → Tested A
+
+-- how the tests of a function of the code ended, by what it hands out
+abbrev pub tested : {A : Type 0} → Result A Refusal → Tested A
+tested (Ok a) = passed a
+tested (Err e) = refused (number e)
+
+-- the same of one whose only refusal is 12, damage
+abbrev pub checked : {A : Type 0} → Result A Damage → Tested A
+checked (Ok a) = passed a
+checked (Err e) = refused 12
 
 -- a test: where it fails, the call is refused with the number
 abbrev pub check : Bool → ℕ → Tested (Unit {0})
@@ -23,6 +34,11 @@ abbrev pub ◌>>=◌ : {A B : Type 0} → Tested A → (A → Tested B) → Test
 
 abbrev pub ◌>>◌ : {A B : Type 0} → Tested A → Tested B → Tested B
 ◌>>◌ m k = m >>= λ a. k
+
+-- the tests alone
+abbrev pub tests_of : {A : Type 0} → Tested A → Tested (Unit {0})
+tests_of (refused n) = refused n
+tests_of (passed a) = passed tt
 
 -- the refusal number, or 0
 abbrev pub refusal_of : {A : Type 0} → Tested A → ℕ

@@ -7,7 +7,7 @@ use Rattle.rules.specs.Control.{Store}
 use Rattle.rules.specs.Calls as calls
 use Rattle.rules.specs.Collector as collector
 use Rattle.rules.specs.declared.Link.{Link}
-use Rattle.rules.specs.declared.Answer.TheVariants.{Refused, Done, Word, Same, Phase}
+use Rattle.rules.specs.Answers.{Refused, Done, Word, Same, Phase}
 
 -- the calls, with their arguments in the script's order; the store of several links, the stretch, its companion and the birth number are in no
 -- script, and an attach's share is the same in all of them (`script_share`)

@@ -1,11 +1,19 @@
--- Where an entry ends: a whole one, and a cut one.
+-- What stands at a place: nothing, a whole entry, or a cut one.
 use Prim.Native.Nat.{ℕ, ◌+◌, ◌-◌, ◌≤◌, ◌<◌}
-use mathlib.Core.Path.{◌≡◌}
+use mathlib.Core.Path.{◌≡◌, refl}
 use mathlib.Core.List.{List}
 use native.Mathlib.Omega.{arith}
 use borrow.Author.Tests.{le-leb, lt-leb}
 use lib.ListN.{length, get_or, take, drop}
-use Rattle.rules.specs.Script.{call_of, body_at, call_then, entry_at, bad}
+use Rattle.std.specs.Prelude.{Option, Result, Ok, Err, IsErr}
+use Rattle.script.specs.declared.entries.BadEntry.{BadEntry}
+use Rattle.script.specs.declared.entries.Command.{Command}
+use Rattle.script.specs.Commands.{found}
+use Rattle.rules.specs.Script.{call_of, body_at, call_then, entry_at, ended, bad}
+
+pub past_end : (bs : List ℕ) (i : ℕ) → length bs ≤ i → entry_at bs i ≡ ended
+unfolding entry_at
+past_end bs i past = rw (le-leb (length bs) i past)
 
 module _ (bs : List ℕ) (i : ℕ) (inside : i < length bs) where
   pub whole : get_or bs i 0 ≤ length bs - (i + 1) →
@@ -22,3 +30,8 @@ module _ (bs : List ℕ) (i : ℕ) (inside : i < length bs) where
   cut short =
       let end : length bs < i + 1 + get_or bs i 0 = omega arith in
       rw (lt-leb _ _ inside, lt-leb _ _ end)
+
+-- an error is an entry that is 15
+pub found_err : (r : Result (Option (Command × ℕ)) BadEntry) → IsErr r → found r ≡ bad
+found_err (Ok x) e = cc
+found_err (Err b) e = refl

@@ -11,7 +11,7 @@ use lib.ListN.{length, drop}
 use Rattle.rules.specs.Script.{entry_at}
 use Rattle.rules.proofs.memory.Cases.{lt_or, bool_or, either}
 use Rattle.script.specs.Turns.{Left, turn, goes_on, turns}
-use Rattle.script.specs.Window.{is_short, stop_of}
+use Rattle.script.specs.Window.{longest_entry, is_short, stop_of}
 use Rattle.script.proofs.Places.{entry_or, whole_before, moved_entry}
 use Rattle.script.proofs.Stopping.{arrived, turns_same}
 
@@ -111,7 +111,7 @@ pub window_turns : (j : ℕ) (bs p q : List ℕ) (size : ℕ) (x : Left) → dro
 window_turns j bs p q size x split ends = buffer_turns j bs p q (stop_of (length p) size) x split (whole_or_end p q size ends)
 
 -- the next entry begins before that place, unless it is short or the buffer isn't full
-pub next-seen : (at filled size : ℕ) → size ≤ filled → is_short at filled size ≡ false → at < stop_of filled size
+pub next-seen : (at filled size : ℕ) → size ≤ filled → is_short longest_entry at filled size ≡ false → at < stop_of filled size
 unfolding is_short stop_of
 next-seen at filled size full long =
     rw (le-ltb filled size full) (omega (arith, ltb-false, rw (le-leb size filled full) at long))

@@ -4,6 +4,7 @@ use mathlib.Core.Path.{◌≡◌, refl, sym, ap}
 use mathlib.Core.Bool.{Bool, true, false, cond, ◌&&◌}
 use mathlib.Core.List.{List}
 use lib.Dec.{eqb, ltb}
+use Rattle.rules.specs.Answers.{answer_of}
 use Rattle.rules.specs.Refusals.{Tested, refused, passed, check, ◌>>=◌, Outcome, answer, settle}
 use Rattle.rules.specs.Memory.{put, with_half, plains}
 use Rattle.rules.specs.Control.{Store, with_memory}
@@ -14,6 +15,7 @@ use Rattle.rules.specs.Runs.{apply, Read, Write, SameAs}
 use Rattle.store.specs.declared.Control.{Control}
 use Rattle.store.specs.declared.Reply.{Reply}
 use Rattle.store.specs.View.{view, outcome}
+use Rattle.script.specs.Commands.{answered}
 
 -- all but the words of the halves as it was
 abbrev Keeps : Store → Store → Type 0
@@ -55,27 +57,26 @@ module _ (s : Store) (n : ℕ) where
   unfolding write write_commit
   write_keeps k i a = tests_keep s (write_plan s n k i) _ (λ q. record { keeps = both_keep s q.own _ a q.replica _ a })
 
--- so the call answers the same with the control record that it was given
-abbrev keeping : Control → Reply → Reply
-keeping c r = record { control = c; answer = r.answer }
-
+-- so the call leaves the control record that it was given, with its answer
 kept-reply : (c : Control) (h0 h1 l : List ℕ) (m : Tested (Outcome Store)) (r : Reply) {h0' h1' : List ℕ} → Kept (view c h0 h1 l) m
-    → outcome r h0' h1' l ≡ settle (view c h0 h1 l) m → outcome (keeping c r) h0' h1' l ≡ settle (view c h0 h1 l) m
+    → outcome r h0' h1' l ≡ settle (view c h0 h1 l) m → answered c r.answer h0' h1' l ≡ settle (view c h0 h1 l) m
 kept-reply c h0 h1 l m r {h0'} {h1'} k e =
     let o = settle (view c h0 h1 l) m in
     let a : h0' ≡ o.store.memory.half0 = ap (λ (x : Outcome Store). x.store.memory.half0) e in
     let b : h1' ≡ o.store.memory.half1 = ap (λ (x : Outcome Store). x.store.memory.half1) e in
     let t : view c h0' h1' l ≡ o.store = rw (a, b) (sym k.keeps) in
-    let u : answer r.answer ≡ o.reply = ap (λ (x : Outcome Store). x.reply) e in
+    let u : answer (answer_of r.answer) ≡ o.reply = ap (λ (x : Outcome Store). x.reply) e in
     rw (t, u)
 
 module _ (c : Control) (h0 h1 l : List ℕ) (n : ℕ) (r : Reply) where
-  pub read_kept : (k i : ℕ) → outcome r h0 h1 l ≡ apply (view c h0 h1 l) (Read n k i) → outcome (keeping c r) h0 h1 l ≡ apply (view c h0 h1 l) (Read n k i)
+  pub read_kept : (k i : ℕ) → outcome r h0 h1 l ≡ apply (view c h0 h1 l) (Read n k i) → answered c r.answer h0 h1 l ≡ apply (view c h0 h1 l) (Read n k i)
   read_kept k i = kept-reply c h0 h1 l (read (view c h0 h1 l) n k i) r (read_keeps (view c h0 h1 l) n k i)
 
-  pub same_kept : (a b : ℕ) → outcome r h0 h1 l ≡ apply (view c h0 h1 l) (SameAs n a b) → outcome (keeping c r) h0 h1 l ≡ apply (view c h0 h1 l) (SameAs n a b)
+  pub same_kept : (a b : ℕ) → outcome r h0 h1 l ≡ apply (view c h0 h1 l) (SameAs n a b) → answered c r.answer h0 h1 l ≡ apply (view c h0 h1 l) (SameAs n a b)
   same_kept a b = kept-reply c h0 h1 l (same (view c h0 h1 l) n a b) r (same_keeps (view c h0 h1 l) n a b)
 
   pub write_kept : (k i a : ℕ) {h0' h1' : List ℕ} → outcome r h0' h1' l ≡ apply (view c h0 h1 l) (Write n k i a)
-      → outcome (keeping c r) h0' h1' l ≡ apply (view c h0 h1 l) (Write n k i a)
+      → answered c r.answer h0' h1' l ≡ apply (view c h0 h1 l) (Write n k i a)
   write_kept k i a = kept-reply c h0 h1 l (write (view c h0 h1 l) n k i a) r (write_keeps (view c h0 h1 l) n k i a)
+
+pub ruleset keeping = (read_kept, same_kept)

@@ -1,5 +1,7 @@
 -- Laws on the entries of a script, the digits of its lines, the turns that do the entries, and the input and output buffers.
 
+-- four bytes as a number
+pub mod Bytes
 -- the kinds of entries
 pub mod Sizes
 -- where an entry ends

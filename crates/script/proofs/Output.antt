@@ -13,7 +13,7 @@ use Rattle.rules.specs.Script.{lines_of, texts_of}
 use Rattle.rules.proofs.memory.Cases.{bool_or, either}
 use Rattle.rules.proofs.memory.Sets.{take-sets}
 use Rattle.script.specs.Turns.{Left, begun, turns}
-use Rattle.script.proofs.Places.{past_end}
+use Rattle.script.proofs.Bodies.{past_end}
 use Rattle.script.proofs.Writing.{lines_left, lines_by_entry, texts_append, Wrote, turns_lines}
 
 -- ---- the text in the output

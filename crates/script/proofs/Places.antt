@@ -1,10 +1,10 @@
 -- Entries seen through the input buffer: it holds a part of the input, and what is left in it is moved to its front.
-use Prim.Native.Nat.{ℕ, zero, suc, ◌+◌, ◌-◌, max, ◌≤◌, ◌<◌}
+use Prim.Native.Nat.{ℕ, ◌+◌, ◌-◌, ◌≤◌, ◌<◌}
 use mathlib.Core.Path.{◌≡◌, refl, sym, ◌∙◌}
 use mathlib.Core.Bool.{false, ◌&&◌}
-use mathlib.Core.List.{List, [], ◌∷◌, ◌++◌}
+use mathlib.Core.List.{List, ◌++◌}
 use native.Mathlib.Omega.{arith}
-use borrow.Author.Tests.{le-leb, ne_eqb, lt-leb}
+use borrow.Author.Tests.{ne_eqb, lt-leb}
 use lib.Dec.{leb, eqb}
 use lib.ListN.{length, get_or, take, drop, length-append, length-take, length-drop, get_or-append}
 use lib.Seq.{take-append-le, drop-append-le, get_or-drop, drop-drop}
@@ -12,23 +12,10 @@ use Rattle.rules.specs.Refusals.{Tested, refused, passed, ◌>>=◌}
 use Rattle.rules.specs.Runs.{Call}
 use Rattle.rules.specs.Script.{kind_of, call_of, call_then, entry_at, by_entry, Entry, ended, bad, call, body_at}
 use Rattle.rules.proofs.memory.Cases.{lt_or, bool_or}
-use Rattle.script.proofs.Sizes.{size_of}
-use Rattle.script.proofs.Bodies.{whole, cut}
+use Rattle.script.proofs.Sizes.{short-kinds}
+use Rattle.script.proofs.Bodies.{past_end, whole, cut}
 
 -- ---- an entry is nine bytes at most
-
-abbrev largest : List ℕ → ℕ
-largest [] = 0
-largest (x ∷ xs) = max x (largest xs)
-
-at-most_largest : (l : List ℕ) (k : ℕ) → get_or l k 0 ≤ largest l
-at-most_largest [] k = omega arith
-at-most_largest (x ∷ xs) zero = omega arith
-at-most_largest (x ∷ xs) (suc k) = omega (arith, at-most_largest xs k)
-
--- no kind has a length byte above 8
-short-kinds : (b : List ℕ) (k : ℕ) → (kind_of b k).size ≤ 8
-short-kinds b k = rw (← size_of b k) (at-most_largest (2 ∷ 2 ∷ 2 ∷ 5 ∷ 5 ∷ 5 ∷ 4 ∷ 8 ∷ 4 ∷ 3 ∷ 4 ∷ 4 ∷ 4 ∷ 1 ∷ []) (k - 1))
 
 long_body : (b : List ℕ) (j : ℕ) → 8 < length b → call_then (call_of b) j ≡ bad
 unfolding call_of
@@ -69,12 +56,6 @@ whole-entry p q i nine =
 pub whole_before : (p q : List ℕ) (i : ℕ) → i < length p - 8 → entry_at p i ≡ entry_at (p ++ q) i
 whole_before p q i before = whole-entry p q i (omega arith)
 
--- ---- past the end
-
-pub past_end : (bs : List ℕ) (i : ℕ) → length bs ≤ i → entry_at bs i ≡ ended
-unfolding entry_at
-past_end bs i past = rw (le-leb (length bs) i past)
-
 -- ---- each call moves the place on
 
 -- by what stands at a place, with the equation
@@ -94,6 +75,19 @@ moves_on bs i {c} {j} e =
     i
     (length bs)
     (λ inside. omega (arith, called_next (body_at bs i >>= call_of) (i + 1 + get_or bs i 0) j c (rw (lt-leb (length bs) i inside) at e)))
+    (λ past. let none : ◌≡◌ {A = ℕ} 0 1 = cc (past_end bs i past) in omega arith)
+
+pub ends_within : (bs : List ℕ) (i : ℕ) {c : Call} {j : ℕ} → entry_at bs i ≡ call c j → j ≤ length bs
+ends_within bs i {c} {j} e =
+    lt_or
+    i
+    (length bs)
+    (λ inside.
+    lt_or
+    (length bs - (i + 1))
+    (get_or bs i 0)
+    (λ short. let none : ◌≡◌ {A = ℕ} 0 1 = cc (cut bs i inside short) in omega arith)
+    (λ fits. omega (arith, called_next (call_of (take (i + 1 + get_or bs i 0 - (i + 1)) (drop (i + 1) bs))) (i + 1 + get_or bs i 0) j c (sym (whole bs i inside fits) ∙ e))))
     (λ past. let none : ◌≡◌ {A = ℕ} 0 1 = cc (past_end bs i past) in omega arith)
 
 -- ---- the same entry where the bytes stand k places further on

@@ -13,7 +13,8 @@ use Rattle.rules.specs.Script.{entry_at, by_entry, Line, bad_line, line_of, line
 use Rattle.rules.proofs.memory.Cases.{bool_or}
 use Rattle.script.specs.Turns.{Left, turn, goes_on, turns}
 use Rattle.rules.proofs.memory.Sets.{sets-append}
-use Rattle.script.proofs.Places.{past_end, entry_or, moves_on}
+use Rattle.script.proofs.Bodies.{past_end}
+use Rattle.script.proofs.Places.{entry_or, moves_on}
 use Rattle.script.proofs.Stopping.{has_more}
 
 -- ---- the lines still to come

@@ -1,26 +1,31 @@
 -- The lines of the output: the longest, where the next one goes, and the line of a bad version.
-use Rattle.std.specs.Prelude.{ℕ, ◌+◌, ◌≤◌, ◌≡◌, Bool, true, cond, List, leb, length}
+use Rattle.std.specs.Prelude.{ℕ, ◌+◌, ◌≤◌, ◌≡◌, cond, Option, Some, IfSome, List, Result, leb, length}
 use Rattle.std.proofs.lemmas.List.Edits.{sets}
-use Rattle.rules.specs.Script.{Line, bad_line, text_of}
+use Rattle.rules.specs.Answers.{answer_of}
+use Rattle.rules.specs.declared.Value.{Value}
+use Rattle.rules.specs.declared.Refusal.{Refusal}
+use Rattle.rules.specs.Refusals.{answer}
+use Rattle.rules.specs.Script.{Line, line_of, bad_line, text_of}
 
-abbrev pub line : ℕ → ℕ → ℕ → Line
-line n refusal value = record { entry = n; refusal = refusal; value = value }
+-- the line of entry n, which was answered so
+abbrev pub line : ℕ → Result Value Refusal → Line
+line n a = line_of n (answer (answer_of a))
 
 -- no line is longer: 20, 10 and 20 digits, two spaces and a newline
 abbrev pub longest : ℕ
 longest = 53
 
--- where the next line goes: at the end of what is there, or, where a line may not fit behind that, at the front
-unfoldable pub next_line : ℕ → ℕ → ℕ
-next_line end size = cond (leb (end + longest) size) end 0
+-- where the next line goes, of at most so many bytes: at the end of what is there, or, where it may not fit behind that, at the front
+unfoldable pub next_line : ℕ → ℕ → ℕ → ℕ
+next_line longest end size = cond (leb (end + longest) size) end 0
 
--- after the output was written out where it had to be: the place of the next line, and whether writing succeeded
-pub record Flushed (end size at : ℕ) (written : Bool) : Type 0 where
-  pub place : at ≡ next_line end size
+-- after the output was written out where it had to be: the place of the next line, none where writing failed
+pub record Flushed (longest end size : ℕ) (at : Option ℕ) : Type 0 where
+  pub place : IfSome at (λ i. i ≡ next_line longest end size)
   -- a line fits there, if one fits at all
-  pub room : longest ≤ size → at + longest ≤ size
+  pub room : longest ≤ size → IfSome at (λ i. i + longest ≤ size)
   -- where one fitted already nothing is written
-  pub still : end + longest ≤ size → written ≡ true
+  pub still : end + longest ≤ size → at ≡ Some end
 
 -- the output and the end of what was written
 pub record Written : Type 0 where

@@ -1,11 +1,13 @@
 -- The entries of a script, one after another: what is left after them.
-use Rattle.std.specs.Prelude.{ℕ, zero, suc, ◌+◌, Bool, true, false, cond, ◌&&◌, List, length, leb, ltb}
+use Rattle.std.specs.Prelude.{◌≡◌, ℕ, zero, suc, ◌+◌, Bool, true, false, cond, ◌&&◌, List, length, leb, ltb}
 use Rattle.std.proofs.lemmas.List.Edits.{sets}
 use Rattle.rules.specs.Control.{Store}
 use Rattle.rules.specs.Runs.{apply}
-use Rattle.rules.specs.Script.{entry_at, by_entry, Line, bad_line, line_of, text_of}
+use Rattle.rules.specs.Script.{entry_at, by_entry, call, Line, bad_line, line_of, text_of}
 use Rattle.store.specs.View.{view}
+use Rattle.script.specs.Commands.{calling}
 use Rattle.script.specs.Lines.{longest}
+use Rattle.script.specs.declared.entries.Command.{Command}
 use Rattle.script.specs.declared.turns.Turn.{Turn}
 
 -- the store, the place and the number of the next entry, the output with the end of what was written, and whether there
@@ -68,3 +70,16 @@ goes_on stop x = x.more && ltb x.at stop && leb (x.end + longest) (length x.out)
 abbrev pub turns : ℕ → ℕ → List ℕ → Left → Left
 turns zero stop bs x = x
 turns (suc k) stop bs x = cond (goes_on stop x) (turns k stop bs (turn bs x)) x
+
+-- ---- the next call
+
+-- no turn is left to take: from what was left before, the turns leave this
+abbrev pub AllTaken : ℕ → List ℕ → Turn → List ℕ → Turn → List ℕ → Type 0
+AllTaken stop bs t out t' out' = (h0 h1 l : List ℕ) → turned t' h0 h1 l out' ≡ turns stop stop bs (turned t h0 h1 l out)
+
+-- the next turn is taken, and makes this call; the entry after it stands at place j
+pub record IsCall (stop : ℕ) (bs : List ℕ) (t : Turn) (out : List ℕ) (c : Command) (j : ℕ) (t' : Turn) (out' : List ℕ) : Type 0 where
+  pub on : (h0 h1 l : List ℕ) → goes_on stop (turned t h0 h1 l out) ≡ true
+  pub here : entry_at bs t.at ≡ call (calling c) j
+  pub same : t' ≡ t
+  pub out_same : out' ≡ out

@@ -2,13 +2,14 @@
 use Rattle.std.specs.Prelude.{ℕ, ◌+◌, ◌-◌, ◌≤◌, ◌≡◌, Bool, true, false, cond, ◌&&◌, List, ◌++◌, leb, ltb, length, take, drop}
 use Rattle.std.proofs.Math.Seq.{slice}
 
--- the bytes of the longest entry that isn't 15, its length byte among them
+-- the bytes of a script's longest entry that isn't 15, its length byte among them
 abbrev pub longest_entry : ℕ
 longest_entry = 9
 
--- whether an entry at a place may run past what is filled. A buffer that isn't full holds the end of the input
-unfoldable pub is_short : ℕ → ℕ → ℕ → Bool
-is_short at filled size = leb size filled && ltb (filled - at) longest_entry
+-- whether an entry at a place, of at most so many bytes, may run past what is filled. A buffer that isn't full holds the end of
+-- the input
+unfoldable pub is_short : ℕ → ℕ → ℕ → ℕ → Bool
+is_short longest at filled size = leb size filled && ltb (filled - at) longest
 
 -- where the entries that are wholly in the buffer stop
 unfoldable pub stop_of : ℕ → ℕ → ℕ
@@ -18,14 +19,15 @@ stop_of filled size = cond (ltb filled size) filled (filled + 1 - longest_entry)
 unfoldable pub kept : List ℕ → ℕ → ℕ → List ℕ
 kept bs at filled = slice at filled bs ++ drop (length (slice at filled bs)) bs
 
--- a buffer before and after it was read on
-pub record Fetched (bs : List ℕ) (at filled : ℕ) (bs' : List ℕ) (at' filled' : ℕ) : Type 0 where
+-- a buffer before and after it was read on, for entries of at most so many bytes
+pub record Fetched (longest : ℕ) (bs : List ℕ) (at filled : ℕ) (bs' : List ℕ) (at' filled' : ℕ) : Type 0 where
   -- no entry is short: nothing is touched
-  pub same : is_short at filled (length bs) ≡ false → (bs' ≡ bs) × (at' ≡ at) × (filled' ≡ filled)
+  pub same : is_short longest at filled (length bs) ≡ false → (bs' ≡ bs) × (at' ≡ at) × (filled' ≡ filled)
   -- one is: the next entry is at the front
-  pub front : is_short at filled (length bs) ≡ true → at' ≡ 0
+  pub front : is_short longest at filled (length bs) ≡ true → at' ≡ 0
   -- what was still to be done comes first
   pub first : take (length (slice at filled bs)) (slice at' filled' bs') ≡ slice at filled bs
+  pub begins : at ≤ filled → at' ≤ filled'
   pub within : filled' ≤ length bs'
   -- no entry is short any more, if the buffer can hold one
-  pub whole : longest_entry ≤ length bs → is_short at' filled' (length bs') ≡ false
+  pub whole : longest ≤ length bs → is_short longest at' filled' (length bs') ≡ false

@@ -1,118 +1,64 @@
 // The text of a line: entry number, refusal number or 0, value.
-ghost use Rattle.std.specs.Prelude.{◌≡◌, [], ◌∷◌, ◌+◌, ◌/◌, ◌%◌, ◌≤◌, ◌<◌, length};
+ghost use Rattle.std.specs.Prelude.{◌≡◌, [], ◌∷◌, ◌++◌, ◌+◌, ◌≤◌, ◌<◌, length};
 ghost use Rattle.std.proofs.lemmas.List.Edits.{sets};
-ghost use Rattle.rules.specs.Refusals.{number_of, value_of};
-ghost use Rattle.rules.specs.Script.{digit, decimal, text_of};
+ghost use Rattle.rules.specs.Script.{decimal, text_of};
 ghost use Rattle.script.specs.Lines.{line, longest, version_refused, bad_version};
+
+use rules::{Answer, Refusal, number_of, value_of};
 
 // No line is longer than this: 20, 10 and 20 digits, two spaces and a newline.
 pub const LONGEST_LINE: usize = 53;
 
-// How many decimal digits a number has, counted one by one.
-fn count_digits(n: u64) -> usize
+// How many decimal digits a number has.
+#[tactic(auto, using(crate::proofs::Digits::one_digit, crate::proofs::Digits::digits_from_power))]
+fn digit_count(n: u64) -> usize
     ensures { result ≡ length (decimal n) }
 {
-    if n < 10 {
-        return 1;
-    }
-    count_digits(n / 10) + 1
-}
-
-// How many decimal digits a number has: up to ten by comparisons; of more, those before the last ten are counted.
-fn digits_of(n: u64) -> usize
-    ensures { result ≡ length (decimal n) }
-{
-    match n {
-        0..=9 => 1,
-        10..=99 => 2,
-        100..=999 => 3,
-        1000..=9999 => 4,
-        10000..=99999 => 5,
-        100000..=999999 => 6,
-        1000000..=9999999 => 7,
-        10000000..=99999999 => 8,
-        100000000..=999999999 => 9,
-        1000000000..=9999999999 => 10,
-        _ => 10 + count_digits(n / 10000000000),
+    match n.checked_ilog10() {
+        Some(k) => k as usize + 1,
+        None => 1,
     }
 }
 
-// Puts the two digits of a number below 100 at a place of the output.
-fn write_pair(out: &mut [u8], at: usize, n: u64)
-    requires { (at + 2 ≤ length out.old) × (n < 100) }
-    ensures { out.new ≡ sets out.old at (digit (n / 10) ∷ digit (n % 10) ∷ []) }
+// Puts a number's decimal digits at a place of the output and answers the place after them; nothing where there is no room for
+// them.
+#[tactic(auto, using(crate::proofs::Digits::kit_digits, crate::proofs::Digits::written_digits))]
+pub fn write_decimal(out: &mut [u8], at: usize, n: u64) -> usize
+    ensures end { at + length (decimal n) ≤ length out.old → result ≡ at + length (decimal n) }
+    ensures text { at + length (decimal n) ≤ length out.old → out.new ≡ sets out.old at (decimal n) }
+    ensures no_room { length out.old < at + length (decimal n) → (result ≡ at) × (out.new ≡ out.old) }
 {
-    out[at] = 48 + (n / 10) as u8;
-    out[at + 1] = 48 + (n % 10) as u8;
-}
-
-// Puts a number's decimal digits at a place of the output, the last ones first and two at a time, and answers the place
-// after them.
-fn write_decimal(out: &mut [u8], at: usize, n: u64) -> usize
-    requires { at + length (decimal n) ≤ length out.old }
-    ensures end { result ≡ at + length (decimal n) }
-    ensures text { out.new ≡ sets out.old at (decimal n) }
-{
-    if n < 10 {
-        out[at] = 48 + n as u8;
-        return at + 1;
+    let end = at.saturating_add(digit_count(n));
+    if out.len() < end {
+        return at;
     }
-    let end = at + digits_of(n);
-    let mut i = end;
-    let mut m = n;
-    while m >= 100 {
-        i -= 2;
-        write_pair(out, i, m % 100);
-        m = m / 100;
-    }
-    if m < 10 {
-        out[at] = 48 + m as u8;
-    } else {
-        write_pair(out, at, m);
-    }
+    itoa::write_digits(n, out, end);
     end
 }
 
-// The refusal number of an answer, or 0.
-pub fn number_of(answer: rules::Answer) -> u32
-    ensures { result ≡ number_of answer }
+// The same with a byte after them.
+#[tactic(auto, using(crate::proofs::Digits::written_byte))]
+fn write_number(out: &mut [u8], at: usize, n: u64, after: u8) -> usize
+    requires { at + length (decimal n) < length out.old }
+    ensures end { result ≡ at + length (decimal n ++ (after ∷ [])) }
+    ensures text { out.new ≡ sets out.old at (decimal n ++ (after ∷ [])) }
 {
-    match answer {
-        rules::Answer::Refused(n) => n,
-        rules::Answer::Done => 0,
-        rules::Answer::Word(_) => 0,
-        rules::Answer::Same(_) => 0,
-        rules::Answer::Phase(_) => 0,
-    }
+    let end = write_decimal(out, at, n);
+    out[end] = after;
+    end + 1
 }
 
-// The value of an answer: the word read, 1 or 0 for same, the phase after a step; 0 for the others and when refused.
-pub fn value_of(answer: rules::Answer) -> u64
-    ensures { result ≡ value_of answer }
-{
-    match answer {
-        rules::Answer::Refused(_) => 0,
-        rules::Answer::Done => 0,
-        rules::Answer::Word(w) => w as u64,
-        rules::Answer::Same(yes) => if yes { 1 } else { 0 },
-        rules::Answer::Phase(phase) => phase as u64,
-    }
-}
-
-// Puts a line at a place of the output that has room for the longest one and answers the place after it.
-pub(crate) fn write_line(out: &mut [u8], at: usize, entry: u64, refusal: u32, value: u64) -> usize
+// Puts the line of an entry at a place of the output that has room for the longest one and answers the place after it.
+#[tactic(auto, using(crate::proofs::Digits::line_lengths))]
+pub(crate) fn write_line(out: &mut [u8], at: usize, entry: u64, answer: Answer) -> usize
     requires { at + longest ≤ length out.old }
-    ensures end { result ≡ at + length (text_of (line entry refusal value)) }
-    ensures text { out.new ≡ sets out.old at (text_of (line entry refusal value)) }
+    ensures end { result ≡ at + length (text_of (line entry answer)) }
+    ensures text { out.new ≡ sets out.old at (text_of (line entry answer)) }
     ensures short { result ≤ at + longest }
 {
-    let first = write_decimal(out, at, entry);
-    out[first] = b' ';
-    let second = write_decimal(out, first + 1, refusal as u64);
-    out[second] = b' ';
-    let third = write_decimal(out, second + 1, value);
-    out[third] = b'\n';
-    third + 1
+    let refusal_at = write_number(out, at, entry, b' ');
+    let value_at = write_number(out, refusal_at, number_of(answer) as u64, b' ');
+    write_number(out, value_at, value_of(answer), b'\n')
 }
 
 // The line of an input whose version is bad, or that is empty, at the start of the output; nothing where there is no room
@@ -124,5 +70,5 @@ pub fn write_bad_version(out: &mut [u8]) -> usize
     if out.len() < LONGEST_LINE {
         return 0;
     }
-    write_line(out, 0, 0, 15, 0)
+    write_line(out, 0, 0, Err(Refusal::BadScript))
 }

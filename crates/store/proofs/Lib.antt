@@ -5,7 +5,7 @@
 pub mod view
 -- the tests of calls, by what the code's tests answer
 pub mod tests
--- the sessions searched, and the registers of one
+-- the sessions searched
 pub mod session
 -- shading, and the phases that mark
 pub mod shading

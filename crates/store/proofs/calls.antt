@@ -1,12 +1,16 @@
--- The session calls on the record in a register, and same: each by what its plan or its test answered. It rests on tests and
--- shading.
+-- The session calls on the record in a register, by what a plan that passed says. It rests on tests and shading.
 
+-- the tests with words pending
 pub mod Pending
+-- a row written into a longer one
 pub mod Rows
+-- load, read, the birth number
 pub mod Fields
-pub mod Load
+-- store and put
 pub mod Store
+-- write
 pub mod Write
+-- the stretch
 pub mod Stretch
+-- several links
 pub mod Links
-pub mod Same

@@ -9,8 +9,7 @@ pub mod Walk
 pub mod Shells
 -- 7 Copy
 pub mod Copy
--- 10 RootFlip and 11 StackFlip; the registers of a session forwarded
-pub mod Flip
+-- 11 StackFlip: the registers of a session forwarded
 pub mod Forward
 -- the step by the number of its phase
 pub mod Step

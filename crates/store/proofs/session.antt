@@ -1,6 +1,4 @@
 -- The sessions of the control record.
 
--- the lowest session that is looked for
+-- tests of all of them, the lowest without a mark, and a change to each
 pub mod Search
--- the registers of a session one by one
-pub mod Registers

@@ -10,7 +10,7 @@ use Rattle.rules.specs.Runs.{Call, Allocate, Step, is_session, is_allocation, se
 use Rattle.rules.specs.Free.{new_free, free_run}
 use Rattle.rules.specs.Tracking.{Beside, new_beside, beside, records_of}
 use Rattle.rules.specs.Claims.{FilledFrom, Living, places_in, FreedBetween, left_in, scans_and_move, used_words, all_shares}
-use Rattle.rules.specs.declared.Answer.TheVariants.{Refused}
+use Rattle.rules.specs.Answers.{Refused}
 use Rattle.store.specs.CodeRuns.{Lent, lent, viewed, CodeMade, Called, CodeRun, ended, next}
 use Rattle.store.specs.declared.Control.{Control}
 

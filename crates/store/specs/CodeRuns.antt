@@ -8,8 +8,7 @@ use Rattle.rules.specs.Calls.{stretch}
 use Rattle.rules.specs.Runs.{Call, Attach, Detach, SafePoint, Allocate, Load, StoreRef, StoreLinks, Read, Write, Move, Clear, SameAs, Get, Put, Stretch, Companion, Birth, Step, apply, run, after}
 use Rattle.rules.specs.Claims.{Made}
 use Rattle.rules.specs.declared.Link.{Link}
-use Rattle.rules.specs.declared.Answer.{Answer}
-use Rattle.rules.specs.declared.Answer.TheVariants.{Done}
+use Rattle.rules.specs.Answers.{Answer, Done, answer_of}
 use Rattle.store.specs.View.{view, outcome}
 use Rattle.store.specs.declared.Control.{Control}
 use Rattle.store.specs.declared.Reply as code
@@ -34,7 +33,7 @@ viewed a = view a.control a.half0 a.half1 a.list
 pub data CodeMade : Lent → Type 0 where
   by_make : (h0 h1 list : List ℕ) (r : code.Reply)
       → outcome r h0 h1 list ≡ make h0 h1 list
-      → r.answer ≡ Done
+      → answer_of r.answer ≡ Done
       → CodeMade (lent r.control h0 h1 list)
 
 -- ---- one call
@@ -47,46 +46,46 @@ pub data CodeMade : Lent → Type 0 where
 pub data Called (self : Control) (h0 h1 list : List ℕ) : Call → Reply → Lent → Type 0 where
   by_attach : (s share : ℕ) (r : code.Reply)
       → outcome r h0 h1 list ≡ apply (view self h0 h1 list) (Attach s share)
-      → Called self h0 h1 list (Attach s share) (answer r.answer) (lent r.control h0 h1 list)
+      → Called self h0 h1 list (Attach s share) (answer (answer_of r.answer)) (lent r.control h0 h1 list)
   by_detach : (s : ℕ) (r : code.Reply)
       → outcome r h0 h1 list ≡ apply (view self h0 h1 list) (Detach s)
-      → Called self h0 h1 list (Detach s) (answer r.answer) (lent r.control h0 h1 list)
+      → Called self h0 h1 list (Detach s) (answer (answer_of r.answer)) (lent r.control h0 h1 list)
   by_safe_point : (s : ℕ) (r : code.Reply)
       → outcome r h0 h1 list ≡ apply (view self h0 h1 list) (SafePoint s)
-      → Called self h0 h1 list (SafePoint s) (answer r.answer) (lent r.control h0 h1 list)
+      → Called self h0 h1 list (SafePoint s) (answer (answer_of r.answer)) (lent r.control h0 h1 list)
   by_allocate : (s register r p : ℕ) (a : code.Reply) (h0' h1' : List ℕ)
       → outcome a h0' h1' list ≡ apply (view self h0 h1 list) (Allocate s register r p)
-      → Called self h0 h1 list (Allocate s register r p) (answer a.answer) (lent a.control h0' h1' list)
+      → Called self h0 h1 list (Allocate s register r p) (answer (answer_of a.answer)) (lent a.control h0' h1' list)
   by_load : (s to register field : ℕ) (r : code.Reply)
       → outcome r h0 h1 list ≡ apply (view self h0 h1 list) (Load s to register field)
-      → Called self h0 h1 list (Load s to register field) (answer r.answer) (lent r.control h0 h1 list)
+      → Called self h0 h1 list (Load s to register field) (answer (answer_of r.answer)) (lent r.control h0 h1 list)
   by_store : (s register field from : ℕ) (r : code.Reply) (h0' h1' list' : List ℕ)
       → outcome r h0' h1' list' ≡ apply (view self h0 h1 list) (StoreRef s register field from)
-      → Called self h0 h1 list (StoreRef s register field from) (answer r.answer) (lent r.control h0' h1' list')
+      → Called self h0 h1 list (StoreRef s register field from) (answer (answer_of r.answer)) (lent r.control h0' h1' list')
   by_store_links : (s register count : ℕ) (links : List Link) (r : code.Reply) (h0' h1' list' : List ℕ)
       → outcome r h0' h1' list' ≡ apply (view self h0 h1 list) (StoreLinks s register count links)
-      → Called self h0 h1 list (StoreLinks s register count links) (answer r.answer) (lent r.control h0' h1' list')
+      → Called self h0 h1 list (StoreLinks s register count links) (answer (answer_of r.answer)) (lent r.control h0' h1' list')
   by_read : (s register field : ℕ) (r : code.Reply)
       → outcome r h0 h1 list ≡ apply (view self h0 h1 list) (Read s register field)
-      → Called self h0 h1 list (Read s register field) (answer r.answer) (lent r.control h0 h1 list)
+      → Called self h0 h1 list (Read s register field) (answer (answer_of r.answer)) (lent r.control h0 h1 list)
   by_write : (s register field value : ℕ) (r : code.Reply) (h0' h1' : List ℕ)
       → outcome r h0' h1' list ≡ apply (view self h0 h1 list) (Write s register field value)
-      → Called self h0 h1 list (Write s register field value) (answer r.answer) (lent r.control h0' h1' list)
+      → Called self h0 h1 list (Write s register field value) (answer (answer_of r.answer)) (lent r.control h0' h1' list)
   by_move_register : (s to from : ℕ) (r : code.Reply)
       → outcome r h0 h1 list ≡ apply (view self h0 h1 list) (Move s to from)
-      → Called self h0 h1 list (Move s to from) (answer r.answer) (lent r.control h0 h1 list)
+      → Called self h0 h1 list (Move s to from) (answer (answer_of r.answer)) (lent r.control h0 h1 list)
   by_clear : (s register : ℕ) (r : code.Reply)
       → outcome r h0 h1 list ≡ apply (view self h0 h1 list) (Clear s register)
-      → Called self h0 h1 list (Clear s register) (answer r.answer) (lent r.control h0 h1 list)
+      → Called self h0 h1 list (Clear s register) (answer (answer_of r.answer)) (lent r.control h0 h1 list)
   by_same : (s a b : ℕ) (r : code.Reply)
       → outcome r h0 h1 list ≡ apply (view self h0 h1 list) (SameAs s a b)
-      → Called self h0 h1 list (SameAs s a b) (answer r.answer) (lent r.control h0 h1 list)
+      → Called self h0 h1 list (SameAs s a b) (answer (answer_of r.answer)) (lent r.control h0 h1 list)
   by_get : (s to global : ℕ) (r : code.Reply)
       → outcome r h0 h1 list ≡ apply (view self h0 h1 list) (Get s to global)
-      → Called self h0 h1 list (Get s to global) (answer r.answer) (lent r.control h0 h1 list)
+      → Called self h0 h1 list (Get s to global) (answer (answer_of r.answer)) (lent r.control h0 h1 list)
   by_put : (s global from : ℕ) (r : code.Reply) (h0' h1' list' : List ℕ)
       → outcome r h0' h1' list' ≡ apply (view self h0 h1 list) (Put s global from)
-      → Called self h0 h1 list (Put s global from) (answer r.answer) (lent r.control h0' h1' list')
+      → Called self h0 h1 list (Put s global from) (answer (answer_of r.answer)) (lent r.control h0' h1' list')
   by_stretch : (s register : ℕ) (r : List ℕ)
       → r ≡ words_or (stretch (view self h0 h1 list) s register)
       → Called self h0 h1 list (Stretch s register) (words r) (lent self h0 h1 list)
@@ -95,10 +94,10 @@ pub data Called (self : Control) (h0 h1 list : List ℕ) : Call → Reply → Le
       → Called self h0 h1 list (Companion s register) (answer r) (lent self h0 h1 list)
   by_birth : (s register : ℕ) (r : code.Reply)
       → outcome r h0 h1 list ≡ apply (view self h0 h1 list) (Birth s register)
-      → Called self h0 h1 list (Birth s register) (answer r.answer) (lent r.control h0 h1 list)
+      → Called self h0 h1 list (Birth s register) (answer (answer_of r.answer)) (lent r.control h0 h1 list)
   by_step : (r : code.Reply) (h0' h1' list' : List ℕ)
       → outcome r h0' h1' list' ≡ apply (view self h0 h1 list) Step
-      → Called self h0 h1 list Step (answer r.answer) (lent r.control h0' h1' list')
+      → Called self h0 h1 list Step (answer (answer_of r.answer)) (lent r.control h0' h1' list')
 
 -- ---- calls one after another
 

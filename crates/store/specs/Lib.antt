@@ -1,9 +1,7 @@
 -- The code's values as the rules' values.
 pub mod View
--- The sessions that are looked for.
+-- The session that a phase works on.
 pub mod Searching
--- The code's answers of a plan as the rules' answers.
-pub mod Plans
 -- A field of the record that a reference names.
 pub mod Fields
 -- The plan of several links.
@@ -22,8 +20,6 @@ pub mod Shells
 pub mod Allocation
 -- Copying the fields of a record to its replica.
 pub mod Copies
--- Registers forwarded.
-pub mod Flips
 -- Runs of the code, and that they are runs of the rules.
 pub mod CodeRuns
 -- The claims about runs, said of the code.

@@ -1,28 +1,33 @@
 -- The plan of several links: the words that each is going to write, the list entries, and the store with them written.
-use Rattle.std.specs.Prelude.{ℕ, ◌+◌, ◌-◌, ◌*◌, ◌≤◌, ◌≡◌, cond, List, [], ◌∷◌, eqb, take}
+use Rattle.std.specs.Prelude.{ℕ, ◌+◌, ◌*◌, ◌≤◌, cond, List, [], ◌∷◌, ◌++◌, eqb, length, Result, Ok, Err}
 use Rattle.std.proofs.lemmas.List.Edits.{sets}
 use Rattle.rules.specs.Refusals.{Tested, refused, done, Outcome}
 use Rattle.rules.specs.Memory.{null, colour_at, grey, ref_field}
 use Rattle.rules.specs.Control.{Store, with_memory, with_list}
 use Rattle.rules.specs.declared.Writes.{Writes}
+use Rattle.rules.specs.declared.StorePlan.{StorePlan}
 use Rattle.heap.specs.Pending.{memory_with}
 use Rattle.store.specs.declared.Control.{Control}
-use Rattle.store.specs.declared.links.Linked.{Linked}
-use Rattle.store.specs.declared.links.Linked.TheVariants.{Refusal, End}
+use Rattle.rules.specs.Answers.{number}
+use Rattle.rules.specs.declared.Refusal.{Refusal}
+use Rattle.heap.specs.declared.halves.Pending.{Pending}
 
 -- the reference of word j of the record that v names, or null where v is
 abbrev pub place_of : ℕ → ℕ → ℕ
 place_of v j = cond (eqb v null) null (v + 2 * j)
 
 -- what a link writes, as pending words: the colours of the records shaded, the field of the record and that of its replica
-abbrev pub link_words : ℕ → ℕ → Writes → List ℕ
+abbrev pub link_words : ℕ → ℕ → Writes → List Pending
 link_words v i w =
-    place_of w.first colour_at ∷ grey ∷ place_of w.second colour_at ∷ grey
-    ∷ place_of v (ref_field i) ∷ w.own ∷ place_of w.replica (ref_field i) ∷ w.copy ∷ []
+    record { place = place_of w.first colour_at; word = grey }
+    ∷ record { place = place_of w.second colour_at; word = grey }
+    ∷ record { place = place_of v (ref_field i); word = w.own }
+    ∷ record { place = place_of w.replica (ref_field i); word = w.copy }
+    ∷ []
 
--- how many numbers that is
-abbrev pub link_numbers : ℕ
-link_numbers = 8
+-- how many words that is
+abbrev pub link_count : ℕ
+link_count = 4
 
 -- the greatest number of 32 bits
 abbrev pub most_word : ℕ
@@ -42,20 +47,33 @@ entry_of v = cond (eqb v null) [] (v ∷ [])
 abbrev pub link_entries : ℕ
 link_entries = 2
 
--- the store with pending words written, and entries at the list's end
-abbrev pub with_pending : Store → List ℕ → List ℕ → ℕ → Store
-with_pending s xs es end =
-    with_list (with_memory s (memory_with xs s.memory.half0 s.memory.half1 s.memory.frontier0 s.memory.frontier1))
-    (sets s.list.words s.list.tail es) s.list.head end
+-- what plans of links write: pending words, and entries at the list's end
+pub record LinkWrites : Type 0 where
+  pub words : List Pending
+  pub entries : List ℕ
 
--- the plans of the first n links of a call on s, as the code answers them: refused, or what they write as pending words and entries
-abbrev pub linked : Linked → Store → List ℕ → List ℕ → ℕ → Tested (Outcome Store)
-linked (Refusal r) s xs es n = refused r
-linked (End end) s xs es n = done (with_pending s (take (link_numbers * n) xs) (take (end - s.list.tail) es) end)
+-- with those of one more, a plan of a store to reference field i
+abbrev pub with_link : LinkWrites → StorePlan → ℕ → LinkWrites
+with_link p q i =
+    record {
+      words = p.words ++ link_words q.into i q.writes;
+      entries = p.entries ++ entry_of q.writes.first ++ entry_of q.writes.second;
+    }
 
--- what is known of the list's end that they answer
-abbrev pub Ends : Linked → ℕ → ℕ → ℕ → Type 0
-Ends r low high most = (end : ℕ) → r ≡ End end → (low ≤ end) × (end ≤ high) × (end ≤ most)
+-- the store with all of it written
+abbrev pub with_pending : Store → LinkWrites → Store
+with_pending s p =
+    with_list (with_memory s (memory_with p.words s.memory.half0 s.memory.half1 s.memory.frontier0 s.memory.frontier1))
+    (sets s.list.words s.list.tail p.entries) s.list.head (s.list.tail + length p.entries)
+
+-- how the plans of a call on s ended, by what the code hands out of them: refused, or the store with what they write
+abbrev pub linked : Store → Result LinkWrites Refusal → Tested (Outcome Store)
+linked s (Err r) = refused (number r)
+linked s (Ok p) = done (with_pending s p)
+
+-- the list has room for the entries
+abbrev pub Listed : Control → LinkWrites → List ℕ → Type 0
+Listed c p l = c.cursor.tail + length p.entries ≤ length l
 
 -- the control record with the list's end moved
 abbrev pub tailed : Control → ℕ → Control

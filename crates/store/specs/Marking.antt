@@ -1,17 +1,15 @@
 -- Marking: the white records among the registers of a session, the list's end that shading leaves, and shading as a step of a walk.
-use Rattle.std.specs.Prelude.{ℕ, Bool, false, cond, ◌||◌, List, [], ◌∷◌, eqb, length}
-use Rattle.rules.specs.Refusals.{Tested, refused, passed, ◌>>=◌}
+use Rattle.std.specs.Prelude.{ℕ, Bool, cond, List, [], ◌∷◌, eqb, length}
+use Rattle.std.specs.List.{list_any}
+use Rattle.rules.specs.Refusals.{Tested, passed, ◌>>=◌}
 use Rattle.rules.specs.Memory.{Memory, null}
 use Rattle.rules.specs.Control.{Store, with_memory, with_walk, with_list}
 use Rattle.rules.specs.Barriers.{heap_of, shading, shade, without, to_shade_all}
 use Rattle.heap.specs.View.{memory, if_white}
-use Rattle.store.specs.declared.scanning.Counted.{Counted}
-use Rattle.store.specs.declared.scanning.Counted.TheVariants.{Whites, Damage}
 
 -- v is one of the words
 abbrev pub among : ℕ → List ℕ → Bool
-among v [] = false
-among v (w ∷ ws) = eqb v w || among v ws
+among v ws = list_any (λ (w : ℕ). eqb w v) ws
 
 -- ---- the white records among references
 
@@ -25,11 +23,6 @@ abbrev pub white_count : Memory → List ℕ → Tested ℕ
 white_count M vs = do
   ws ← to_shade_all M vs
   passed (length ws)
-
--- the code's count as a tested number: the one refusal is 12, damage
-abbrev pub counted : Counted → Tested ℕ
-counted (Whites n) = passed n
-counted Damage = refused 12
 
 -- ---- shading
 

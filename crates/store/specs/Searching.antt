@@ -1,11 +1,7 @@
--- The sessions that are looked for.
-use Rattle.std.specs.Prelude.{Bool, not, ◌&&◌, ltb, eqb}
+-- The session that a phase works on.
+use Rattle.std.specs.Prelude.{ℕ, Option, List, not, ◌&&◌, position}
 use Rattle.rules.specs.declared.Session.{Session}
-use Rattle.store.specs.declared.searching.Wanted.{Wanted}
-use Rattle.store.specs.declared.searching.Wanted.TheVariants.{Scanned, Unscanned, NotAt, Above}
 
-abbrev pub is_wanted : Wanted → Session → Bool
-is_wanted Scanned x = x.scanned
-is_wanted Unscanned x = x.attached && not x.scanned
-is_wanted (NotAt l) x = x.attached && not (eqb x.level l)
-is_wanted (Above l) x = ltb l x.level
+-- the lowest attached one without a scanned mark
+abbrev pub lowest_unscanned : List Session → Option ℕ
+lowest_unscanned xs = position (λ (x : Session). x.attached && not x.scanned) xs

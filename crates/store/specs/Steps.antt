@@ -1,7 +1,7 @@
 -- What a collector step leaves.
 use Rattle.rules.specs.Refusals.{Tested, refused, passed, Outcome, answer}
 use Rattle.rules.specs.Control.{Store}
-use Rattle.rules.specs.declared.Answer.TheVariants.{Refused, Phase}
+use Rattle.rules.specs.Answers.{Refused, Phase}
 
 -- "The step answers the phase after it"
 abbrev pub went : Store → Outcome Store

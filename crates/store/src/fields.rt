@@ -1,129 +1,110 @@
 // The calls that read a field of the record in a register: load and read. Of both the tests on the record itself, for a
 // crate above that makes many such calls of one session: it tests the session once and goes from reference to reference.
-ghost use Rattle.std.specs.Prelude.{◌≡◌, ◌≤◌, length};
-ghost use Rattle.rules.specs.Refusals.{refusal_of};
+ghost use Rattle.std.specs.Prelude.{◌≡◌};
+ghost use Rattle.rules.specs.Refusals.{tested};
 ghost use Rattle.rules.specs.Calls.{load_plan};
 ghost use Rattle.rules.specs.Runs.{apply, Load, Read};
 ghost use Rattle.heap.specs.View.{memory};
-ghost use Rattle.store.specs.View.{view, outcome};
-ghost use Rattle.store.specs.Plans.{loading};
+ghost use Rattle.heap.specs.Halves.{as_memory};
+ghost use Rattle.store.specs.View.{view, viewed, outcome, answered};
 ghost use Rattle.store.specs.Fields.{named, reference_in, word_in, field_reference, field_word};
 
-use crate::operands::Held;
+use crate::lent::Lent;
 use crate::{Control, Cursor, Reply};
-use heap::HEADER;
-use heap::following::follow;
-use heap::words::get_word;
-use rules::Followed;
-
-// The number of the first test that fails, or what the field holds.
-#[derive(Clone, Copy)]
-pub enum Loading {
-    Refusal(u32),
-    Word(u32),
-}
+use heap::{HEADER, Halves};
+use rules::{Answer, Followed, Refusal, Value};
 
 // 12, 13: what a reference field of the record that v names holds.
-fn reference_in<'a>(
-    h0: &'a [u32],
-    h1: &'a [u32],
-    f0: usize,
-    f1: usize,
-    v: u32,
-    field: u32,
-) -> Loading
-    requires { (f0 ≤ length h0.now) × (f1 ≤ length h1.now) }
-    ensures { loading result ≡ reference_in (memory h0.now h1.now f0 f1) v field }
+#[tactic(auto, unfolding(rules::specs::Memory::follow, rules::specs::Memory::followed, crate::specs::Fields::reference_in))]
+fn reference_in(halves: &Halves<'_>, v: u32, field: u32) -> Result<u32, Refusal>
+    ensures { tested result ≡ reference_in (as_memory halves.now) v field }
 {
-    let Followed::Sound(_, r, _) = follow(h0, h1, f0, f1, v) else {
-        return Loading::Refusal(12);
+    let Followed::Sound(_, r, _) = halves.follow(v) else {
+        return Err(Refusal::Damaged);
     };
     if r <= field {
-        return Loading::Refusal(13);
+        return Err(Refusal::NoField);
     }
-    let word = get_word(h0, h1, v, HEADER + (field as usize));
-    Loading::Word(word)
+    Ok(halves.word(v, HEADER + (field as usize)))
 }
 
-// 12, 13: the word of a plain field of the record that v names.
-fn word_in<'a>(h0: &'a [u32], h1: &'a [u32], f0: usize, f1: usize, v: u32, field: u32) -> Loading
-    requires { (f0 ≤ length h0.now) × (f1 ≤ length h1.now) }
-    ensures { loading result ≡ word_in (memory h0.now h1.now f0 f1) v field }
+// 12, 13: the word of a plain field of the record that v names. Not one function with the other: the rules tell the two kinds apart, and
+// a flag for the kind would stand in both contracts.
+#[tactic(auto, unfolding(rules::specs::Memory::follow, rules::specs::Memory::followed, crate::specs::Fields::word_in))]
+fn word_in(halves: &Halves<'_>, v: u32, field: u32) -> Result<u32, Refusal>
+    ensures { tested result ≡ word_in (as_memory halves.now) v field }
 {
-    let Followed::Sound(_, r, p) = follow(h0, h1, f0, f1, v) else {
-        return Loading::Refusal(12);
+    let Followed::Sound(_, r, p) = halves.follow(v) else {
+        return Err(Refusal::Damaged);
     };
     if p <= field {
-        return Loading::Refusal(13);
+        return Err(Refusal::NoField);
     }
-    let word = get_word(h0, h1, v, HEADER + (r as usize) + (field as usize));
-    Loading::Word(word)
+    Ok(halves.word(v, HEADER + (r as usize) + (field as usize)))
 }
 
 impl Cursor {
-    // 4, 11: that the frontiers are within the lent halves, and that v isn't null. The number of the first test that fails,
-    // or 0.
-    fn reference_tests(self, h0: &[u32], h1: &[u32], v: u32) -> u32
-        ensures { result ≡ refusal_of (named (memory h0.now h1.now self.frontier0 self.frontier1) v) }
+    // 4, 11: that the frontiers are within the lent halves, and that v isn't null.
+    #[tactic(auto, unfolding(crate::specs::Fields::named))]
+    fn reference_tests(self, h0: &[u32], h1: &[u32], v: u32) -> Result<(), Refusal>
+        ensures { tested result ≡ named (memory h0.now h1.now self.frontier0 self.frontier1) v }
     {
         let within = (self.frontier0 <= h0.len()) & (self.frontier1 <= h1.len());
         if !within {
-            return 4;
+            return Err(Refusal::OutOfRange);
         }
-        if v == 0 { 11 } else { 0 }
+        if v == 0 {
+            return Err(Refusal::NullRegister);
+        }
+        Ok(())
     }
 
     // What reference field `field` of the record that v names holds: a load, past the tests on its session and registers.
-    pub fn field_reference<'a>(self, h0: &'a [u32], h1: &'a [u32], v: u32, field: u32) -> Loading
-        ensures { loading result ≡ field_reference (memory h0.now h1.now self.frontier0 self.frontier1) v field }
+    #[tactic(auto, unfolding(crate::specs::Fields::named, crate::specs::Fields::field_reference))]
+    pub fn field_reference(self, h0: &[u32], h1: &[u32], v: u32, field: u32) -> Result<u32, Refusal>
+        ensures { tested result ≡ field_reference (memory h0.now h1.now self.frontier0 self.frontier1) v field }
     {
-        let refusal = self.reference_tests(h0, h1, v);
-        if refusal != 0 {
-            return Loading::Refusal(refusal);
-        }
-        reference_in(h0, h1, self.frontier0, self.frontier1, v, field)
+        self.reference_tests(h0, h1, v)?;
+        reference_in(&self.halves(h0, h1), v, field)
     }
 
     // The word of plain field `field` of the record that v names: a read, past those tests.
-    pub fn field_word<'a>(self, h0: &'a [u32], h1: &'a [u32], v: u32, field: u32) -> Loading
-        ensures { loading result ≡ field_word (memory h0.now h1.now self.frontier0 self.frontier1) v field }
+    #[tactic(auto, unfolding(crate::specs::Fields::named, crate::specs::Fields::field_word))]
+    pub fn field_word(self, h0: &[u32], h1: &[u32], v: u32, field: u32) -> Result<u32, Refusal>
+        ensures { tested result ≡ field_word (memory h0.now h1.now self.frontier0 self.frontier1) v field }
     {
-        let refusal = self.reference_tests(h0, h1, v);
-        if refusal != 0 {
-            return Loading::Refusal(refusal);
-        }
-        word_in(h0, h1, self.frontier0, self.frontier1, v, field)
+        self.reference_tests(h0, h1, v)?;
+        word_in(&self.halves(h0, h1), v, field)
     }
 }
 
 impl Control {
     // The tests of a load, and what its register gets.
-    fn load_plan<'a>(
-        self,
-        h0: &'a [u32],
-        h1: &'a [u32],
-        list: &[u32],
+    #[tactic(auto, using(crate::proofs::tests::Opening::held_bounds), unfolding(rules::specs::Calls::load_plan, rules::specs::Calls::record_of, crate::specs::Fields::reference_in))]
+    fn load_plan(
+        &self,
+        lent: Lent,
         s: u32,
         to: u32,
         register: u32,
         field: u32,
-    ) -> Loading
-        ensures { loading result ≡ load_plan (view self h0.now h1.now list.now) s to register field }
+    ) -> Result<u32, Refusal>
+        ensures { tested result ≡ load_plan (viewed self.now lent.entry) s to register field }
     {
-        let operands = match self.held(h0, h1, list, s, register, to) {
-            Held::Refusal(n) => return Loading::Refusal(n),
-            Held::Operands(operands) => operands,
-        };
-        let f0 = self.cursor.frontier0;
-        let f1 = self.cursor.frontier1;
-        reference_in(h0, h1, f0, f1, operands.own, field)
+        let operands = self.held(lent, s, register, to)?;
+        reference_in(
+            &self.cursor.halves(lent.half0, lent.half1),
+            operands.own,
+            field,
+        )
     }
 
     // Load: register `to` gets what a reference field holds. It is set in place, so that the control record isn't copied.
-    pub fn load<'a>(
+    #[tactic(auto, using(crate::proofs::calls::Fields::load_numbers), unfolding(rules::specs::Calls::load, rules::specs::Calls::with_register, rules::specs::Phases::with_session, rules::specs::Phases::session_at))]
+    pub fn load(
         mut self,
-        h0: &'a [u32],
-        h1: &'a [u32],
+        h0: &[u32],
+        h1: &[u32],
         list: &[u32],
         s: u32,
         to: u32,
@@ -133,17 +114,19 @@ impl Control {
         ensures { outcome result h0.now h1.now list.now
             ≡ apply (view self h0.now h1.now list.now) (Load s to register field) }
     {
-        let plan = self.load_plan(h0, h1, list, s, to, register, field);
-        let answer = match plan {
-            Loading::Refusal(n) => rules::Answer::Refused(n),
-            Loading::Word(w) => {
-                let i = s as usize;
-                let j = to as usize;
-                let mut session = self.sessions[i];
-                session.registers[j] = w;
-                self.sessions[i] = session;
-                rules::Answer::Done
+        let lent = Lent {
+            half0: h0,
+            half1: h1,
+            list,
+        };
+        // no `?`: refused or not, the reply hands the control record back
+        let answer = match self.load_plan(lent, s, to, register, field) {
+            Ok(w) => {
+                let session = &mut self.sessions[s as usize];
+                session.registers[to as usize] = w;
+                Ok(Value::Done)
             }
+            Err(refusal) => Err(refusal),
         };
         Reply {
             control: self,
@@ -152,38 +135,25 @@ impl Control {
     }
 
     // What a read answers: the tests in order, then the word of the plain field.
-    fn read_answer<'a>(
-        self,
-        h0: &'a [u32],
-        h1: &'a [u32],
-        list: &[u32],
-        s: u32,
-        register: u32,
-        field: u32,
-    ) -> rules::Answer
-        ensures { outcome (record { control = self; answer = result }) h0.now h1.now list.now
-            ≡ apply (view self h0.now h1.now list.now) (Read s register field) }
+    #[tactic(auto, using(crate::proofs::tests::Opening::held_bounds), unfolding(rules::specs::Calls::read, rules::specs::Calls::record_of, crate::specs::Fields::word_in))]
+    fn read_answer(&self, lent: Lent, s: u32, register: u32, field: u32) -> Answer
+        ensures { answered self.now lent.entry result
+            ≡ apply (viewed self.now lent.entry) (Read s register field) }
     {
-        let operands = match self.held(h0, h1, list, s, register, register) {
-            Held::Refusal(n) => {
-                return rules::Answer::Refused(n);
-            }
-            Held::Operands(operands) => operands,
-        };
-        let f0 = self.cursor.frontier0;
-        let f1 = self.cursor.frontier1;
-        let word = word_in(h0, h1, f0, f1, operands.own, field);
-        match word {
-            Loading::Refusal(n) => rules::Answer::Refused(n),
-            Loading::Word(w) => rules::Answer::Word(w),
-        }
+        let operands = self.held(lent, s, register, register)?;
+        let word = word_in(
+            &self.cursor.halves(lent.half0, lent.half1),
+            operands.own,
+            field,
+        )?;
+        Ok(Value::Word(word))
     }
 
     // Read: the word of a plain field.
-    pub fn read<'a>(
+    pub fn read(
         self,
-        h0: &'a [u32],
-        h1: &'a [u32],
+        h0: &[u32],
+        h1: &[u32],
         list: &[u32],
         s: u32,
         register: u32,
@@ -192,7 +162,12 @@ impl Control {
         ensures { outcome result h0.now h1.now list.now
             ≡ apply (view self h0.now h1.now list.now) (Read s register field) }
     {
-        let answer = self.read_answer(h0, h1, list, s, register, field);
+        let lent = Lent {
+            half0: h0,
+            half1: h1,
+            list,
+        };
+        let answer = self.read_answer(lent, s, register, field);
         Reply {
             control: self,
             answer,

@@ -9,8 +9,9 @@ ghost use Rattle.rules.specs.Control.{new_store, nobody};
 ghost use Rattle.rules.specs.Cycle.{last_phase, level_of};
 ghost use Rattle.store.specs.View.{view, lengths};
 
+mod lent; // lent.rt: what a call is lent beside the control record
 mod making; // making.rt: refusals 1 to 3
-mod searching; // searching.rt: the sessions looked through
+mod searching; // searching.rt: the session that a phase works on
 mod ranges; // ranges.rt: the control record test, refusal 4
 mod sessions; // sessions.rt: the session tests, refusals 5 and 6; attach, detach, safe point
 mod registers; // registers.rt: move, clear, get
@@ -24,7 +25,7 @@ mod birth; // birth.rt: the birth number
 mod stretch; // stretch.rt: the stretch and its companion
 mod writing; // writing.rt: write
 mod same; // same.rt: same
-mod bounds; // bounds.rt: fromspace, bounds and frontiers, by the collector's own numbers
+mod bounds; // bounds.rt: fromspace, the lent halves and the frontiers, by the collector's own numbers
 mod work; // work.rt: what a unit of the collector's work hands out
 mod moving; // moving.rt: moving on to the next phase, Rest, and the phases that only wait
 mod scanning; // scanning.rt: the white records among a session's registers, and shading them
@@ -37,7 +38,7 @@ mod reclaiming; // reclaiming.rt: phase 12, Reclaim
 mod step; // step.rt: the collector step
 
 // The collector's own numbers: current half, frontiers, phase, walk place, walk field, the grey list's place (head) and
-// end (tail).
+// end (tail). The current half is a number as the phase is: test 4 refuses what is neither 0 nor 1.
 #[derive(Clone, Copy)]
 pub struct Cursor {
     pub current: u32,
@@ -70,7 +71,8 @@ pub struct Reply {
     pub answer: rules::Answer,
 }
 
-// The phases, the level of each, and the limits of the ranges.
+// The phases, the level of each, and the limits of the ranges. A phase is a number and no enum: a control record may come with any
+// number there, and test 4 (`in_range`) refuses those above 12.
 impl Control {
     pub const REST: usize = 0;
 
@@ -185,18 +187,12 @@ impl Control {
         }
     }
 
-    // A number of a table.
-    pub(crate) fn number(byte: u8) -> u32
-        ensures { result ≡ byte }
-    {
-        byte as u32
-    }
-
     // The level of a phase, from the table of levels.
+    #[tactic(auto, unfolding(rules::specs::Cycle::level_of))]
     pub(crate) fn level_of(phase: usize) -> u32
         requires { phase ≤ last_phase }
         ensures { result ≡ level_of phase }
     {
-        Control::number(Control::LEVELS[phase])
+        u32::from(Control::LEVELS[phase])
     }
 }

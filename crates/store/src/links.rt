@@ -1,71 +1,68 @@
 // Store of several links: first the plans of all of them, each with the words pending that those before it are going to write; then all
 // those words, and the list entries.
-ghost use Rattle.std.specs.Prelude.{◌≡◌, [], ◌∷◌, ◌+◌, ◌-◌, ◌*◌, ◌≤◌, ◌<◌, length, take};
+ghost use Rattle.std.specs.Prelude.{◌≡◌, [], ◌∷◌, ◌++◌, ◌+◌, ◌*◌, ◌≤◌, ◌<◌, length, take, IfOk};
 ghost use Rattle.std.proofs.lemmas.List.Edits.{sets};
 ghost use Rattle.rules.specs.Calls.{most_links, store, store_each, store_links};
 ghost use Rattle.rules.specs.Runs.{apply, StoreLinks};
 ghost use Rattle.heap.specs.Pending.{laid};
-ghost use Rattle.store.specs.View.{view, outcome};
-ghost use Rattle.store.specs.Links.{place_of, link_words, link_numbers, link_entries, most_word, Placeable, entry_of, with_pending, linked, Ends};
+ghost use Rattle.store.specs.View.{view, viewed, outcome};
+ghost use Rattle.store.specs.Links.{place_of, link_words, link_count, link_entries, most_word, Placeable, entry_of, LinkWrites, with_link, with_pending, linked, Listed};
 
-use crate::stores::Storing;
+use crate::lent::Lent;
 use crate::{Control, Reply};
 use heap::pending::lay;
-use heap::{COLOUR_AT, GREY, HEADER};
-use rules::{Link, Writes};
+use heap::{COLOUR_AT, Colour, HEADER, Pending};
+use rules::{Link, Refusal, StorePlan, Value, Writes};
+use std::marker::Model;
 
-// The numbers of a link's pending words: the colours of two records shaded, the field of the record and that of its replica, each with
-// its reference.
-const NUMBERS: usize = 8;
+// The pending words of a link: the colours of two records shaded, the field of the record and that of its replica.
+const WORDS: usize = 4;
 
 // Room for those of all links, and for their list entries, two for each.
-const PENDING: usize = NUMBERS * rules::LINKS;
+const PENDING: usize = WORDS * rules::LINKS;
 
 const ENTRIES: usize = 2 * rules::LINKS;
-
-// The number of the first test that fails, or the list's end after the entries.
-#[derive(Clone, Copy)]
-pub enum Linked {
-    Refusal(u32),
-    End(usize),
-}
 
 // The reference of word j of the record that v names, or null where v is.
 fn place(v: u32, j: u32) -> u32
     requires { v + 2 * j ≤ most_word }
     ensures { result ≡ place_of v j }
 {
-    if v == 0 {
-        return 0;
-    }
-    v + 2 * j
+    if v == 0 { 0 } else { v + 2 * j }
 }
 
-// One pending word, at place `at` of the row: word j of the record that v names gets x.
-fn put_pending(pending: &mut [u32], at: usize, v: u32, j: u32, x: u32)
-    requires { (at + 2 ≤ length pending.old) × (v + 2 * j ≤ most_word) }
-    ensures { pending.new ≡ sets pending.old at (place_of v j ∷ x ∷ []) }
+// The pending words of a link to reference field i of the record v.
+fn words_of_link(v: u32, i: u32, w: Writes) -> [Pending; WORDS]
+    requires { Placeable v i w }
+    ensures { result ≡ link_words v i w }
 {
-    pending[at] = place(v, j);
-    pending[at + 1] = x;
-}
-
-// The pending words of a link to reference field i of the record v, from place `at` of the row on.
-fn put_link(pending: &mut [u32], at: usize, v: u32, i: u32, w: Writes)
-    requires { (at + link_numbers ≤ length pending.old) × Placeable v i w }
-    ensures { pending.new ≡ sets pending.old at (link_words v i w) }
-{
+    let colour = COLOUR_AT as u32;
+    let grey = Colour::Grey as u32;
     let j = (HEADER as u32) + i;
-    put_pending(pending, at, w.first, COLOUR_AT as u32, GREY);
-    put_pending(pending, at + 2, w.second, COLOUR_AT as u32, GREY);
-    put_pending(pending, at + 4, v, j, w.own);
-    put_pending(pending, at + 6, w.replica, j, w.copy);
+    [
+        Pending {
+            place: place(w.first, colour),
+            word: grey,
+        },
+        Pending {
+            place: place(w.second, colour),
+            word: grey,
+        },
+        Pending {
+            place: place(v, j),
+            word: w.own,
+        },
+        Pending {
+            place: place(w.replica, j),
+            word: w.copy,
+        },
+    ]
 }
 
 // One entry more after the first n, of a record v that is shaded, where v isn't null: how many there are then.
 fn enter(entries: &mut [u32], n: usize, v: u32) -> usize
     requires { n < length entries.old }
-    ensures { (entries.new ≡ sets entries.old n (entry_of v)) × (result ≡ n + length (entry_of v)) }
+    ensures { (take result entries.new ≡ take n entries.old ++ entry_of v) × (result ≡ n + length (entry_of v)) }
 {
     if v == 0 {
         return n;
@@ -74,139 +71,142 @@ fn enter(entries: &mut [u32], n: usize, v: u32) -> usize
     n + 1
 }
 
-// Writes entries to the list, from place `at` on.
-fn put_entries(list: &mut [u32], at: usize, entries: &[u32])
-    requires { at + length entries.now ≤ length list.old }
-    ensures { list.new ≡ sets list.old at entries.now }
-{
-    let n = entries.len();
-    let mut i: usize = 0;
-    while i < n {
-        list[at + i] = entries[i];
-        i += 1;
+// What the plans of links write: pending words, and entries for the list. Arrays with how much of each counts, since the project has no
+// heap and fixed memory.
+#[derive(Drop)]
+struct Planned {
+    words: [Pending; PENDING],
+    links: usize,
+    entries: [u32; ENTRIES],
+    entered: usize,
+}
+
+impl Model for Planned {
+    ghost Value = { LinkWrites };
+
+    ghost view = { λ p. record { words = take (link_count * p.links) p.words; entries = take p.entered p.entries } };
+
+    ghost invariant = { λ p. (p.links ≤ most_links) × (p.entered ≤ link_entries * p.links) };
+}
+
+impl Planned {
+    // Of no link.
+    fn new() -> Self
+        ensures { result ≡ record { words = []; entries = [] } }
+    {
+        Self {
+            words: [Pending { place: 0, word: 0 }; PENDING],
+            links: 0,
+            entries: [0; ENTRIES],
+            entered: 0,
+        }
+    }
+
+    // The pending words.
+    fn words(&self) -> &[Pending]
+        ensures { result.now ≡ self.now.words }
+    {
+        &self.words[..WORDS * self.links]
+    }
+
+    // The entries.
+    fn entries(&self) -> &[u32]
+        ensures { result.now ≡ self.now.entries }
+    {
+        &self.entries[..self.entered]
+    }
+
+    // One link more, to a reference field: its words, and an entry of each record that it shades.
+    #[tactic(auto, using(std::proofs::lemmas::Slice::overwrites))]
+    fn add(&mut self, plan: StorePlan, field: u32)
+        requires { (length self.old.words < link_count * most_links) × Placeable plan.into field plan.writes }
+        ensures { self.new ≡ with_link self.old plan field }
+    {
+        let at = WORDS * self.links;
+        let words = words_of_link(plan.into, field, plan.writes);
+        self.words[at..at + WORDS].copy_from_slice(&words);
+        self.links += 1;
+        let n = enter(&mut self.entries, self.entered, plan.writes.first);
+        self.entered = enter(&mut self.entries, n, plan.writes.second);
     }
 }
 
-// Writes what the plans of links say: the first `filled` numbers of pending words, and the entries from the list's end `begin` up to `end`.
-fn put_links(
-    h0: &mut [u32],
-    h1: &mut [u32],
-    list: &mut [u32],
-    pending: &[u32],
-    filled: usize,
-    entries: &[u32],
-    begin: usize,
-    end: usize,
-)
-    requires { (filled ≤ length pending.now) × (begin ≤ end) × (end - begin ≤ length entries.now) × (end ≤ length list.old) }
-    ensures { (h0.new ≡ laid 0 (take filled pending.now) h0.old)
-        × (h1.new ≡ laid 1 (take filled pending.now) h1.old)
-        × (list.new ≡ sets list.old begin (take (end - begin) entries.now)) }
+// Writes what the plans of links say: the pending words, and the entries to the list from place `at` on.
+#[tactic(auto, using(crate::proofs::calls::Rows::part_sets))]
+fn put_links(h0: &mut [u32], h1: &mut [u32], list: &mut [u32], at: usize, planned: &Planned)
+    requires { at + length planned.now.entries ≤ length list.old }
+    ensures { (h0.new ≡ laid 0 planned.now.words h0.old) × (h1.new ≡ laid 1 planned.now.words h1.old)
+        × (list.new ≡ sets list.old at planned.now.entries) }
 {
-    lay(h0, 0, &pending[..filled]);
-    lay(h1, 1, &pending[..filled]);
-    let n = end - begin;
-    put_entries(list, begin, &entries[..n]);
+    lay(h0, 0, planned.words());
+    lay(h1, 1, planned.words());
+    let entries = planned.entries();
+    list[at..at + entries.len()].copy_from_slice(entries);
 }
 
 impl Control {
-    // The plan of link i, after which `pending` and `entries` have what it writes too; the list's end before it is `tail`.
-    fn plan_link<'a>(
+    // The plan of a link, after the links that are planned.
+    #[tactic(auto, using(crate::proofs::calls::Links::plan_after, crate::proofs::calls::Links::link_placeable, crate::proofs::calls::Links::link_stored), unfolding(rules::specs::Calls::store))]
+    fn plan_link(
         mut self,
-        h0: &'a [u32],
-        h1: &'a [u32],
-        list: &[u32],
+        lent: Lent,
         s: u32,
         register: u32,
         link: Link,
-        i: usize,
-        tail: usize,
-        pending: &mut [u32],
-        entries: &mut [u32],
-    ) -> Linked
-        requires { (link_numbers * i + link_numbers ≤ length pending.old) × (self.cursor.tail ≤ tail)
-            × (tail - self.cursor.tail + link_entries ≤ length entries.old) }
-        ensures { (linked result (view self h0.now h1.now list.now) pending.new entries.new (i + 1)
-            ≡ store (with_pending (view self h0.now h1.now list.now) (take (link_numbers * i) pending.old)
-            (take (tail - self.cursor.tail) entries.old) tail) s register link.field link.from)
-            × Ends result tail (tail + link_entries) (length list.now) }
+        mut planned: Planned,
+    ) -> Result<Planned, Refusal>
+        requires { (length planned.words < link_count * most_links) × Listed self planned lent.list.now }
+        ensures plan { linked (viewed self lent.entry) result
+            ≡ store (with_pending (viewed self lent.entry) planned) s register link.field link.from }
+        ensures words { IfOk result (λ p. length p.words ≡ length planned.words + link_count) }
+        ensures room { IfOk result (λ p. Listed self p lent.entry.list.now) }
     {
-        let begin = self.cursor.tail;
-        self.cursor.tail = tail;
-        let at = NUMBERS * i;
-        let field = link.field;
-        let plan = self.store_plan(pending, at, h0, h1, list, s, register, field, link.from);
-        match plan {
-            Storing::Refusal(n) => Linked::Refusal(n),
-            Storing::Into(v, w) => {
-                put_link(pending, at, v, field, w);
-                let n = enter(entries, tail - begin, w.first);
-                let m = enter(entries, n, w.second);
-                Linked::End(begin + m)
-            }
-        }
+        self.cursor.tail += planned.entries().len();
+        let words = planned.words();
+        let plan = self.store_plan(words, lent, s, register, link.field, link.from)?;
+        planned.add(plan, link.field);
+        Ok(planned)
     }
 
-    // The plans of the first `count` links, one after the other.
-    fn plan_links<'a>(
+    // The plans of links, one after the other.
+    fn plan_links(
         self,
-        h0: &'a [u32],
-        h1: &'a [u32],
-        list: &[u32],
+        lent: Lent,
         s: u32,
         register: u32,
-        count: usize,
-        links: [Link; rules::LINKS],
-        pending: &mut [u32],
-        entries: &mut [u32],
-    ) -> Linked
-        requires { (count ≤ most_links) × (link_numbers * most_links ≤ length pending.old) × (link_entries * most_links ≤ length entries.old) × (self.cursor.tail ≤ length list.now) }
-        ensures { (linked result (view self h0.now h1.now list.now) pending.new entries.new count
-            ≡ store_each (view self h0.now h1.now list.now) s register (take count links))
-            × Ends result self.cursor.tail (self.cursor.tail + link_entries * count) (length list.now) }
+        links: &[Link],
+    ) -> Result<Planned, Refusal>
+        requires { (length links.now ≤ most_links) × (self.cursor.tail ≤ length lent.list.now) }
+        ensures plans { linked (viewed self lent.entry) result
+            ≡ store_each (viewed self lent.entry) s register links.now }
+        ensures room { IfOk result (λ p. Listed self p lent.entry.list.now) }
     {
-        let mut tail = self.cursor.tail;
-        let mut i: usize = 0;
-        while i < count {
-            let link = links[i];
-            match self.plan_link(h0, h1, list, s, register, link, i, tail, pending, entries) {
-                Linked::Refusal(n) => return Linked::Refusal(n),
-                Linked::End(end) => {
-                    tail = end;
-                }
-            }
-            i += 1;
+        let mut planned = Planned::new();
+        for link in links {
+            planned = self.plan_link(lent, s, register, *link, planned)?;
         }
-        Linked::End(tail)
+        Ok(planned)
     }
 
     // The tests of several links, and what they write.
-    fn links_plan<'a>(
+    #[tactic(auto, using(crate::proofs::tests::Results::session_tests, crate::proofs::tests::Opening::session_bounds), unfolding(rules::specs::Calls::store_links, rules::specs::Calls::is_count))]
+    fn links_plan(
         self,
-        h0: &'a [u32],
-        h1: &'a [u32],
-        list: &[u32],
+        lent: Lent,
         s: u32,
         register: u32,
         count: u32,
-        links: [Link; rules::LINKS],
-        pending: &mut [u32],
-        entries: &mut [u32],
-    ) -> Linked
-        requires { (link_numbers * most_links ≤ length pending.old) × (link_entries * most_links ≤ length entries.old) }
-        ensures { (linked result (view self h0.now h1.now list.now) pending.new entries.new count
-            ≡ store_links (view self h0.now h1.now list.now) s register count links)
-            × Ends result self.cursor.tail (self.cursor.tail + link_entries * count) (length list.now) }
+        links: &[Link; rules::LINKS],
+    ) -> Result<Planned, Refusal>
+        ensures plans { linked (viewed self lent.entry) result
+            ≡ store_links (viewed self lent.entry) s register count links.now }
+        ensures room { IfOk result (λ p. Listed self p lent.entry.list.now) }
     {
-        let refusal = self.session_tests(h0, h1, list, s);
-        if refusal != 0 {
-            return Linked::Refusal(refusal);
-        }
+        self.attached_tests(lent, s)?;
         if (rules::LINKS as u32) < count {
-            return Linked::Refusal(10);
+            return Err(Refusal::TooMany);
         }
-        let n = count as usize;
-        self.plan_links(h0, h1, list, s, register, n, links, pending, entries)
+        self.plan_links(lent, s, register, &links[..count as usize])
     }
 
     // Store of several links: each of the first `count` fields named gets what the register beside it holds; all of them, or none.
@@ -223,28 +223,19 @@ impl Control {
         ensures { outcome result h0.new h1.new list.new
             ≡ apply (view self h0.old h1.old list.old) (StoreLinks s register count links) }
     {
-        let mut pending = [0u32; PENDING];
-        let mut entries = [0u32; ENTRIES];
-        let plan = self.links_plan(
-            h0,
-            h1,
+        let lent = Lent {
+            half0: h0,
+            half1: h1,
             list,
-            s,
-            register,
-            count,
-            links,
-            &mut pending,
-            &mut entries,
-        );
-        let answer = match plan {
-            Linked::Refusal(n) => rules::Answer::Refused(n),
-            Linked::End(end) => {
-                let filled = NUMBERS * (count as usize);
-                let begin = self.cursor.tail;
-                put_links(h0, h1, list, &pending, filled, &entries, begin, end);
-                self.cursor.tail = end;
-                rules::Answer::Done
+        };
+        // no `?`: refused or not, the reply hands the control record back
+        let answer = match self.links_plan(lent, s, register, count, &links) {
+            Ok(planned) => {
+                put_links(h0, h1, list, self.cursor.tail, &planned);
+                self.cursor.tail += planned.entries().len();
+                Ok(Value::Done)
             }
+            Err(refusal) => Err(refusal),
         };
         Reply {
             control: self,

@@ -6,67 +6,52 @@ ghost use Rattle.rules.specs.Phases.{unmarked, uncharged};
 ghost use Rattle.rules.specs.Collector.{have_level, rest, handshake};
 ghost use Rattle.store.specs.View.{view};
 ghost use Rattle.store.specs.Steps.{stepped};
-ghost use Rattle.store.specs.declared.work.Work.TheVariants.{Next};
-ghost use Rattle.store.specs.declared.work.Touch.TheVariants.{Marks, Charges};
 ghost use Rattle.store.specs.Cursors.{having, moved_on};
-ghost use Rattle.store.specs.Work.{worked};
+ghost use Rattle.store.specs.Work.{moved, ended, worked};
 
-use crate::searching::Wanted;
-use crate::work::{Touch, Work};
+use crate::work::{Next, Touch, Work};
 use crate::{Control, Cursor};
+use rules::Session;
 
 impl Control {
     // Whether every attached session has the phase's level.
-    pub(crate) fn have_level(self) -> bool
-        requires { self.cursor.phase ≤ last_phase }
-        ensures { (h0 h1 l : List ℕ) → result ≡ have_level (view self h0 h1 l) }
+    pub(crate) fn have_level(&self) -> bool
+        requires { self.now.cursor.phase ≤ last_phase }
+        ensures { (h0 h1 l : List ℕ) → result ≡ have_level (view self.now h0 h1 l) }
     {
-        let phase = self.cursor.phase;
-        let level = Control::level_of(phase);
-        let sessions = self.sessions;
-        Control::lowest(sessions, 0, Wanted::NotAt(level)) == Control::SESSIONS
+        let level = Control::level_of(self.cursor.phase);
+        self.sessions
+            .iter()
+            .all(|session| !session.attached | (session.level == level))
     }
 
     // The phase after a phase, from the table of followers.
+    #[tactic(auto, unfolding(rules::specs::Cycle::next_phase))]
     pub(crate) fn next_phase(phase: usize) -> usize
         requires { phase ≤ last_phase }
         ensures { result ≡ next_phase phase }
     {
-        Control::number(Control::FOLLOWERS[phase]) as usize
+        usize::from(Control::FOLLOWERS[phase])
     }
 
-    // The sessions with no scanned mark, as moving on leaves them. Only a session that has one is written.
-    pub(crate) fn unmarked(
-        sessions: [rules::Session; Control::SESSIONS],
-    ) -> [rules::Session; Control::SESSIONS]
-        ensures { result ≡ unmarked sessions }
+    // All scanned marks cleared, as moving on does.
+    #[tactic(auto, unfolding(rules::specs::Phases::unmarked))]
+    pub(crate) fn clear_marks(sessions: &mut [Session; Control::SESSIONS])
+        ensures { sessions.new ≡ unmarked sessions.old }
     {
-        let mut next = sessions;
-        let mut i = Control::lowest(next, 0, Wanted::Scanned);
-        while i < Control::SESSIONS {
-            let mut session = next[i];
+        for session in sessions.iter_mut() {
             session.scanned = false;
-            next[i] = session;
-            i = Control::lowest(next, i, Wanted::Scanned);
         }
-        next
     }
 
-    // The sessions with no scanned mark and nothing charged to them, as the end of Reclaim leaves them.
-    pub(crate) fn uncharged(
-        sessions: [rules::Session; Control::SESSIONS],
-    ) -> [rules::Session; Control::SESSIONS]
-        ensures { result ≡ uncharged (unmarked sessions) }
+    // All charges cleared, as the end of Reclaim does.
+    #[tactic(auto, unfolding(rules::specs::Phases::uncharged))]
+    pub(crate) fn clear_charges(sessions: &mut [Session; Control::SESSIONS])
+        ensures { sessions.new ≡ uncharged sessions.old }
     {
-        let mut next = Control::unmarked(sessions);
-        let mut i: usize = 0;
-        while i < Control::SESSIONS {
-            let mut session = next[i];
+        for session in sessions.iter_mut() {
             session.charge = 0;
-            next[i] = session;
-            i += 1;
         }
-        next
     }
 }
 
@@ -76,33 +61,39 @@ impl Cursor {
         requires { self.phase ≤ last_phase }
         ensures { result ≡ moved_on self }
     {
-        let phase = self.phase;
-        self.phase = Control::next_phase(phase);
+        self.phase = Control::next_phase(self.phase);
         self.place = 0;
         self.field = 0;
         self
     }
 
     // On to the next phase, with no scanned mark.
-    pub(crate) fn move_on(self) -> Work
+    pub(crate) fn move_on(self) -> Next
         requires { self.phase ≤ last_phase }
-        ensures { result ≡ Next (moved_on self) Marks }
+        ensures { result ≡ moved (moved_on self) }
     {
-        Work::Next(self.moved_on(), Touch::Marks)
+        Next {
+            cursor: self.moved_on(),
+            touch: Touch::Marks,
+        }
     }
 
     // On to the next phase, with no scanned mark and nothing charged.
-    pub(crate) fn end(self) -> Work
+    pub(crate) fn end(self) -> Next
         requires { self.phase ≤ last_phase }
-        ensures { result ≡ Next (moved_on self) Charges }
+        ensures { result ≡ ended (moved_on self) }
     {
-        Work::Next(self.moved_on(), Touch::Charges)
+        Next {
+            cursor: self.moved_on(),
+            touch: Touch::Charges,
+        }
     }
 
     // Phase 0: the list emptied, and on to the next phase.
-    pub(crate) fn rest(mut self) -> Work
+    #[tactic(auto, unfolding(rules::specs::Collector::rest, rules::specs::Phases::move_on))]
+    pub(crate) fn rest(mut self) -> Next
         requires { self.phase ≤ last_phase }
-        ensures { (s : Store) (h0 h1 l : List ℕ) → worked (having s self h0 h1 l) result
+        ensures { (s : Store) (h0 h1 l : List ℕ) → worked (having s self h0 h1 l) (Ok result)
             ≡ stepped (having s self h0 h1 l) (rest (having s self h0 h1 l)) }
     {
         self.head = 0;
@@ -111,14 +102,12 @@ impl Cursor {
     }
 
     // Phases 1, 2, 6, 8 and 9: moves on if every attached session has the level (`ready`), else changes nothing.
-    pub(crate) fn handshake(self, ready: bool) -> Work
+    #[tactic(auto, unfolding(rules::specs::Collector::handshake, rules::specs::Phases::move_on))]
+    pub(crate) fn handshake(self, ready: bool) -> Next
         requires { self.phase ≤ last_phase }
         ensures { (s : Store) (h0 h1 l : List ℕ) → ready ≡ have_level (having s self h0 h1 l)
-            → worked (having s self h0 h1 l) result ≡ stepped (having s self h0 h1 l) (handshake (having s self h0 h1 l)) }
+            → worked (having s self h0 h1 l) (Ok result) ≡ stepped (having s self h0 h1 l) (handshake (having s self h0 h1 l)) }
     {
-        if ready {
-            return self.move_on();
-        }
-        Work::Next(self, Touch::Nothing)
+        if ready { self.move_on() } else { self.alone() }
     }
 }

@@ -1,161 +1,140 @@
 // The session tests, and the calls on a session as a whole.
-ghost use Rattle.std.specs.Prelude.{◌≡◌, [], ◌∷◌, get_or};
-ghost use Rattle.rules.specs.Refusals.{refusal_of};
-ghost use Rattle.rules.specs.Phases.{absent, cleared};
+// No `?` in a call: refused or not, its reply hands the control record back.
+ghost use Rattle.std.specs.Prelude.{◌≡◌};
+ghost use Rattle.rules.specs.Refusals.{tested, tests_of};
+ghost use Rattle.rules.specs.Phases.{cleared};
 ghost use Rattle.rules.specs.Calls.{session_of};
 ghost use Rattle.rules.specs.Runs.{apply, Attach, Detach, SafePoint};
-ghost use Rattle.store.specs.View.{view, outcome};
+ghost use Rattle.store.specs.View.{view, viewed, outcome};
 
+use crate::lent::Lent;
 use crate::{Control, Reply};
+use rules::{Refusal, Session, Value};
 
 impl Control {
-    // Of four sessions whether the one at place k, from 0, is attached: a, b or c, and d past them.
-    fn of_four(
-        a: rules::Session,
-        b: rules::Session,
-        c: rules::Session,
-        d: rules::Session,
-        k: u32,
-    ) -> bool
-        ensures { result ≡ (get_or (a ∷ b ∷ c ∷ []) k d).attached }
+    // The tests 4, 5 and 6.
+    #[tactic(auto, unfolding(rules::specs::Calls::session_of, rules::specs::Phases::session_at))]
+    pub(crate) fn attached_tests(&self, lent: Lent, s: u32) -> Result<(), Refusal>
+        ensures { tested result ≡ tests_of (session_of (viewed self.now lent.entry) s) }
     {
-        if k < 2 {
-            if k < 1 { a.attached } else { b.attached }
-        } else {
-            if k < 3 { c.attached } else { d.attached }
-        }
-    }
-
-    // Whether session s is attached; not so past the last session. Each session is read at a fixed place, since reading
-    // one at a place that isn't known beforehand would copy all sixteen.
-    fn attached_at(sessions: [rules::Session; Control::SESSIONS], s: u32) -> bool
-        ensures { result ≡ (get_or sessions s absent).attached }
-    {
-        if s < 4 {
-            return Control::of_four(sessions[0], sessions[1], sessions[2], sessions[3], s);
-        }
-        if s < 8 {
-            return Control::of_four(sessions[4], sessions[5], sessions[6], sessions[7], s - 4);
-        }
-        if s < 12 {
-            return Control::of_four(sessions[8], sessions[9], sessions[10], sessions[11], s - 8);
-        }
-        if s < 16 {
-            return Control::of_four(
-                sessions[12],
-                sessions[13],
-                sessions[14],
-                sessions[15],
-                s - 12,
-            );
-        }
-        false
-    }
-
-    // The tests 4, 5 and 6: the number of the first that fails, or 0.
-    pub fn session_tests(self, h0: &[u32], h1: &[u32], list: &[u32], s: u32) -> u32
-        ensures { result ≡ refusal_of (session_of (view self h0.now h1.now list.now) s) }
-    {
-        let valid = self.valid(h0, h1, list);
-        if !valid {
-            return 4;
+        if !self.valid(lent) {
+            return Err(Refusal::OutOfRange);
         }
         if Control::LAST_SESSION < s {
-            return 5;
+            return Err(Refusal::NoSession);
         }
-        let sessions = self.sessions;
-        let attached = Control::attached_at(sessions, s);
-        if attached { 0 } else { 6 }
+        let session = &self.sessions[s as usize];
+        if session.attached {
+            Ok(())
+        } else {
+            Err(Refusal::NotAttached)
+        }
+    }
+
+    // The same with the three apart, as every call for a crate above has them.
+    pub fn session_tests(&self, h0: &[u32], h1: &[u32], list: &[u32], s: u32) -> Result<(), Refusal>
+        ensures { tested result ≡ tests_of (session_of (view self.now h0.now h1.now list.now) s) }
+    {
+        let lent = Lent {
+            half0: h0,
+            half1: h1,
+            list,
+        };
+        self.attached_tests(lent, s)
     }
 
     // A session with its registers null, attached or not.
-    fn cleared(session: rules::Session, attached: bool) -> rules::Session
+    fn cleared(mut session: Session, attached: bool) -> Session
         ensures { result ≡ cleared session attached }
     {
-        let mut next = session;
-        next.registers = [0; Control::REGISTERS];
-        next.attached = attached;
-        next
+        session.registers = [0; Control::REGISTERS];
+        session.attached = attached;
+        session
     }
 
     // Attach: level becomes the phase's level, registers null; in phase 4 the session counts as scanned, else it does
     // not. It gets its share, and what is charged to it stays.
+    #[tactic(auto, using(crate::proofs::tests::Results::attach_tests), unfolding(rules::specs::Phases::with_session, rules::specs::Phases::session_at))]
     pub fn attach(mut self, h0: &[u32], h1: &[u32], list: &[u32], s: u32, share: u32) -> Reply
         ensures { outcome result h0.now h1.now list.now
             ≡ apply (view self h0.now h1.now list.now) (Attach s share) }
     {
-        // 6, not attached, is what attach asks for
-        let refusal = self.session_tests(h0, h1, list, s);
-        if refusal == 0 {
-            return Reply {
-                control: self,
-                answer: rules::Answer::Refused(7),
-            };
-        }
-        if refusal != 6 {
-            return Reply {
-                control: self,
-                answer: rules::Answer::Refused(refusal),
-            };
-        }
-        let i = s as usize;
-        let phase = self.cursor.phase;
-        let level = Control::level_of(phase);
-        let before = self.sessions[i];
-        let mut session = Control::cleared(before, true);
-        session.level = level;
-        session.share = share;
-        session.scanned = phase == Control::HEAP_MARK;
-        self.sessions[i] = session;
+        let lent = Lent {
+            half0: h0,
+            half1: h1,
+            list,
+        };
+        let answer = match self.attached_tests(lent, s) {
+            // what attach asks for
+            Err(Refusal::NotAttached) => {
+                let i = s as usize;
+                let phase = self.cursor.phase;
+                let mut session = Control::cleared(self.sessions[i], true);
+                session.level = Control::level_of(phase);
+                session.share = share;
+                session.scanned = phase == Control::HEAP_MARK;
+                self.sessions[i] = session;
+                Ok(Value::Done)
+            }
+            Ok(()) => Err(Refusal::AlreadyAttached),
+            Err(refusal) => Err(refusal),
+        };
         Reply {
             control: self,
-            answer: rules::Answer::Done,
+            answer,
         }
     }
 
     // Detach: registers null, level 0; the scanned mark, the share and the charge stay.
+    #[tactic(auto, using(crate::proofs::tests::Results::session_tests), unfolding(rules::specs::Calls::detach, rules::specs::Phases::with_session, rules::specs::Phases::session_at))]
     pub fn detach(mut self, h0: &[u32], h1: &[u32], list: &[u32], s: u32) -> Reply
         ensures { outcome result h0.now h1.now list.now
             ≡ apply (view self h0.now h1.now list.now) (Detach s) }
     {
-        let refusal = self.session_tests(h0, h1, list, s);
-        if refusal != 0 {
-            return Reply {
-                control: self,
-                answer: rules::Answer::Refused(refusal),
-            };
-        }
-        let i = s as usize;
-        let session = self.sessions[i];
-        let mut left = Control::cleared(session, false);
-        left.level = 0;
-        self.sessions[i] = left;
+        let lent = Lent {
+            half0: h0,
+            half1: h1,
+            list,
+        };
+        let answer = match self.attached_tests(lent, s) {
+            Ok(()) => {
+                let i = s as usize;
+                let mut left = Control::cleared(self.sessions[i], false);
+                left.level = 0;
+                self.sessions[i] = left;
+                Ok(Value::Done)
+            }
+            Err(refusal) => Err(refusal),
+        };
         Reply {
             control: self,
-            answer: rules::Answer::Done,
+            answer,
         }
     }
 
     // Safe point: the session takes the phase's level.
+    #[tactic(auto, using(crate::proofs::tests::Results::session_tests), unfolding(rules::specs::Calls::safe_point, rules::specs::Phases::with_session, rules::specs::Phases::session_at))]
     pub fn safe_point(mut self, h0: &[u32], h1: &[u32], list: &[u32], s: u32) -> Reply
         ensures { outcome result h0.now h1.now list.now
             ≡ apply (view self h0.now h1.now list.now) (SafePoint s) }
     {
-        let refusal = self.session_tests(h0, h1, list, s);
-        if refusal != 0 {
-            return Reply {
-                control: self,
-                answer: rules::Answer::Refused(refusal),
-            };
-        }
-        let i = s as usize;
-        let phase = self.cursor.phase;
-        let mut session = self.sessions[i];
-        session.level = Control::level_of(phase);
-        self.sessions[i] = session;
+        let lent = Lent {
+            half0: h0,
+            half1: h1,
+            list,
+        };
+        let answer = match self.attached_tests(lent, s) {
+            Ok(()) => {
+                let level = Control::level_of(self.cursor.phase);
+                let session = &mut self.sessions[s as usize];
+                session.level = level;
+                Ok(Value::Done)
+            }
+            Err(refusal) => Err(refusal),
+        };
         Reply {
             control: self,
-            answer: rules::Answer::Done,
+            answer,
         }
     }
 }

@@ -1,4 +1,5 @@
 // Shading: the record coloured grey, and put on the list.
+// The halves and the list are lent one by one: what is written stands in the parameters.
 ghost use Rattle.std.specs.Prelude.{◌≡◌, ℕ, ◌+◌, ◌<◌, length, set};
 ghost use Rattle.rules.specs.Memory.{colour_at, grey, put};
 ghost use Rattle.rules.specs.Control.{Store};
@@ -7,7 +8,7 @@ ghost use Rattle.heap.specs.View.{memory, Inside};
 ghost use Rattle.store.specs.Marking.{ending};
 
 use heap::words::put_word;
-use heap::{COLOUR_AT, GREY};
+use heap::{COLOUR_AT, Colour};
 
 // What shading writes: the record v coloured grey, and put on the list at its end.
 pub(crate) fn put_grey(h0: &mut [u32], h1: &mut [u32], list: &mut [u32], end: usize, v: u32)
@@ -16,11 +17,12 @@ pub(crate) fn put_grey(h0: &mut [u32], h1: &mut [u32], list: &mut [u32], end: us
         ≡ put (memory h0.old h1.old f0 f1) v colour_at grey)
         × (list.new ≡ set list.old end v) }
 {
-    put_word(h0, h1, v, COLOUR_AT, GREY);
+    put_word(h0, h1, v, COLOUR_AT, Colour::Grey as u32);
     list[end] = v;
 }
 
 // The record v shaded, or nothing where v is null: the list's end after it.
+#[tactic(auto, unfolding(rules::specs::Barriers::shade))]
 pub(crate) fn shade_one(
     h0: &mut [u32],
     h1: &mut [u32],

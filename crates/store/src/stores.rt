@@ -1,75 +1,49 @@
 // The calls that write a reference: store, to a field of a record, and put, to a global. Each makes all its tests in a
 // plan that only reads, and then writes what the plan says.
-ghost use Rattle.std.specs.Prelude.{◌≡◌, take};
+ghost use Rattle.std.specs.Prelude.{◌≡◌};
+ghost use Rattle.rules.specs.Refusals.{tested};
 ghost use Rattle.rules.specs.Calls.{store_plan, put_plan};
 ghost use Rattle.rules.specs.Runs.{apply, StoreRef, Put};
-ghost use Rattle.store.specs.View.{view, view_with, outcome};
-ghost use Rattle.store.specs.Plans.{storing, putting};
+ghost use Rattle.store.specs.View.{view, viewed, viewed_with, outcome};
 
-use crate::operands::Held;
+use crate::lent::Lent;
 use crate::shade::shade_both;
 use crate::{Control, Reply};
-use heap::following::follow_pending;
-use heap::stores::{put_writes, store_writes};
 use heap::words::put_both;
-use heap::{HEADER, Planned};
-use rules::Followed;
-
-// The number of the first test that fails, or the record that is written (null for a global) and what is written.
-#[derive(Clone, Copy)]
-pub enum Storing {
-    Refusal(u32),
-    Into(u32, rules::Writes),
-}
+use heap::{HEADER, Pending};
+use rules::{Followed, Refusal, StorePlan, Value, Writes};
 
 impl Control {
     // The tests of a store, and what it writes, with the pending words written before. It is the plan of a single store, where none is pending,
     // and of each of several links.
-    pub(crate) fn store_plan<'a>(
-        self,
-        pending: &[u32],
-        filled: usize,
-        h0: &'a [u32],
-        h1: &'a [u32],
-        list: &[u32],
+    #[tactic(auto, using(crate::proofs::tests::Opening::held_bounds, crate::proofs::calls::Pending::operands_laid), unfolding(rules::specs::Calls::store_plan, rules::specs::Calls::record_of, rules::specs::Memory::follow, rules::specs::Memory::followed))]
+    pub(crate) fn store_plan(
+        &self,
+        pending: &[Pending],
+        lent: Lent,
         s: u32,
         register: u32,
         field: u32,
         from: u32,
-    ) -> Storing
-        ensures { storing result ≡ store_plan (view_with self (take filled pending.now) h0.now h1.now list.now) s register field from }
+    ) -> Result<StorePlan, Refusal>
+        ensures { tested result ≡ store_plan (viewed_with self.now pending.now lent.entry) s register field from }
     {
-        let operands = match self.held(h0, h1, list, s, register, from) {
-            Held::Refusal(n) => return Storing::Refusal(n),
-            Held::Operands(operands) => operands,
-        };
-        let v = operands.own;
-        let f0 = self.cursor.frontier0;
-        let f1 = self.cursor.frontier1;
-        let Followed::Sound(_, r, _) = follow_pending(pending, filled, h0, h1, f0, f1, v) else {
-            return Storing::Refusal(12);
+        let operands = self.held(lent, s, register, from)?;
+        let into = operands.own;
+        let heap = self.heap(pending, lent);
+        let halves = &heap.halves;
+        let Followed::Sound(_, r, _) = halves.follow(into) else {
+            return Err(Refusal::Damaged);
         };
         if r <= field {
-            return Storing::Refusal(13);
+            return Err(Refusal::NoField);
         }
-        let b = self.bounds();
-        let Planned::Plan(w) = store_writes(
-            pending,
-            filled,
-            b,
-            h0,
-            h1,
-            operands.level,
-            v,
-            field,
-            operands.other,
-        ) else {
-            return Storing::Refusal(12);
-        };
-        Storing::Into(v, w)
+        let writes = heap.store_writes(operands.level, into, field, operands.other)?;
+        Ok(StorePlan { into, writes })
     }
 
     // Store: a reference field of the record in a register gets what register `from` holds.
+    #[tactic(auto, unfolding(rules::specs::Calls::store))]
     pub fn store(
         mut self,
         h0: &mut [u32],
@@ -83,18 +57,21 @@ impl Control {
         ensures { outcome result h0.new h1.new list.new
             ≡ apply (view self h0.old h1.old list.old) (StoreRef s register field from) }
     {
-        let none = [0u32; 0];
-        let plan = self.store_plan(&none, 0, h0, h1, list, s, register, field, from);
-        let answer = match plan {
-            Storing::Refusal(n) => rules::Answer::Refused(n),
-            Storing::Into(v, w) => {
+        let lent = Lent {
+            half0: h0,
+            half1: h1,
+            list,
+        };
+        // no `?`: refused or not, the reply hands the control record back
+        let answer = match self.store_plan(&[], lent, s, register, field, from) {
+            Ok(plan) => {
+                let w = plan.writes;
                 let j = HEADER + (field as usize);
-                let end = self.cursor.tail;
-                let tail = shade_both(h0, h1, list, end, w.first, w.second);
-                self.cursor.tail = tail;
-                put_both(h0, h1, v, j, w.own, w.replica, j, w.copy);
-                rules::Answer::Done
+                self.cursor.tail = shade_both(h0, h1, list, self.cursor.tail, w.first, w.second);
+                put_both(h0, h1, plan.into, j, w.own, w.replica, j, w.copy);
+                Ok(Value::Done)
             }
+            Err(refusal) => Err(refusal),
         };
         Reply {
             control: self,
@@ -103,43 +80,27 @@ impl Control {
     }
 
     // The tests of a put, and what it writes.
-    fn put_plan<'a>(
-        self,
-        h0: &'a [u32],
-        h1: &'a [u32],
-        list: &[u32],
-        s: u32,
-        global: u32,
-        from: u32,
-    ) -> Storing
-        ensures { putting result ≡ put_plan (view self h0.now h1.now list.now) s global from }
+    #[tactic(auto, using(crate::proofs::tests::Results::session_tests, crate::proofs::tests::Opening::session_bounds), unfolding(rules::specs::Calls::put_plan, rules::specs::Phases::register, rules::specs::Phases::session_at))]
+    fn put_plan(&self, lent: Lent, s: u32, global: u32, from: u32) -> Result<Writes, Refusal>
+        ensures { tested result ≡ put_plan (viewed self.now lent.entry) s global from }
     {
-        let refusal = self.session_tests(h0, h1, list, s);
-        if refusal != 0 {
-            return Storing::Refusal(refusal);
-        }
+        self.attached_tests(lent, s)?;
         if Control::LAST_REGISTER < from {
-            return Storing::Refusal(8);
+            return Err(Refusal::NoRegister);
         }
         if Control::LAST_GLOBAL < global {
-            return Storing::Refusal(9);
+            return Err(Refusal::NoGlobal);
         }
-        let i = s as usize;
-        let j = from as usize;
-        let g = global as usize;
-        let sessions = self.sessions;
-        let session = sessions[i];
-        let q = session.registers[j];
-        let globals = self.globals;
-        let old = globals[g];
-        let b = self.bounds();
-        let Planned::Plan(w) = put_writes(b, h0, h1, session.level, old, q) else {
-            return Storing::Refusal(12);
-        };
-        Storing::Into(0, w)
+        let session = &self.sessions[s as usize];
+        let q = session.registers[from as usize];
+        let old = self.globals[global as usize];
+        let heap = self.heap(&[], lent);
+        let writes = heap.put_writes(session.level, old, q)?;
+        Ok(writes)
     }
 
     // Put: a global gets what register `from` holds.
+    #[tactic(auto, using(crate::proofs::calls::Store::put_number), unfolding(rules::specs::Calls::put))]
     pub fn put(
         mut self,
         h0: &mut [u32],
@@ -152,17 +113,19 @@ impl Control {
         ensures { outcome result h0.new h1.new list.new
             ≡ apply (view self h0.old h1.old list.old) (Put s global from) }
     {
-        let plan = self.put_plan(h0, h1, list, s, global, from);
-        let answer = match plan {
-            Storing::Refusal(n) => rules::Answer::Refused(n),
-            Storing::Into(_, w) => {
-                let g = global as usize;
-                let end = self.cursor.tail;
-                let tail = shade_both(h0, h1, list, end, w.first, w.second);
-                self.cursor.tail = tail;
-                self.globals[g] = w.own;
-                rules::Answer::Done
+        let lent = Lent {
+            half0: h0,
+            half1: h1,
+            list,
+        };
+        // no `?`: refused or not, the reply hands the control record back
+        let answer = match self.put_plan(lent, s, global, from) {
+            Ok(w) => {
+                self.cursor.tail = shade_both(h0, h1, list, self.cursor.tail, w.first, w.second);
+                self.globals[global as usize] = w.own;
+                Ok(Value::Done)
             }
+            Err(refusal) => Err(refusal),
         };
         Reply {
             control: self,

@@ -1,17 +1,16 @@
 // The walk over the records of the current half.
 ghost use Rattle.std.specs.Prelude.{◌≡◌, ℕ, ◌+◌, ◌≤◌, List};
-ghost use Rattle.rules.specs.Memory.{header, reference, frontier};
+ghost use Rattle.rules.specs.Memory.{header, reference};
 ghost use Rattle.rules.specs.Control.{Store, most_fields, most_length};
 ghost use Rattle.rules.specs.Collector.{walked, below};
-ghost use Rattle.heap.specs.View.{memory};
-ghost use Rattle.store.specs.declared.work.Work.TheVariants.{Next};
-ghost use Rattle.store.specs.declared.work.Touch.TheVariants.{Nothing};
+ghost use Rattle.store.specs.Work.{untouched};
 ghost use Rattle.store.specs.Cursors.{having, at_walk};
 
 use crate::Cursor;
-use crate::work::{Touch, Work};
+use crate::work::{Next, Touch};
 
 // The reference of word k of half h.
+#[tactic(auto, unfolding(rules::specs::Memory::reference))]
 pub(crate) fn reference(h: u32, k: usize) -> u32
     requires { (h ≤ 1) × (k ≤ most_length) }
     ensures { result ≡ reference h k }
@@ -19,23 +18,17 @@ pub(crate) fn reference(h: u32, k: usize) -> u32
     2 * (k as u32) + 2 + h
 }
 
-// The frontier of half h.
-pub(crate) fn frontier(f0: usize, f1: usize, h: u32) -> usize
-    ensures { (h0 h1 : List ℕ) → result ≡ frontier (memory h0 h1 f0 f1) h }
-{
-    if h == 0 { f0 } else { f1 }
-}
-
 impl Cursor {
     // Whether the walk has not come to the frontier.
+    #[tactic(auto, unfolding(rules::specs::Collector::below))]
     pub(crate) fn below(self) -> bool
         ensures { (s : Store) (h0 h1 l : List ℕ) → result ≡ below (having s self h0 h1 l) }
     {
-        let end = frontier(self.frontier0, self.frontier1, self.current);
-        self.place < end
+        self.place < self.frontier(self.current)
     }
 
     // The record at the walk place.
+    #[tactic(auto, unfolding(rules::specs::Collector::walked))]
     pub(crate) fn walked(self) -> u32
         requires { (self.current ≤ 1) × (self.place ≤ most_length) }
         ensures { (s : Store) (h0 h1 l : List ℕ) → result ≡ walked (having s self h0 h1 l) }
@@ -43,22 +36,32 @@ impl Cursor {
         reference(self.current, self.place)
     }
 
+    // Nothing beside the numbers is touched.
+    pub(crate) fn alone(self) -> Next
+        ensures { result ≡ untouched self }
+    {
+        Next {
+            cursor: self,
+            touch: Touch::Nothing,
+        }
+    }
+
     // The walk goes on past a record of n words.
-    pub(crate) fn past_record(mut self, n: usize) -> Work
+    pub(crate) fn past_record(mut self, n: usize) -> Next
         requires { (self.place ≤ most_length) × (n ≤ header + most_fields) }
-        ensures { result ≡ Next (at_walk self (self.place + n) 0) Nothing }
+        ensures { result ≡ untouched (at_walk self (self.place + n) 0) }
     {
         self.place += n;
         self.field = 0;
-        Work::Next(self, Touch::Nothing)
+        self.alone()
     }
 
     // The walk goes on to the next field of its record.
-    pub(crate) fn past_field(mut self) -> Work
+    pub(crate) fn past_field(mut self) -> Next
         requires { self.field ≤ most_fields }
-        ensures { result ≡ Next (at_walk self self.place (self.field + 1)) Nothing }
+        ensures { result ≡ untouched (at_walk self self.place (self.field + 1)) }
     {
         self.field += 1;
-        Work::Next(self, Touch::Nothing)
+        self.alone()
     }
 }

@@ -3,70 +3,36 @@
 
 #![tactic(auto)]
 
+ghost use Rattle.std.specs.Io.KnownBytes.{Appends};
+ghost use Rattle.std.specs.Bool.{OnTrue};
 ghost use Rattle.streams.specs.Counts.{IsPrefixLen};
 
-use std::io::{ErrorKind, Read, Result, Write};
+use std::io::{ErrorKind, Read, Write};
 
-// Whether a read or a write that answered this was interrupted.
-fn is_interrupted(got: &Result<usize>) -> bool {
-    match got {
-        Ok(_) => false,
-        Err(e) => e.kind() == ErrorKind::Interrupted,
-    }
-}
-
-// One read, made again where it was interrupted; 0 where the input has ended or the read failed. Every loop has to end, so
-// interruptions are counted: 2⁶⁴ in a row, more than a machine comes to, are a read that failed.
-fn read_some<R: Read>(input: &mut R, buf: &mut [u8]) -> usize
-    ensures { IsPrefixLen result buf.new }
-{
-    let mut got = input.read(buf);
-    let mut left = u64::MAX;
-    while left > 0 && is_interrupted(&got) {
-        got = input.read(buf);
-        left -= 1;
-    }
-    got.unwrap_or(0)
-}
-
-// One write, likewise.
-fn write_some<W: Write>(output: &mut W, buf: &[u8]) -> usize
-    ensures { IsPrefixLen result buf.now }
-{
-    let mut got = output.write(buf);
-    let mut left = u64::MAX;
-    while left > 0 && is_interrupted(&got) {
-        got = output.write(buf);
-        left -= 1;
-    }
-    got.unwrap_or(0)
-}
-
-// Reads until buf is full, the input ends or a read fails, and answers how many bytes it put at the start of buf.
+// Reads until buf is full, the input ends or a read fails, and answers how many bytes it put at the start of buf. Every loop
+// has to end, so the reads are counted: there are no more than 2⁶⁴ − 1 of them, which no machine comes to.
 pub fn read_full<R: Read>(input: &mut R, buf: &mut [u8]) -> usize
     ensures { IsPrefixLen result buf.new }
 {
-    let mut done: usize = 0;
-    while done < buf.len() {
-        let more = read_some(input, &mut buf[done..]);
-        if more == 0 {
-            return done;
+    let mut done = 0;
+    for _ in 0..u64::MAX {
+        if done == buf.len() {
+            break;
         }
-        done += more;
+        match input.read(&mut buf[done..]) {
+            Ok(0) => break,
+            Ok(more) => done += more,
+            Err(e) if e.kind() == ErrorKind::Interrupted => {}
+            Err(_) => break,
+        }
     }
     done
 }
 
-// Writes all of buf and answers true, or stops at the first write that takes nothing or fails and answers false, when some
+// Writes all of buf and answers true, and no error, since no caller asks for it, or stops at the first write that takes nothing or fails and answers false, when some
 // of buf may have been written.
-pub fn write_all<W: Write>(output: &mut W, buf: &[u8]) -> bool {
-    let mut done: usize = 0;
-    while done < buf.len() {
-        let put = write_some(output, &buf[done..]);
-        if put == 0 {
-            return false;
-        }
-        done += put;
-    }
-    true
+pub fn write_all<W: Write>(output: &mut W, buf: &[u8]) -> bool
+    ensures { OnTrue result (Appends (W.contents output.old) (W.contents output.new) buf.now) }
+{
+    output.write_all(buf).is_ok()
 }

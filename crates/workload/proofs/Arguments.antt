@@ -1,56 +1,50 @@
--- The bytes of arguments drawn one after another.
-use Prim.Native.Nat.{ℕ, ◌+◌, ◌≤◌}
-use mathlib.Core.Path.{◌≡◌, refl}
-use mathlib.Core.List.{List, [], ◌∷◌, ◌++◌, append_assoc, append-nil}
+-- The bytes of arguments drawn one after another, put into a buffer.
+use Prim.Native.Nat.{ℕ, ◌+◌, ◌≤◌, ◌<◌}
+use mathlib.Core.Path.{◌≡◌, ◌∙◌}
+use mathlib.Core.List.{List, ◌∷◌}
 use native.Mathlib.Omega.{arith}
-use native.Mathlib.Nat.{add_assoc}
-use lib.ListN.{length, length-append}
+use native.Mathlib.Nat.{add-zero, add_assoc}
+use lib.ListN.{length, get_or, drop, length-append}
 use lib.Seq.{sets, length-sets}
+use Rattle.std.proofs.lemmas.List.{drop_more, drop_all}
 use Rattle.rules.proofs.memory.Sets.{sets-append}
-use Rattle.workload.specs.Load.{xorshift32, after, argument, bytes_of}
-use Rattle.workload.specs.Entries.{Placed, arguments_from, Room, arguments_into}
+use Rattle.workload.specs.Load.{xorshift32, argument, bytes_of}
+use Rattle.workload.specs.Entries.{Room, arguments_into}
 use Rattle.workload.specs.declared.entries.Class.{Class}
-use Rattle.workload.specs.declared.entries.Class.TheVariants.{Session, Register, Global, Small, Value}
 
--- an argument has a byte at least
-pub some_byte : (c : Class) (n : ℕ) → 1 ≤ length (bytes_of c n)
-some_byte Session n = omega arith
-some_byte Register n = omega arith
-some_byte Global n = omega arith
-some_byte Small n = omega arith
-some_byte Value n = omega arith
+-- the first argument, and those behind it
+module _ (c : Class) (cs : List Class) (x at : ℕ) (out : List ℕ) where
+  abbrev bytes : List ℕ
+  bytes = bytes_of c (argument c x)
 
--- those of some classes, and behind them those of others
-values-append : (cs ds : List Class) (x : ℕ) → after (length (cs ++ ds)) x ≡ after (length ds) (after (length cs) x)
-values-append [] ds x = refl
-values-append (c ∷ cs) ds x = values-append cs ds (xorshift32 x)
+  others-room : Room (c ∷ cs) x at out → Room cs (xorshift32 x) (at + length bytes) (sets out at bytes)
+  others-room room = rw length-sets (omega (arith, rw length-append at room))
 
-pub arguments-append : (cs ds : List Class) (x : ℕ) → arguments_from (cs ++ ds) x ≡ arguments_from cs x ++ arguments_from ds (after (length cs) x)
-arguments-append [] ds x = refl
-arguments-append (c ∷ cs) ds x = rw (arguments-append cs ds (xorshift32 x), append_assoc)
-
--- ---- put into a buffer one after another
-
--- one argument
-pub one_room : (c : Class) (x at : ℕ) (out : List ℕ) → Room (c ∷ []) x at out → at + length (bytes_of c (argument c x)) ≤ length out
-one_room c x at out r = rw append-nil at r
-
-pub placed_one : (c : Class) (x at : ℕ) (out : List ℕ) {next end : ℕ} {done : List ℕ} → next ≡ xorshift32 x
-    → (end ≡ at + length (bytes_of c (argument c x))) × (done ≡ sets out at (bytes_of c (argument c x)))
-    → record { next = next; out = done; end = end } ≡ arguments_into (c ∷ []) x at out
-unfolding arguments_into
-placed_one c x at out n e = rw (n, e.0, e.1, append-nil)
-
--- where some and others have room, the first have
-pub first-room : (cs ds : List Class) (x at : ℕ) (out : List ℕ) → Room (cs ++ ds) x at out → Room cs x at out
-first-room cs ds x at out r = omega (arith, rw (arguments-append cs ds x, length-append) at r)
-
-module _ (cs ds : List Class) (x at : ℕ) (out : List ℕ) {p : Placed} (e : p ≡ arguments_into cs x at out) where
-  -- and the others behind them
-  pub more_room : Room (cs ++ ds) x at out → Room ds p.next p.end p.out
+  others-into : arguments_into cs (xorshift32 x) (at + length bytes) (sets out at bytes) ≡ arguments_into (c ∷ cs) x at out
   unfolding arguments_into
-  more_room r = rw (e, length-sets) (omega (arith, rw (arguments-append cs ds x, length-append) at r))
+  others-into = rw (sets-append, length-append, add_assoc)
 
-  pub placed-more : arguments_into ds p.next p.end p.out ≡ arguments_into (cs ++ ds) x at out
+-- of the arguments of some classes, those of the first i are in the buffer: the others have room behind them, and make up what goes in in all
+pub record Drawing (cs : List Class) (x₀ at₀ : ℕ) (out₀ : List ℕ) (i x at : ℕ) (out : List ℕ) : Type 0 where
+  pub room : Room (drop i cs) x at out
+  pub same : arguments_into (drop i cs) x at out ≡ arguments_into cs x₀ at₀ out₀
+
+module _ {cs : List Class} {x₀ at₀ : ℕ} {out₀ : List ℕ} {i x at : ℕ} {out : List ℕ} (d : Drawing cs x₀ at₀ out₀ i x at out) where
+  -- the next one is put there
+  pub one_drawn : (c : Class) → i < length cs → {next end : ℕ} {done : List ℕ} → next ≡ xorshift32 x
+      → end ≡ at + length (bytes_of (get_or cs i c) (argument (get_or cs i c) x))
+      → done ≡ sets out at (bytes_of (get_or cs i c) (argument (get_or cs i c) x))
+      → Drawing cs x₀ at₀ out₀ (i + 1) next end done
+  one_drawn c inside n e b =
+      let first = get_or cs i c in
+      let others = drop (i + 1) cs in
+      let cut : drop i cs ≡ first ∷ others = drop_more cs i c inside in
+      rw (n, e, b) (record {
+        room = others-room first others x at out (rw cut at d.room);
+        same = others-into first others x at out ∙ rw cut at d.same;
+      })
+
+  -- none is left
+  pub all_drawn : length cs ≤ i → record { next = x; out = out; end = at } ≡ arguments_into cs x₀ at₀ out₀
   unfolding arguments_into
-  placed-more = rw (e, values-append cs ds x, arguments-append cs ds x, length-append, sets-append, add_assoc)
+  all_drawn past = rw (drop_all i cs past, add-zero) at d.same

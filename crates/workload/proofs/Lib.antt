@@ -4,6 +4,8 @@
 pub mod Examples
 -- what each kind of entry is shown to have, and how long an entry is
 pub mod Sizes
+-- inputs that ask for no load
+pub mod Asking
 -- the arguments of an entry, one after another
 pub mod Arguments
 -- an entry put into a buffer

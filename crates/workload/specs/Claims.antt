@@ -4,7 +4,7 @@ use Rattle.rules.specs.Refusals.{answer}
 use Rattle.rules.specs.Control.{Store}
 use Rattle.rules.specs.Runs.{Call, apply}
 use Rattle.rules.specs.Script.{by_entry, entry_at, Line, lines_of}
-use Rattle.rules.specs.declared.Answer.TheVariants.{Refused}
+use Rattle.rules.specs.Answers.{Refused}
 use Rattle.workload.specs.Load.{xorshift32, argument, calls_from, load_of, count_in, generate}
 use Rattle.workload.specs.Pieces.{coming, any_left, started, longest_entry, filled}
 use Rattle.workload.specs.declared.entries.Class.TheVariants.{Value}

@@ -3,6 +3,7 @@ ghost use Rattle.std.specs.Prelude.{◌≡◌};
 ghost use Rattle.workload.specs.Load.{xorshift32};
 
 // The value after this one.
+#[tactic(auto, unfolding(crate::specs::Load::xorshift32))]
 pub(crate) fn xorshift32(x: u32) -> u32
     ensures { result ≡ xorshift32 x }
 {

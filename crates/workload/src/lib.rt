@@ -6,4 +6,4 @@ mod generator; // generator.rt: the values
 mod entries; // entries.rt: the entries drawn from them
 mod pieces; // pieces.rt: the load, piece by piece
 
-pub use pieces::{LONGEST_ENTRY, Piece, Rest, any_left, fill, start};
+pub use pieces::{LONGEST_ENTRY, Piece, Rest, any_left, asked, fill, start};

@@ -1,10 +1,10 @@
 // The load, piece by piece.
-ghost use Rattle.std.specs.Prelude.{◌≡◌, ◌+◌, ◌≤◌, ◌<◌, length, get_or};
+ghost use Rattle.std.specs.Prelude.{◌≡◌, ◌≤◌, length, false, if◌then◌else◌};
 ghost use Rattle.std.proofs.lemmas.List.Edits.{sets};
-ghost use Rattle.rules.specs.Script.{number_at};
+ghost use Rattle.workload.specs.Load.{accepted};
 ghost use Rattle.workload.specs.Pieces.{opening, started, any_left, longest_entry, fill_of, filled};
 
-use crate::entries::write_entry;
+use crate::entries::{After, write_bytes, write_entry};
 use crate::generator::xorshift32;
 
 // The first byte of a script.
@@ -17,7 +17,7 @@ const MOST_ENTRIES: u32 = 100000;
 pub const LONGEST_ENTRY: usize = 9;
 
 // What is still to come of a load: the version byte or not, and how many entries, the first of them drawn from a value
-// on.
+// on. The version byte has a flag of its own, since the claim `NothingLost` is of every such record.
 #[derive(Clone, Copy)]
 pub struct Rest {
     pub version: bool,
@@ -32,59 +32,61 @@ pub struct Piece {
     pub end: usize,
 }
 
-// The byte at a place of the input.
-fn byte_at(input: &[u8], at: usize) -> u32
-    requires { at < length input.now }
-    ensures byte { result ≡ get_or input.now at 0 }
-    ensures small { result ≤ 255 }
+// The piece that ends where entries end, with so many of them still to come.
+fn piece_to(after: After, left: u32) -> Piece
+    ensures { result ≡ record { rest = record { version = false; value = after.next; left = left }; end = after.end } }
 {
-    input[at] as u32
+    Piece {
+        rest: Rest {
+            version: false,
+            value: after.next,
+            left,
+        },
+        end: after.end,
+    }
 }
 
-// The number in four bytes from a place on, big-endian.
-fn number_at(input: &[u8], at: usize) -> u32
-    requires { at + 4 ≤ length input.now }
-    ensures { result ≡ number_at input.now at }
+// The load that an input asks for, by its seed and count, four big-endian bytes each, if it asks for one.
+#[tactic(auto, using(crate::proofs::Asking::other_length))]
+pub fn asked(input: &[u8]) -> Option<Rest>
+    ensures { result ≡ (if accepted input.now then Some (started input.now) else None) }
 {
-    let a = byte_at(input, at);
-    let b = byte_at(input, at + 1);
-    let c = byte_at(input, at + 2);
-    let d = byte_at(input, at + 3);
-    ((a * 256 + b) * 256 + c) * 256 + d
-}
-
-// What an input asks for: the load of its seed and count, or nothing.
-pub fn start(input: &[u8]) -> Rest
-    ensures { result ≡ started input.now }
-{
-    let none = Rest {
-        version: false,
-        value: 0,
-        left: 0,
+    let &[a, b, c, d, e, f, g, h] = input else {
+        return None;
     };
-    if input.len() != 8 {
-        return none;
+    let seed = u32::from_be_bytes([a, b, c, d]);
+    let count = u32::from_be_bytes([e, f, g, h]);
+    if seed == 0 || MOST_ENTRIES < count {
+        return None;
     }
-    let seed = number_at(input, 0);
-    let count = number_at(input, 4);
-    if seed == 0 {
-        return none;
-    }
-    if MOST_ENTRIES < count {
-        return none;
-    }
-    Rest {
+    Some(Rest {
         version: true,
         value: xorshift32(seed),
         left: count,
+    })
+}
+
+// What an input asks for: the load of its seed and count, or nothing.
+#[tactic(auto, unfolding(crate::specs::Pieces::started))]
+pub fn start(input: &[u8]) -> Rest
+    ensures { result ≡ started input.now }
+{
+    match asked(input) {
+        Some(load) => load,
+        None => Rest {
+            version: false,
+            value: 0,
+            left: 0,
+        },
     }
 }
 
 // Whether anything is still to come.
+#[tactic(auto, unfolding(crate::specs::Pieces::any_left))]
 pub fn any_left(rest: Rest) -> bool
     ensures { result ≡ any_left rest }
 {
-    rest.version | (0 < rest.left)
+    rest.version || 0 < rest.left
 }
 
 // Puts the version byte at the start of the output, where it is still to come, and answers the place after it.
@@ -94,10 +96,10 @@ fn write_version(out: &mut [u8], version: bool) -> usize
     ensures bytes { out.new ≡ sets out.old 0 (opening version) }
 {
     if version {
-        out[0] = VERSION;
-        return 1;
+        write_bytes(out, 0, &[VERSION])
+    } else {
+        0
     }
-    0
 }
 
 // Puts as much of what is still to come into a buffer as goes in: entry by entry, each whole, as long as the longest has
@@ -106,25 +108,18 @@ pub fn fill(rest: Rest, out: &mut [u8]) -> Piece
     ensures filled { fill_of result out.new ≡ filled rest out.old }
     ensures within { result.end ≤ length out.new }
 {
-    if out.len() < LONGEST_ENTRY {
+    let Some(last) = out.len().checked_sub(LONGEST_ENTRY) else {
         return Piece { rest, end: 0 };
+    };
+    let mut after = After {
+        next: rest.value,
+        end: write_version(out, rest.version),
+    };
+    for written in 0..rest.left {
+        if last < after.end {
+            return piece_to(after, rest.left - written);
+        }
+        after = write_entry(out, after.end, after.next);
     }
-    let last = out.len() - LONGEST_ENTRY;
-    let mut end = write_version(out, rest.version);
-    let mut value = rest.value;
-    let mut left = rest.left;
-    while (0 < left) & (end <= last) {
-        let entry = write_entry(out, end, value);
-        value = entry.next;
-        end = entry.end;
-        left -= 1;
-    }
-    Piece {
-        rest: Rest {
-            version: false,
-            value,
-            left,
-        },
-        end,
-    }
+    piece_to(after, 0)
 }

@@ -9,19 +9,17 @@ ghost use Rattle.workload.specs.Pieces.{longest_entry};
 use std::io::Write;
 
 // Writes what is still to come of a load, piece by piece, and answers whether all of it was written; after a write that
-// failed there is no other.
+// failed there is no other. How many pieces there are shows only as they are filled, so the loop is a `while`.
 fn write_load<W: Write>(stdout: &mut W, load: workload::Rest, out: &mut [u8]) -> bool
     requires { longest_entry ≤ length out.old }
 {
     let mut rest = load;
     while workload::any_left(rest) {
         let piece = workload::fill(rest, out);
-        let end = piece.end;
-        if !streams::write_all(stdout, &out[..end]) {
+        if !streams::write_all(stdout, &out[..piece.end]) {
             return false;
         }
-        let next = piece.rest;
-        rest = next;
+        rest = piece.rest;
     }
     true
 }
@@ -34,6 +32,7 @@ fn main(rt: HostRuntime) {
     let mut input = [0u8; 9];
     let mut out = [0u8; 4096];
     let got = streams::read_full(&mut stdin, &mut input);
-    let load = workload::start(&input[..got]);
-    write_load(&mut stdout, load, &mut out);
+    if let Some(load) = workload::asked(&input[..got]) {
+        write_load(&mut stdout, load, &mut out);
+    }
 }

@@ -16,7 +16,7 @@ use Rattle.rules.specs.Calls.{session_of, operands_of, record_of, with_register,
 use Rattle.rules.specs.Runs.{apply, Load}
 use Rattle.rules.specs.declared.Session.{Session}
 use Rattle.rules.specs.declared.Operands.{Operands}
-use Rattle.rules.specs.declared.Answer.TheVariants.{Refused, Done}
+use Rattle.rules.specs.Answers.{Refused, Done}
 use Rattle.rules.proofs.memory.Cases.{lt_or}
 use Rattle.directory_rules.specs.Acts.{own_session}
 use Rattle.directory_rules.specs.Directory.{group_register, first_field}

@@ -1,27 +1,28 @@
 -- What stands at a place of a chain: a read leaves the store, and its answer is the end, a refusal or the record's word.
-use Prim.Native.Nat.{ℕ, zero, suc}
+use Prim.Native.Nat.{ℕ}
 use mathlib.Core.Path.{◌≡◌, refl, sym, ap, ◌∙◌}
-use mathlib.Core.Logic.{inl, inr, ◌≢◌}
-use mathlib.Core.Bool.{Bool, cond}
-use mathlib.Core.List.{List, [], ◌∷◌}
+use mathlib.Core.List.{List}
 use lib.Dec.{ltb}
-use native.Mathlib.Omega.{arith}
-use borrow.Author.Tests.{ne_eqb}
-use types.Run.{OneOf}
-use denote.Enum.Declared.{tag_of}
+use Rattle.std.specs.Prelude.{Option, Some, None, Result, Ok, Err}
+use Rattle.rules.specs.Answers.{answer_of}
 use Rattle.rules.specs.Refusals.{Tested, refused, passed, check, ◌>>=◌, Outcome, answer, settle}
 use Rattle.rules.specs.Memory.{plains}
 use Rattle.rules.specs.Control.{Store}
 use Rattle.rules.specs.Calls as calls
 use Rattle.rules.specs.Runs.{apply, Read}
-use Rattle.rules.specs.declared.Answer.{Answer}
-use Rattle.rules.specs.declared.Answer.TheVariants.{Refused, Done, Word, Same, Phase}
-use Rattle.rules.specs.contracts.Answer.{the_type}
-use Rattle.store.specs.View.{outcome}
+use Rattle.rules.specs.declared.Refusal as rules
+use Rattle.rules.specs.declared.Refusal.TheVariants.{NullRegister}
+use Rattle.rules.specs.declared.Value.TheVariants.{Word}
+use Rattle.rules.specs.declared.Value.{Value}
+use Rattle.store.specs.View.{view, outcome}
+use Rattle.store.specs.declared.Control.{Control}
 use Rattle.store.specs.declared.Reply.{Reply}
-use Rattle.directory_rules.specs.Acts.{Act, ask, read, perform, Found, ended, failed, word, found_in, own_session}
-use Rattle.directory_rules.specs.Directory.{number_field, too_long}
-use Rattle.directory.specs.Parts.{limited}
+use Rattle.directory_rules.specs.Acts.{Act, ask, read, perform, Found, found_in, own_session}
+use Rattle.directory_rules.specs.Directory.{number_field}
+use Rattle.directory.specs.declared.Refusal.{Refusal}
+use Rattle.directory.specs.declared.Refusal.TheVariants as refusal
+use Rattle.directory.specs.View.{left_in}
+use Rattle.directory.specs.Parts.{standing, looking}
 
 -- ---- a read leaves the store
 
@@ -47,56 +48,45 @@ looks s at f = ap (λ (t : Store). perform t (f (looked_at s at))) (read-still s
 
 -- ---- by the code's answer
 
-limited-ended : (left : ℕ) → ended ≡ limited left ended
-limited-ended zero = refl
-limited-ended (suc left) = refl
+abbrev pub Answer : Type 0
+Answer = Result Value rules.Refusal
 
-limited-failed : (left n : ℕ) → failed n ≡ limited left (failed n)
-limited-failed zero n = refl
-limited-failed (suc left) n = refl
+-- what the directory makes of an answer of the store
+seen : Answer → Act (Option ℕ)
+seen a = standing (found_in (answer (answer_of a)))
 
-limited-over : (left w : ℕ) → left ≡ 0 → failed too_long ≡ limited left (word w)
-limited-over zero w e = refl
-limited-over (suc left) w e = absurd (omega arith)
+module _ (r : Reply) (c : Control) (at : ℕ) (h0 h1 l : List ℕ) (e : outcome r h0 h1 l ≡ apply (view c h0 h1 l) (Read own_session at number_field)) where
+  abbrev Looked : Result (Option ℕ) Refusal → Type 0
+  Looked f = left_in (view c h0 h1 l) f ≡ perform (view c h0 h1 l) (looking at)
 
-limited-word : (left w : ℕ) → left ≢ 0 → word w ≡ limited left (word w)
-limited-word zero w e = absurd (e refl)
-limited-word (suc left) w e = refl
+  looked : (a : Answer) → r.answer ≡ a → (f : Result (Option ℕ) Refusal) → left_in (view c h0 h1 l) f ≡ perform (view c h0 h1 l) (seen a) → Looked f
+  unfolding looking seen
+  looked a g f h =
+      h ∙ ap (λ (x : Answer). perform (view c h0 h1 l) (seen x)) (sym g)
+      ∙ ap (λ (o : Outcome Store). perform (view c h0 h1 l) (standing (found_in o.reply))) e
+      ∙ sym (looks (view c h0 h1 l) at standing)
 
--- answers of other calls count as a word 0
-odd_found : (a : Answer) → OneOf (1 ∷ 3 ∷ 4 ∷ []) (tag_of the_type a) → found_in (answer a) ≡ word 0
-odd_found (Refused n) (inl e) = absurd (omega arith)
-odd_found (Refused n) (inr (inl e)) = absurd (omega arith)
-odd_found (Refused n) (inr (inr e)) = absurd (omega arith)
-odd_found (Word w) (inl e) = absurd (omega arith)
-odd_found (Word w) (inr (inl e)) = absurd (omega arith)
-odd_found (Word w) (inr (inr e)) = absurd (omega arith)
-odd_found Done h = refl
-odd_found (Same b) h = refl
-odd_found (Phase p) h = refl
+  pub saw_word : (v : Value) (w : ℕ) → r.answer ≡ Ok v → v ≡ Word w → Looked (Ok (Some w))
+  unfolding seen
+  saw_word v w f g = looked (Ok (Word w)) (f ∙ ap Ok g) (Ok (Some w)) refl
 
-module _ (left : ℕ) (r : Reply) (h0 h1 l : List ℕ) (o : Outcome Store) (e : outcome r h0 h1 l ≡ o) where
-  seen : (a : Answer) → r.answer ≡ a → limited left (found_in (answer a)) ≡ limited left (found_in o.reply)
-  seen a f = ap (λ (x : Answer). limited left (found_in (answer x))) (sym f) ∙ ap (λ (x : Outcome Store). limited left (found_in x.reply)) e
+  -- answers of other calls count as a word 0
+  pub saw_other : (v : Value) → r.answer ≡ Ok v → ((w : ℕ) → v ≡ Word w → ⊥) → Looked (Ok (Some 0))
+  unfolding seen
+  saw_other v f g = looked (Ok v) f (Ok (Some 0)) (by v g)
+    where
+      by : (x : Value) → ((w : ℕ) → x ≡ Word w → ⊥) → left_in (view c h0 h1 l) (Ok (Some 0)) ≡ perform (view c h0 h1 l) (seen (Ok x))
+      by (Word w) h = absurd (h w refl)
+      by x h = refl
 
-  pub saw_end : (n : ℕ) → r.answer ≡ Refused n → n ≡ 11 → ended ≡ limited left (found_in o.reply)
-  saw_end n f g = limited-ended left ∙ seen (Refused 11) (f ∙ ap Refused g)
+  pub saw_end : (n : rules.Refusal) → r.answer ≡ Err n → n ≡ NullRegister → Looked (Ok None)
+  unfolding seen
+  saw_end n f g = looked (Err NullRegister) (f ∙ ap Err g) (Ok None) refl
 
-  pub saw_refusal : (n : ℕ) → r.answer ≡ Refused n → n ≢ 11 → failed n ≡ limited left (found_in o.reply)
-  saw_refusal n f g =
-      limited-failed left n ∙ ap (λ (b : Bool). limited left (cond b ended (failed n))) (sym (ne_eqb n 11 g)) ∙ seen (Refused n) f
-
-  pub saw_over : (w : ℕ) → r.answer ≡ Word w → left ≡ 0 → failed 26 ≡ limited left (found_in o.reply)
-  saw_over w f g = limited-over left w g ∙ seen (Word w) f
-
-  pub saw_word : (w : ℕ) → r.answer ≡ Word w → left ≢ 0 → word w ≡ limited left (found_in o.reply)
-  saw_word w f g = limited-word left w g ∙ seen (Word w) f
-
-  odd : OneOf (1 ∷ 3 ∷ 4 ∷ []) (tag_of the_type r.answer) → limited left (word 0) ≡ limited left (found_in o.reply)
-  odd f = ap (limited left) (sym (odd_found r.answer f)) ∙ seen r.answer refl
-
-  pub odd_over : OneOf (1 ∷ 3 ∷ 4 ∷ []) (tag_of the_type r.answer) → left ≡ 0 → failed 26 ≡ limited left (found_in o.reply)
-  odd_over f g = limited-over left 0 g ∙ odd f
-
-  pub odd_word : OneOf (1 ∷ 3 ∷ 4 ∷ []) (tag_of the_type r.answer) → left ≢ 0 → word 0 ≡ limited left (found_in o.reply)
-  odd_word f g = limited-word left 0 g ∙ odd f
+  pub saw_refusal : (n : rules.Refusal) → r.answer ≡ Err n → (n ≡ NullRegister → ⊥) → Looked (Err (refusal.Store n))
+  unfolding seen
+  saw_refusal n f g = looked (Err n) f (Err (refusal.Store n)) (by n g)
+    where
+      by : (x : rules.Refusal) → (x ≡ NullRegister → ⊥) → left_in (view c h0 h1 l) (Err (refusal.Store x)) ≡ perform (view c h0 h1 l) (seen (Err x))
+      by NullRegister h = absurd (h refl)
+      by x h = refl

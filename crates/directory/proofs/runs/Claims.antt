@@ -10,7 +10,7 @@ use Rattle.rules.specs.Cycle.{at_rest, at_reclaim}
 use Rattle.rules.specs.Runs.{Allocate, Step, apply, after, spent}
 use Rattle.rules.specs.Tracking.{Beside, new_beside}
 use Rattle.rules.specs.Claims.{left_in, scans_and_move, EndsReclaim, used_words, all_shares, SharesKept}
-use Rattle.rules.specs.declared.Answer.TheVariants.{Refused}
+use Rattle.rules.specs.Answers.{Refused}
 use Rattle.rules.proofs.runs.Runs.{beside-store}
 use Rattle.store.specs.CodeRuns.{Lent, viewed}
 use Rattle.store.proofs.runs.Runs.{called_applies, code_made}

@@ -65,7 +65,7 @@ pub leave_answered : (κs : Lfts 3) (control : Control) (h0 h1 list : Changing) 
     (Answered control h0.now h1.now list.now (Leave person group) (given r []) (lent r.control h0' h1' list'))
 leave_answered κs control h0 h1 list person group r h0' h1' list' = (tt, by_leave person group r h0' h1' list')
 
-pub list_members_answered : (κs : Lfts 3) (control : Control) (h0 h1 list : Slice) (group : ℕ) (out : Changing) (r : Reply) (out' : List ℕ)
+pub list_members_answered : (κs : Lfts 4) (control : Control) (h0 h1 list : Slice) (group : ℕ) (out : Changing) (r : Reply) (out' : List ℕ)
     → Gives list_members.ended list_members_reads.Asked list_members_reads.Learnt κs
     (control, (h0, (h1, (list, (group, (out, tt)))))) r (tt, (tt, (tt, (tt, (tt, (out', tt))))))
     (Answered control h0.now h1.now list.now (Members group out.now) (given r out') (lent r.control h0.now h1.now list.now))

@@ -9,7 +9,7 @@ use lib.ListN.{length, get_or}
 use Rattle.rules.specs.Refusals.{refusal_of, Tested, refused, passed, Reply, answer, is_refusal}
 use Rattle.rules.specs.Control.{Store}
 use Rattle.rules.specs.Runs.{Step, is_allocation, apply}
-use Rattle.rules.specs.declared.Answer.TheVariants.{Refused}
+use Rattle.rules.specs.Answers.{Refused}
 use Rattle.directory_rules.specs.Table.{Request, Given}
 use Rattle.directory_rules.specs.Acts.{Ask, attach, safe_point, allocate, load, store, read, write, move, clear, get, put, call_of, Act, perform, calls_made}
 use Rattle.directory_rules.specs.Directory.{first_ask, inner, program, program_on, given_of, directory_call}

@@ -6,7 +6,7 @@ use mathlib.Core.Bool.{Bool, true, false, cond, true≢false}
 use Rattle.rules.specs.Refusals.{refusal_of, Tested, refused, passed, Reply, answer, is_refusal}
 use Rattle.rules.specs.Control.{Store}
 use Rattle.rules.specs.Runs.{apply}
-use Rattle.rules.specs.declared.Answer.TheVariants.{Refused}
+use Rattle.rules.specs.Answers.{Refused}
 use Rattle.directory_rules.specs.Acts.{Ask, allocate, clear, call_of, Act, stop, give, ask, ◌>>=◌, demand, or_stop, clearing, ending, Performed, perform}
 use Rattle.directory_rules.specs.Claims.{by_tests}
 use Rattle.directory_rules.proofs.acts.First.{ask_keeps}

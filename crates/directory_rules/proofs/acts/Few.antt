@@ -5,7 +5,7 @@ use mathlib.Core.Bool.{true, false}
 use Rattle.rules.specs.Refusals.{Reply, answer, is_refusal}
 use Rattle.rules.specs.Control.{Store}
 use Rattle.rules.specs.Runs.{is_allocation, apply}
-use Rattle.rules.specs.declared.Answer.TheVariants.{Refused}
+use Rattle.rules.specs.Answers.{Refused}
 use Rattle.directory_rules.specs.Table.{Request, Open, Add, Remove, Make, Join, Leave, Members}
 use Rattle.directory_rules.specs.Acts.{Ask, allocate, call_of, Act, stop, give, ask}
 use Rattle.directory_rules.specs.Directory.{first_ask, inner, program}

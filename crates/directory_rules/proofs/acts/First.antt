@@ -5,7 +5,7 @@ use Rattle.rules.specs.Refusals.{refused, answer}
 use Rattle.rules.specs.Control.{Store}
 use Rattle.rules.specs.Runs.{apply}
 use Rattle.rules.specs.Claims.{RefusalsKeep}
-use Rattle.rules.specs.declared.Answer.TheVariants.{Refused, Done}
+use Rattle.rules.specs.Answers.{Refused, Done}
 use Rattle.rules.proofs.claims.Refusals.{refusals_keep}
 use Rattle.directory_rules.specs.Table.{Request, Open, Add, Remove, Make, Join, Leave, Members}
 use Rattle.directory_rules.specs.Acts.{Ask, call_of, Act, ◌>>=◌, must, or_stop, perform}

@@ -10,7 +10,7 @@ use Rattle.rules.specs.Refusals.{Reply, answer, words, is_refusal}
 use Rattle.rules.specs.Control.{Store}
 use Rattle.rules.specs.Runs.{Call, is_allocation, apply}
 use Rattle.rules.specs.Claims.{store_numbers, allocation_numbers, Numbers}
-use Rattle.rules.specs.declared.Answer.TheVariants.{Refused, Done, Word, Same, Phase}
+use Rattle.rules.specs.Answers.{Refused, Done, Word, Same, Phase}
 use Rattle.rules.proofs.Ranges.{both}
 use Rattle.rules.proofs.memory.Cases.{bool_or}
 use Rattle.rules.proofs.relation.Rows.{listed}

@@ -5,7 +5,7 @@ use mathlib.Core.Bool.{Bool, true, false}
 use Rattle.rules.specs.Control.{register_count}
 use Rattle.rules.specs.Refusals.{Tested, check, answer, ◌>>◌ as ◌>>>◌}
 use Rattle.rules.specs.Free.{Free, free_session, free_session_of}
-use Rattle.rules.specs.declared.Answer.TheVariants.{Refused, Done}
+use Rattle.rules.specs.Answers.{Refused, Done}
 use Rattle.directory_rules.specs.Table.{Request, Table, Given, nothing, not_open, given_by}
 use Rattle.directory_rules.specs.Acts.{own_session, safe_point, Act, give, ◌>>◌, must, ending, Performed}
 use Rattle.directory_rules.specs.Directory.{plainly}

@@ -11,7 +11,7 @@ use Rattle.rules.specs.Control.{register_count}
 use Rattle.rules.specs.Refusals.{passed, check, answer, ◌>>◌ as ◌>>>◌}
 use Rattle.rules.specs.Free.{Free}
 use Rattle.rules.proofs.memory.Cases.{eq_or}
-use Rattle.rules.specs.declared.Answer.TheVariants.{Done}
+use Rattle.rules.specs.Answers.{Done}
 use Rattle.directory_rules.specs.Table.{Table, Make, among, is_number, unknown, already, with_groups, table_next}
 use Rattle.directory_rules.specs.Acts.{Act, store, must, ◌>>=◌, ◌>>◌}
 use Rattle.directory_rules.specs.Directory.{group_entry, absent, fresh, link, making, plainly, group_registers, program, group_mark, group_register, next_field, other_of}

@@ -10,7 +10,7 @@ use Rattle.rules.specs.Memory.{null}
 use Rattle.rules.specs.Control.{register_count}
 use Rattle.rules.specs.Refusals.{passed, check, answer, ◌>>◌ as ◌>>>◌}
 use Rattle.rules.specs.Free.{Free, FreeSession, free_session, free_register, free_nobody, free_absent, free_attach, record_at, with_free_attached, with_free_session}
-use Rattle.rules.specs.declared.Answer.TheVariants.{Refused, Done}
+use Rattle.rules.specs.Answers.{Refused, Done}
 use Rattle.rules.proofs.memory.Lists.{zeros}
 use Rattle.directory_rules.specs.Table.{Open, Table, opened_table, open_already, nothing, table_next}
 use Rattle.directory_rules.specs.Acts.{own_session, attach, give, must, ◌>>◌}

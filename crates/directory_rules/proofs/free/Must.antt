@@ -3,7 +3,7 @@ use Prim.Native.Nat.{ℕ}
 use mathlib.Core.Path.{◌≡◌, ap}
 use Rattle.rules.specs.Refusals.{refused, passed, Outcome, Reply, answer}
 use Rattle.rules.specs.Free.{Free}
-use Rattle.rules.specs.declared.Answer.TheVariants.{Refused, Done}
+use Rattle.rules.specs.Answers.{Refused, Done}
 use Rattle.directory_rules.specs.Acts.{Ask, Act, ask, ◌>>=◌, or_stop, must}
 use Rattle.directory_rules.proofs.free.Perform.{free_ask, free_perform}
 

@@ -12,7 +12,7 @@ use Rattle.rules.specs.Memory.{null, most_count}
 use Rattle.rules.specs.Control.{last_register}
 use Rattle.rules.specs.Refusals.{refused, passed, answer}
 use Rattle.rules.specs.Free.{Free, free_session, record_at, free_session_of, free_record_in, free_load, free_store, free_read, free_move, free_clear, free_get, free_put, free_write, with_record, with_free_register}
-use Rattle.rules.specs.declared.Answer.TheVariants.{Refused, Done, Word}
+use Rattle.rules.specs.Answers.{Refused, Done, Word}
 use Rattle.rules.proofs.allocation.FreeRecords.{new_place_lem}
 use Rattle.directory_rules.specs.Acts.{own_session, allocate, load, store, read, write, move, clear, get, put}
 use Rattle.directory_rules.specs.Directory.{fresh, link, other_of, next_field, first_field, number_field, group_register}

@@ -12,7 +12,7 @@ use Rattle.rules.specs.Refusals.{answer}
 use Rattle.rules.specs.Runs.{Call, SafePoint, apply}
 use Rattle.rules.specs.Free.{free_session, free_session_of}
 use Rattle.rules.specs.Claims.{Made}
-use Rattle.rules.specs.declared.Answer.TheVariants.{Refused, Done}
+use Rattle.rules.specs.Answers.{Refused, Done}
 use Rattle.rules.proofs.memory.Cases.{bool_or}
 use Rattle.directory_rules.specs.Table.{Request, Open, Add, Remove, Make, Join, Leave, Members, Table, not_open, table_next, table_given}
 use Rattle.directory_rules.specs.Acts.{own_session, safe_point, must, ◌>>◌, perform}

@@ -4,7 +4,7 @@ use mathlib.Core.Path.{◌≡◌, sym, ◌∙◌}
 use mathlib.Core.List.{List}
 use native.Mathlib.Omega.{arith}
 use lib.ListN.{get_or, length, get_or-eq_default}
-use Rattle.rules.specs.Memory.{Memory, null, half_of, refs, plains}
+use Rattle.rules.specs.Memory.{Memory, null, half_of, refs}
 use Rattle.rules.specs.Free.{Record, FreeSession, no_record}
 use Rattle.rules.specs.declared.Session.{Session}
 use Rattle.rules.proofs.memory.Cases.{either}

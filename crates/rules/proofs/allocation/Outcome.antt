@@ -16,7 +16,7 @@ use Rattle.rules.specs.Barriers.{allocation_room, next_birth, allocated, allocat
 use Rattle.rules.specs.Calls.{session_of, is_register, is_shape, within_share, number_left, with_register, charged, allocate}
 use Rattle.rules.specs.Claims.{MayAllocate}
 use Rattle.rules.specs.declared.Session.{Session}
-use Rattle.rules.specs.declared.Answer.TheVariants.{Refused, Done}
+use Rattle.rules.specs.Answers.{Refused, Done}
 use Rattle.rules.proofs.Ranges.{both, in_session}
 use Rattle.rules.proofs.relation.Replies.{unrefused, refusal-number}
 

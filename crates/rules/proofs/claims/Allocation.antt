@@ -5,13 +5,12 @@ use mathlib.Core.Bool.{true, false}
 use native.Mathlib.Omega.{arith}
 use borrow.Author.Tests.{leb-true, leb-false, le-leb, lt-leb, ltb-false, le-ltb}
 use Rattle.rules.specs.Refusals.{Tested, answer, Outcome, settle}
-use Rattle.rules.specs.Memory.{size_of}
 use Rattle.rules.specs.Control.{Store, most_births}
 use Rattle.rules.specs.Phases.{session_at}
 use Rattle.rules.specs.Barriers.{allocation_room}
-use Rattle.rules.specs.Calls.{within_share, number_left, allocate}
+use Rattle.rules.specs.Calls.{within_share, number_left}
 use Rattle.rules.specs.Claims.{MayAllocate, charge_with, ShareRefused, RoomRefused, NumberRefused}
-use Rattle.rules.specs.declared.Answer.TheVariants.{Refused, Done}
+use Rattle.rules.specs.Answers.{Refused, Done}
 use Rattle.rules.proofs.relation.Replies.{unrefused, refusal-number}
 use Rattle.rules.proofs.allocation.Outcome.{Allocating, before_17, past_share, no_room, no_number, all_pass, allocating, reply_behind}
 

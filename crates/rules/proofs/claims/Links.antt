@@ -15,7 +15,7 @@ use Rattle.rules.specs.Runs.{Call, StoreRef, StoreLinks, apply, run, after}
 use Rattle.rules.specs.Claims.{single_stores, first_refusal, LinksCounted, LinksAnswer, LinksStored, OneLink}
 use Rattle.rules.specs.declared.Session.{Session}
 use Rattle.rules.specs.declared.Link.{Link}
-use Rattle.rules.specs.declared.Answer.TheVariants.{Done}
+use Rattle.rules.specs.Answers.{Done}
 use Rattle.rules.proofs.relation.Replies.{unrefused}
 use Rattle.rules.proofs.relation.Rows.{refuses, passes}
 use Rattle.rules.proofs.relation.Rules.{RuleEnds, store_ends}

@@ -11,7 +11,7 @@ use Rattle.rules.specs.Refusals.{answer, Outcome}
 use Rattle.rules.specs.Control.{Store}
 use Rattle.rules.specs.Runs.{Call, is_allocation}
 use Rattle.rules.specs.Claims.{store_numbers, allocation_numbers, Numbers}
-use Rattle.rules.specs.declared.Answer.TheVariants.{Refused}
+use Rattle.rules.specs.Answers.{Refused}
 use Rattle.rules.proofs.memory.Cases.{bool_or}
 use Rattle.rules.proofs.relation.Rows.{listed, Allowed, allowed}
 use Rattle.rules.proofs.relation.Rules.{CallEnds, refusal, success, call_ends}

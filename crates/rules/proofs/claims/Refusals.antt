@@ -6,7 +6,7 @@ use Rattle.rules.specs.Refusals.{answer, Outcome}
 use Rattle.rules.specs.Control.{Store}
 use Rattle.rules.specs.Runs.{Call}
 use Rattle.rules.specs.Claims.{RefusalsKeep}
-use Rattle.rules.specs.declared.Answer.TheVariants.{Refused}
+use Rattle.rules.specs.Answers.{Refused}
 use Rattle.rules.proofs.relation.Rules.{CallEnds, refusal, success, call_ends}
 use Rattle.rules.proofs.relation.Replies.{unrefused}
 

@@ -5,7 +5,7 @@ use mathlib.Core.Logic.{◌≢◌, inl, inr}
 use native.Mathlib.Omega.{arith}
 use lib.ListN.{get_or, length, set, length-set}
 use lib.Seq.{get_or-set_same, get_or-set_other}
-use Rattle.rules.specs.Memory.{Memory, null, replica, refs, plains, ref_field, plain_field}
+use Rattle.rules.specs.Memory.{Memory, null, replica, refs, ref_field, plain_field}
 use Rattle.rules.specs.Control.{Store, with_memory}
 use Rattle.rules.specs.Cycle.{stage}
 use Rattle.rules.specs.Phases.{other_half}

@@ -5,7 +5,7 @@ use mathlib.Core.Logic.{◌≢◌}
 use mathlib.Core.Bool.{true, not}
 use borrow.Author.Tests.{eq-eqb, ne_eqb, eqb-true, eqb-false, not-true}
 use Rattle.rules.specs.Refusals.{passed}
-use Rattle.rules.specs.Memory.{Memory, null, half_of, replica, refs, plains, sound, points_back, followable, followed}
+use Rattle.rules.specs.Memory.{Memory, null, half_of, replica, refs, plains, points_back, followable, followed}
 use Rattle.rules.specs.Claims.{PointsBack, CanFollow}
 use Rattle.rules.proofs.Ranges.{both, together, after_check}
 use Rattle.rules.proofs.memory.Cases.{eq_or, or_second}

@@ -4,7 +4,7 @@ use mathlib.Core.Path.{◌≡◌, sym, ◌∙◌, ap}
 use mathlib.Core.Logic.{◌≢◌}
 use mathlib.Core.Bool.{false, true≢false}
 use Rattle.rules.specs.Refusals.{Reply, answer, words, is_refusal, number_of}
-use Rattle.rules.specs.declared.Answer.TheVariants.{Refused}
+use Rattle.rules.specs.Answers.{Refused}
 
 -- refusals differ where their numbers do
 abbrev pub number_in : Reply → ℕ

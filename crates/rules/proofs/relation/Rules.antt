@@ -18,7 +18,7 @@ use Rattle.rules.specs.Collector as collector
 use Rattle.rules.specs.Runs.{Call, Attach, Detach, SafePoint, Allocate, Load, StoreRef, StoreLinks, Read, Write, Move, Clear, SameAs, Get, Put, Stretch, Companion, Birth, Step, apply, is_allocation}
 use Rattle.rules.specs.declared.Session.{Session}
 use Rattle.rules.specs.declared.Link.{Link}
-use Rattle.rules.specs.declared.Answer.TheVariants.{Refused}
+use Rattle.rules.specs.Answers.{Refused}
 use Rattle.rules.proofs.relation.Units.{each_unit}
 use Rattle.rules.proofs.relation.Rows.{Ends, refuses, passes, then_row, after_row, map_row, row, one_test, Allowed, allowed, Row, followed_row, forward_row, shading_row, shading_all_row, replica_row, store_writes_row, put_writes_row, same_at_row, forward_all_row, of_session, record_row}
 use Rattle.rules.proofs.relation.Stays.{NoAttach, NoAllocation, Stays, Kept, held, shade_both_held, unwritten, uncharged_stays, stays}

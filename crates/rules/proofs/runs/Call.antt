@@ -14,7 +14,7 @@ use Rattle.rules.specs.Collector.{walked, step}
 use Rattle.rules.specs.Runs.{Call, Attach, Detach, SafePoint, Allocate, Load, StoreRef, StoreLinks, Read, Write, Move, Clear, SameAs, Get, Put, Stretch, Companion, Birth, Step, apply, is_session, is_allocation, is_step, fed_by, spent_by}
 use Rattle.rules.specs.Free.{Free, FreeSession, free_session_of, free_apply}
 use Rattle.rules.specs.Tracking.{Beside, track, beside_call}
-use Rattle.rules.specs.declared.Answer.TheVariants.{Refused, Done, Phase}
+use Rattle.rules.specs.Answers.{Refused, Done, Phase}
 use Rattle.rules.proofs.invariant.Sim.{Sim}
 use Rattle.rules.proofs.invariant.Room.{Fronts, still}
 use Rattle.rules.proofs.invariant.Spent.{Spent}

@@ -6,14 +6,15 @@ use mathlib.Core.Bool.{Bool, true, false, cond, not, ◌&&◌, ◌||◌, false�
 use mathlib.Core.List.{List, [], ◌∷◌}
 use mathlib.Core.Logic.{◌≢◌}
 use native.Mathlib.Omega.{arith}
-use native.Mathlib.Nat.{le_refl, le_trans}
+use native.Mathlib.Nat.{le_refl}
 use lib.Dec.{leb, ltb, eqb, leb→le}
-use lib.ListN.{get_or, set, take, length, length-set, get_or-map}
+use lib.ListN.{get_or, take, length, length-set, get_or-map}
 use borrow.Author.Tests.{leb-true, ltb-true, le-leb}
-use Rattle.rules.specs.Refusals.{Tested, refused, passed, check, ◌>>=◌, ◌>>◌, Outcome, settle, done, done_or}
+use Rattle.rules.specs.declared.StorePlan.{StorePlan}
+use Rattle.rules.specs.Refusals.{Tested, refused, passed, check, Outcome, settle}
 use Rattle.rules.specs.Memory.{Memory, half, frontier, with_frontier, null, half_of, word_of, word, refs, plains, size, size_of, white, put, append, next_reference, ref_field, shape_at, most_count, most_shape, colour, black, replica, points_back, followed, followable, sound, forward}
 use Rattle.rules.specs.Cycle.{at_root_mark, at_root_flip, at_reclaim, level_of, last_phase, phase_count}
-use Rattle.rules.specs.Control.{Store, in_range, last_session, with_memory, with_walk, with_list, with_globals, with_sessions, with_births, with_current, walk_limit, global_count, last_level, most_fields}
+use Rattle.rules.specs.Control.{Store, in_range, last_session, with_memory, with_walk, walk_limit, global_count, last_level, most_fields}
 use Rattle.rules.specs.Phases.{session_at, register, absent, with_session, with_charge, with_mark, lowest_unmarked, other_half, fromspace, tospace, move_on, uncharged, without_charges}
 use Rattle.rules.specs.Barriers.{Heap, heap_of, to_shade, list_room, shading, shade, shading_all, to_shade_all, listing, shade_all, shades_at, barrier_shades, store_writes, put_writes, shade_both, put_both, replica_for, own_word, replica_word, same_at, room_in, allocation_room, placed, allocated, next_birth}
 use Rattle.rules.specs.Calls as calls
@@ -26,7 +27,7 @@ use Rattle.rules.specs.declared.Writes.{Writes}
 use Rattle.rules.proofs.Ranges.{InRange, in_range_lem, in_range-tested, both}
 use Rattle.rules.proofs.Shaded.{shaded, shade_either}
 use Rattle.rules.proofs.memory.Cases.{eq_or, bool_or}
-use Rattle.rules.proofs.memory.Encoding.{half-reference, word-reference, other_below_2, other_differs, refs_bound, plains_bound}
+use Rattle.rules.proofs.memory.Encoding.{word-reference, other_below_2, other_differs, refs_bound, plains_bound}
 use Rattle.rules.proofs.memory.Lists.{set-kept}
 use Rattle.rules.proofs.memory.Halves.{half-frontier, frontier-same, frontier_other}
 use Rattle.rules.proofs.memory.Put.{frontier-put, length-put}
@@ -267,7 +268,7 @@ module _ {s : Store} (k : InRange s) where
       pick true = within-put v j x w
       pick false = within-put r l y (within-put v j x w)
 
-  commit_range : (i : ℕ) (q : calls.StorePlan) → Listed (heap_of s) q.writes → InRange (calls.store_commit s i q)
+  commit_range : (i : ℕ) (q : StorePlan) → Listed (heap_of s) q.writes → InRange (calls.store_commit s i q)
   unfolding calls.store_commit
   commit_range i q l = let h = range_both s q.writes k l in range_memory h (both_within _ _ _ _ _ _ (within-own h))
 

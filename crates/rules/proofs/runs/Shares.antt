@@ -19,7 +19,7 @@ use Rattle.rules.specs.Runs.{Call, Allocate, Step, apply, after}
 use Rattle.rules.specs.Tracking.{Beside, new_beside, beside_call, beside}
 use Rattle.rules.specs.Claims.{Made, SharesStay, ShareGiven, EndsReclaim, ChargesStay, ChargeGrows, ChargesEnd, used_words, all_shares, shares_left, SharesKept, ShareAfterReclaim, RoomForShares}
 use Rattle.rules.specs.declared.Session.{Session}
-use Rattle.rules.specs.declared.Answer.TheVariants.{Refused}
+use Rattle.rules.specs.Answers.{Refused}
 use Rattle.rules.proofs.memory.Cases.{bool_or}
 use Rattle.rules.proofs.invariant.Stages.{st_stack_flip, st_reclaim, phase-is, in_stage}
 use Rattle.rules.proofs.invariant.Range.{half_length}

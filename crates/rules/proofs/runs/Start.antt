@@ -14,7 +14,7 @@ use Rattle.rules.specs.Cycle.{stage}
 use Rattle.rules.specs.Phases.{other_half, session_at, absent}
 use Rattle.rules.specs.Free.{new_free, free_nobody, free_absent}
 use Rattle.rules.specs.Claims.{Made}
-use Rattle.rules.specs.declared.Answer.TheVariants.{Done}
+use Rattle.rules.specs.Answers.{Done}
 use Rattle.rules.proofs.Ranges.{InRange, both, after_check}
 use Rattle.rules.proofs.memory.Lists.{all_same, zeros}
 use Rattle.rules.proofs.memory.Records.{Start}

@@ -8,7 +8,7 @@ use Rattle.rules.specs.Control.{Store}
 use Rattle.rules.specs.Cycle.{last_phase, at_rest, at_pre_mark1, at_pre_mark2, at_root_mark, at_heap_mark, at_allocate, at_pre_copy, at_copy, at_pre_flip1, at_pre_flip2, at_root_flip, at_stack_flip, at_reclaim}
 use Rattle.rules.specs.Collector.{units, handshake, step}
 use Rattle.rules.specs.Free.{Free}
-use Rattle.rules.specs.declared.Answer.TheVariants.{Phase}
+use Rattle.rules.specs.Answers.{Phase}
 use Rattle.rules.proofs.Ranges.{in_range-tested}
 use Rattle.rules.proofs.memory.Cases.{from_or}
 use Rattle.rules.proofs.invariant.Stages.{stage_is}

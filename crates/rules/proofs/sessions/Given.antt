@@ -13,7 +13,7 @@ use Rattle.rules.specs.Control.{Store, in_range, session_count, last_session}
 use Rattle.rules.specs.Phases.{absent, level_of, session_at, with_session, attached_at}
 use Rattle.rules.specs.Calls.{attach}
 use Rattle.rules.specs.declared.Session.{Session}
-use Rattle.rules.specs.declared.Answer.TheVariants.{Done}
+use Rattle.rules.specs.Answers.{Done}
 use Rattle.rules.proofs.relation.Replies.{unrefused}
 
 -- where its tests pass, there is a session of that number

@@ -15,7 +15,7 @@ use Rattle.rules.specs.Phases.{session_at, register}
 use Rattle.rules.specs.Calls as calls
 use Rattle.rules.specs.Calls.{is_register}
 use Rattle.rules.specs.Free.{Free, free_load, free_read, free_birth, free_stretch}
-use Rattle.rules.specs.declared.Answer.TheVariants.{Word}
+use Rattle.rules.specs.Answers.{Word}
 use Rattle.rules.proofs.Ranges.{both}
 use Rattle.rules.proofs.memory.Records.{Start, Filled, start_inside, size-fields}
 use Rattle.rules.proofs.invariant.Words.{plain_of}

@@ -9,7 +9,7 @@ use Rattle.rules.specs.Phases.{session_at, with_session, register}
 use Rattle.rules.specs.Calls as calls
 use Rattle.rules.specs.Calls.{is_register, is_global, with_register}
 use Rattle.rules.specs.Free.{Free, free_session, free_register, with_free_register, free_move, free_clear, free_get}
-use Rattle.rules.specs.declared.Answer.TheVariants.{Done}
+use Rattle.rules.specs.Answers.{Done}
 use Rattle.rules.proofs.Ranges.{both}
 use Rattle.rules.proofs.invariant.Sim.{Sim}
 use Rattle.rules.proofs.invariant.Spent.{Grows, spent_grows, session_grows}

@@ -1,160 +1,43 @@
--- A field of the record that a reference names: by what following found, and as the part of a load and of a read past the tests on the
--- session and its registers.
-use Prim.Native.Nat.{ℕ, ◌≤◌, ◌<◌}
-use mathlib.Core.Path.{◌≡◌, refl, sym, ◌∙◌}
-use mathlib.Core.Bool.{Bool, true, false, not, ◌&&◌}
+-- The words that a load, a read and the birth number read lie inside; and what the plan of a load says of its session and its register.
+use Prim.Native.Nat.{ℕ, ◌+◌, ◌≤◌, ◌<◌}
+use mathlib.Core.Path.{◌≡◌, sym}
 use native.Mathlib.Omega.{arith}
-use lib.Dec.{leb, ltb, eqb}
-use lib.ListN.{length}
-use borrow.Author.Tests.{leb-true, le-leb, lt-ltb, le-ltb}
-use Rattle.rules.specs.Refusals.{Tested, refused, passed, check, refusal_of, ◌>>=◌, ◌>>◌, answered}
-use Rattle.rules.specs.Memory.{Memory, null, word, refs, plains, ref_field, plain_field, followed}
-use Rattle.rules.specs.Control.{Store}
-use Rattle.rules.specs.Phases.{register}
-use Rattle.rules.specs.Calls.{session_of, is_register, operands_of, record_of, load_plan, read}
-use Rattle.rules.specs.declared.Session.{Session}
+use Rattle.rules.specs.Refusals.{passed}
+use Rattle.rules.specs.Memory.{Memory, follow, header, birth_at}
+use Rattle.rules.specs.Control.{Store, last_register, last_session}
+use Rattle.rules.specs.Calls.{operands_of, record_of, load_plan}
 use Rattle.rules.specs.declared.Operands.{Operands}
-use Rattle.rules.specs.declared.Answer.TheVariants.{Word}
-use Rattle.rules.proofs.Ranges.{both, together, fronts, in_session}
-use Rattle.rules.proofs.memory.Cases.{bool_or}
-use Rattle.heap.proofs.Soundness.{Found}
-use Rattle.store.specs.Fields.{reference_in, word_in, named, field_reference, field_word}
-use Rattle.store.proofs.tests.Numbers.{refused_by, check-passed}
+use Rattle.rules.specs.declared.Followed.{Followed}
+use Rattle.rules.specs.declared.Followed.TheVariants.{Sound}
+use Rattle.rules.proofs.Ranges.{fronts}
+use Rattle.heap.specs.View.{Has}
+use Rattle.heap.specs.Halves.{as_memory}
+use Rattle.heap.specs.declared.halves.Halves.{Halves}
+use Rattle.heap.proofs.Passed.{bind_passed}
+use Rattle.heap.proofs.Soundness.{found, header_inside}
+use Rattle.heap.proofs.Fields.{found_plain}
+use Rattle.heap.proofs.Laid.{laid-length}
+use Rattle.heap.proofs.Lent.{has_ref}
+use Rattle.store.proofs.tests.Opening.{worked, recorded}
 
--- ---- by what following found
+-- the fields of a record that was followed
+module _ (m : Halves) (v i : ℕ) {x : Followed} {at r p : ℕ} (e : x ≡ follow (as_memory m) v) (f : x ≡ Sound at r p) where
+  pub has_ref_field : i < r → Has (as_memory m) v (header + i)
+  has_ref_field l = let d = found (as_memory m) v e f in has_ref m v d.sound i (rw d.refs at l)
 
-module _ (M : Memory) (v i : ℕ) where
-  pub reference_lost : followed M v ≡ refused 12 → reference_in M v i ≡ refused 12
-  unfolding reference_in
-  reference_lost e = rw e
+  pub has_plain_field : i < p → Has (as_memory m) v (header + r + i)
+  has_plain_field = found_plain _ _ _ _ v (found (as_memory m) v e f) (omega (arith, m.low, laid-length 0 m.pending.now m.half0.now)) (omega (arith, m.high, laid-length 1 m.pending.now m.half1.now)) i
 
-  pub word_lost : followed M v ≡ refused 12 → word_in M v i ≡ refused 12
-  unfolding word_in
-  word_lost e = rw e
+-- what the plan of a load passed says of its session and its register
+pub load_numbers : {w : ℕ} (s : Store) (n to k i : ℕ) → passed w ≡ load_plan s n to k i → (n ≤ last_session) × (to ≤ last_register)
+unfolding load_plan record_of
+load_numbers s n to k i e =
+    let a = bind_passed (operands_of s n k to) _ (bind_passed (record_of s n k to) _ (sym e)).1 in
+    let w = worked s n k to a.1 in (w.number, w.second)
 
-  module _ {at r p : ℕ} (f : Found M v at r p) where
-    pub reference_past : r ≤ i → reference_in M v i ≡ refused 13
-    unfolding reference_in
-    reference_past l = rw (f.follows, ← f.refs, le-ltb i r l)
-
-    pub reference-here : i < r → reference_in M v i ≡ passed (word M v (ref_field i))
-    unfolding reference_in
-    reference-here l = rw (f.follows, ← f.refs, lt-ltb i r l)
-
-    pub word_past : p ≤ i → word_in M v i ≡ refused 13
-    unfolding word_in
-    word_past l = rw (f.follows, ← f.plains, le-ltb i p l)
-
-    pub word-here : i < p → word_in M v i ≡ passed (word M v (plain_field r i))
-    unfolding word_in
-    word-here l = rw (f.follows, ← f.plains, lt-ltb i p l, ← f.refs)
-
--- ---- the tests before it, by the number g that the code's answered
-
--- what holds where they pass: the frontiers are within the halves
-pub record Named (M : Memory) (v : ℕ) : Type 0 where
-  pub low : M.frontier0 ≤ length M.half0
-  pub high : M.frontier1 ≤ length M.half1
-  pub passes : named M v ≡ passed tt
-
-module _ {g : ℕ} (M : Memory) (v : ℕ) (e : g ≡ refusal_of (named M v)) where
-  pub unnamed : (g ≡ 0 → ⊥) → named M v ≡ refused g
-  unnamed = refused_by (named M v) e
-
-  pub is-named : g ≡ 0 → Named M v
-  unfolding named
-  is-named z =
-      let a = leb M.frontier0 (length M.half0) in
-      let b = leb M.frontier1 (length M.half1) in
-      let k = check-passed (a && b) 3 (check (not (eqb v null)) 11) (sym e ∙ z) in
-      let l = both a b k.0 in
-      record { low = leb-true _ _ l.0; high = leb-true _ _ l.1; passes = rw k.0 (null-tested (not (eqb v null)) k.1) }
-    where
-      null-tested : (c : Bool) → refusal_of (check c 11) ≡ 0 → check c 11 ≡ passed tt
-      null-tested true f = refl
-      null-tested false f = absurd (omega arith)
-
--- ---- load and read by it
-
--- what a call works with, o, and then the tests on its record
-then_followed : {A : Type 0} (f : Tested (Unit {0})) (o : Operands) (rest : Operands → Tested A) → (f >> passed o >>= rest) ≡ (f >> rest o)
-then_followed (passed u) o rest = refl
-then_followed (refused n) o rest = refl
-
--- what is made of the word last
-made_last : {A B : Type 0} (f : Tested (Unit {0})) (b : Bool) (w : A) (g : A → Tested B)
-    → (f >> (check b 13 >> g w)) ≡ (f >> (check b 13 >> passed w) >>= g)
-made_last (passed u) true w g = refl
-made_last (passed u) false w g = refl
-made_last (refused n) b w g = refl
-
--- by what the call works with
-module _ (s : Store) (n k i : ℕ) {o : Operands} where
-  pub load_from : (to : ℕ) → operands_of s n k to ≡ passed o → load_plan s n to k i ≡ reference_in s.memory o.own i
-  unfolding load_plan record_of reference_in
-  load_from to e =
-      rw e
-      (then_followed (followed s.memory o.own) o
-      (λ x. check (ltb i (refs s.memory x.own)) 13 >> passed (word s.memory x.own (ref_field i))))
-
-  pub read-from : operands_of s n k k ≡ passed o → read s n k i ≡ (word_in s.memory o.own i >>= λ w. answered s (Word w))
-  unfolding read record_of word_in
-  read-from e =
-      let M = s.memory in
-      let v = o.own in
-      rw e
-      (then_followed (followed M v) o (λ x. check (ltb i (plains M x.own)) 13 >> answered s (Word (word M x.own (plain_field (refs M x.own) i))))
-      ∙ made_last (followed M v) (ltb i (plains M v)) (word M v (plain_field (refs M v) i)) (λ w. answered s (Word w)))
-
--- by its session, whose tests passed
-module _ (s : Store) (n k : ℕ) {x : Session} (e : session_of s n ≡ passed x) where
-  within : (leb s.memory.frontier0 (length s.memory.half0) && leb s.memory.frontier1 (length s.memory.half1)) ≡ true
-  within =
-      let f = fronts (in_session s n e).known in together (le-leb _ _ f.0) (le-leb _ _ f.1)
-
-  named-null : eqb (register x k) null ≡ true → named s.memory (register x k) ≡ refused 11
-  unfolding named
-  named-null z = rw (within, z)
-
-  named_some : eqb (register x k) null ≡ false → named s.memory (register x k) ≡ passed tt
-  unfolding named
-  named_some z = rw (within, z)
-
-  module _ (to : ℕ) (r : (is_register k && is_register to) ≡ true) where
-    null_held : eqb (register x k) null ≡ true → operands_of s n k to ≡ refused 11
-    unfolding operands_of
-    null_held z = rw (e, r, z)
-
-    held : eqb (register x k) null ≡ false → operands_of s n k to ≡ passed (record { level = x.level; own = register x k; other = register x to })
-    unfolding operands_of
-    held z = rw (e, r, z)
-
-    loads_none : (i : ℕ) → eqb (register x k) null ≡ true → load_plan s n to k i ≡ field_reference s.memory (register x k) i
-    unfolding load_plan record_of field_reference
-    loads_none i z = rw (null_held z, named-null z)
-
-    loads_some : (i : ℕ) → eqb (register x k) null ≡ false → field_reference s.memory (register x k) i ≡ reference_in s.memory (register x k) i
-    unfolding field_reference
-    loads_some i z = rw (named_some z)
-
-    pub load_by : (i : ℕ) → load_plan s n to k i ≡ field_reference s.memory (register x k) i
-    load_by i =
-        bool_or (eqb (register x k) null)
-        (λ z. loads_none i z)
-        (λ z. load_from s n k i to (held z) ∙ sym (loads_some i z))
-
-  reads_none : is_register k ≡ true → (i : ℕ) → eqb (register x k) null ≡ true
-      → read s n k i ≡ (field_word s.memory (register x k) i >>= λ w. answered s (Word w))
-  unfolding read record_of field_word
-  reads_none r i z = rw (null_held k (together r r) z, named-null z)
-
-  reads_some : (i : ℕ) → eqb (register x k) null ≡ false
-      → (field_word s.memory (register x k) i >>= λ w. answered s (Word w)) ≡ (word_in s.memory (register x k) i >>= λ w. answered s (Word w))
-  unfolding field_word
-  reads_some i z = rw (named_some z)
-
-  pub read_by : is_register k ≡ true → (i : ℕ) → read s n k i ≡ (field_word s.memory (register x k) i >>= λ w. answered s (Word w))
-  read_by r i =
-      bool_or (eqb (register x k) null)
-      (λ z. reads_none r i z)
-      (λ z. read-from s n k i (held k (together r r) z) ∙ sym (reads_some i z))
+-- the birth number of a record that can be followed
+pub has_birth : {M : Memory} {x : Operands} (s : Store) (n k o : ℕ) → passed x ≡ record_of s n k o → M ≡ s.memory → Has M x.own birth_at
+has_birth {x = x} s n k o e d =
+    let a = recorded s n k o (sym e) in
+    let b = fronts a.0.known in
+    rw d (header_inside _ _ _ _ x.own a.1.sound b.0 b.1 birth_at (omega arith))

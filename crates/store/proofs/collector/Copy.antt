@@ -1,33 +1,25 @@
--- The arms of copying.
+-- Copying a field: what it asks for, and what the rule is without the tests that pass.
 use Prim.Native.Nat.{ℕ, ◌+◌, ◌-◌, ◌≤◌, ◌<◌}
-use mathlib.Core.Path.{◌≡◌, ◌∙◌, sym, refl}
+use mathlib.Core.Path.{◌≡◌, ◌∙◌, refl}
 use mathlib.Core.Logic.{◌≢◌}
-use mathlib.Core.Bool.{Bool, true, false, not, ◌&&◌, ◌||◌, false≢true}
+use mathlib.Core.Bool.{Bool, true, false, not, ◌&&◌, ◌||◌}
 use mathlib.Core.List.{List}
 use native.Mathlib.Omega.{arith}
-use lib.Dec.{leb, ltb, eqb}
-use borrow.Author.Tests.{leb-true, leb-false, eqb-false, lt-ltb, le-ltb}
-use Rattle.rules.specs.Refusals.{Tested, refused, passed, ◌>>=◌, Outcome, answer}
-use Rattle.rules.specs.Memory.{Memory, null, word, put, refs, plains, replica, followed, forward, header, replica_at}
+use lib.Dec.{leb, ltb}
+use borrow.Author.Tests.{leb-true, lt-ltb, le-ltb}
+use Rattle.rules.specs.Refusals.{Tested, refused, passed, ◌>>=◌}
+use Rattle.rules.specs.Memory.{Memory, null, word, put, refs, plains, replica, followed, forward, header}
 use Rattle.rules.specs.Control.{Store, with_memory, with_walk}
-use Rattle.rules.specs.Phases.{tospace, move_on}
-use Rattle.rules.specs.Collector.{below, past_record, copy_ref, copy_plain, copy_field, copy}
-use Rattle.rules.specs.declared.Answer.TheVariants.{Refused}
+use Rattle.rules.specs.Phases.{tospace}
+use Rattle.rules.specs.Collector.{copy_ref, copy_plain, copy_field}
 use Rattle.rules.specs.Claims.{CanFollow}
-use Rattle.rules.proofs.memory.Cases.{lt_or, neither}
+use Rattle.rules.proofs.memory.Cases.{lt_or}
 use Rattle.rules.proofs.memory.Followed.{can_follow, follow_passes, replica_follows, replica-counts}
 use Rattle.rules.proofs.memory.Records.{size-fields}
 use Rattle.heap.specs.View.{memory, Inside}
 use Rattle.heap.proofs.Soundness.{sound_inside}
-use Rattle.store.specs.Steps.{went, stepped}
-use Rattle.store.specs.Cursors.{having}
 use Rattle.store.specs.Copies.{copied_word, Copying}
 use Rattle.store.specs.declared.Cursor.{Cursor}
-use Rattle.store.proofs.collector.Walk.{AtWalk, AtRecord, size-found}
-
-pub replica_word : {t : ℕ} (M : Memory) (v : ℕ) → t ≡ word M v replica_at → t ≡ replica M v
-unfolding replica
-replica_word M v e = e
 
 -- ---- one field
 
@@ -76,11 +68,12 @@ module _ (s : Store) {v t r q : ℕ} (k : CanFollow s.memory v) (w : t ≡ repli
       (λ g. as_ref g ∙ rw (lt-ltb s.walk.field r g))
       (λ g. as_plain g ∙ rw (le-ltb s.walk.field r g))
 
-  pub field_lost : copied_word s r q ≡ refused 12 → record { store = s; reply = answer (Refused 12) } ≡ stepped s (copy_field s v s.walk.field)
-  field_lost e = rw (as_copied, e)
+  pub field_lost : refused 12 ≡ copied_word s r q → copy_field s v s.walk.field ≡ refused 12
+  field_lost e = rw (as_copied, ← e)
 
-  pub field_copied : {N : Memory} {y : ℕ} → copied_word s r q ≡ passed y → N ≡ written y → went (gone_on N) ≡ stepped s (copy_field s v s.walk.field)
-  field_copied e m = rw (as_copied, e, m)
+  pub field_copied : {N : Memory} {y : ℕ} → passed y ≡ copied_word s r q → N ≡ put s.memory t (header + s.walk.field) y
+      → copy_field s v s.walk.field ≡ passed (with_walk (with_memory s N) s.walk.place (s.walk.field + 1))
+  field_copied e m = rw (as_copied, ← e, m)
 
 -- what copying a field asks for: both copies have it
 module _ {c : Cursor} {h0 h1 : List ℕ} {v t r : ℕ} (k : Copying c h0 h1 v t r) where
@@ -99,53 +92,7 @@ module _ {c : Cursor} {h0 h1 : List ℕ} {v t r : ℕ} (k : Copying c h0 h1 v t 
       rw k.replica (sound_inside h0 h1 _ _ _ (replica_follows copy_follows has_replica).sound k.ranges.low k.ranges.high _
       (omega (arith, size-fields (memory h0 h1 c.frontier0 c.frontier1) (replica (memory h0 h1 c.frontier0 c.frontier1) v), n.0, n.1, k.count, k.left)))
 
--- ---- the phase
-
 -- no replica, or no field left, as the code asks and as the rules do
-none_left : (a : Bool) (n i : ℕ) → (a || leb n i) ≡ true → (not a && ltb i n) ≡ false
+pub none_left : (a : Bool) (n i : ℕ) → (a || leb n i) ≡ true → (not a && ltb i n) ≡ false
 none_left true n i e = refl
 none_left false n i e = le-ltb i n (leb-true n i e)
-
-some_left : (a : Bool) (n i : ℕ) → (a || leb n i) ≡ false → (not a && ltb i n) ≡ true
-some_left true n i e = absurd (false≢true (sym e))
-some_left false n i e = lt-ltb i n (leb-false n i e)
-
--- the record at the walk's place has the replica word t
-pub record AtReplica (c : Cursor) (h0 h1 : List ℕ) (v k r p t : ℕ) : Type 0 where
-  pub here : AtRecord c h0 h1 v k r p
-  pub replica : t ≡ replica (memory h0 h1 c.frontier0 c.frontier1) v
-
-module _ {c : Cursor} {h0 h1 : List ℕ} {v k r p t : ℕ} (x : AtReplica c h0 h1 v k r p t) where
-  -- what copying its next field asks for
-  pub copying : (eqb t 0 || leb (r + p) c.field) ≡ false → Copying c h0 h1 v t r
-  copying e =
-      let f = x.here.found in
-      let b = neither (eqb t 0) (leb (r + p) c.field) e in
-      let l : c.field < r + p = leb-false (r + p) c.field b.1 in
-      record { ranges = x.here.walk.ranges; here = f.test; replica = x.replica; paired = eqb-false t 0 b.0; count = f.refs; left = omega arith }
-
-  module _ (s : Store) (l : List ℕ) where
-    pub copy_passes : (eqb t 0 || leb (r + p) c.field) ≡ true
-        → went (with_walk (having s c h0 h1 l) (c.place + (r + p + header)) 0) ≡ stepped (having s c h0 h1 l) (copy (having s c h0 h1 l))
-    unfolding copy past_record
-    copy_passes e =
-        let w = x.here.walk in
-        let f = x.here.found in
-        rw (w.below s l, ← w.walked s l, f.follows, size-found f, ← x.replica, ← f.refs, ← f.plains, none_left (eqb t 0) (r + p) c.field e)
-
-    pub copy-copies : {o : Outcome Store} → (eqb t 0 || leb (r + p) c.field) ≡ false
-        → o ≡ stepped (having s c h0 h1 l) (copy_field (having s c h0 h1 l) v c.field) → o ≡ stepped (having s c h0 h1 l) (copy (having s c h0 h1 l))
-    unfolding copy
-    copy-copies e g =
-        let w = x.here.walk in
-        let f = x.here.found in
-        rw (w.below s l, ← w.walked s l, f.follows, ← x.replica, ← f.refs, ← f.plains, some_left (eqb t 0) (r + p) c.field e) g
-
-pub copy_ends : (s : Store) → below s ≡ false → went (move_on s) ≡ stepped s (copy s)
-unfolding copy
-copy_ends s b = rw b
-
-pub copy_lost : {c : Cursor} {h0 h1 : List ℕ} {v : ℕ} (s : Store) (l : List ℕ) → AtWalk c h0 h1 v → followed (memory h0 h1 c.frontier0 c.frontier1) v ≡ refused 12
-    → record { store = having s c h0 h1 l; reply = answer (Refused 12) } ≡ stepped (having s c h0 h1 l) (copy (having s c h0 h1 l))
-unfolding copy
-copy_lost s l w d = rw (w.below s l, ← w.walked s l, d)

@@ -8,16 +8,16 @@ use Rattle.rules.specs.Control.{Store, make}
 use Rattle.rules.specs.Calls as calls
 use Rattle.rules.specs.Runs.{Attach, Allocate, Stretch, apply}
 use Rattle.rules.specs.Script.{script_share}
-use Rattle.rules.specs.declared.Answer.TheVariants.{Done}
+use Rattle.rules.specs.Answers.{Done, answer_of}
 use Rattle.rules.proofs.Examples.{rules}
 use Rattle.store.specs.View.{outcome}
 use Rattle.store.specs.CodeRuns.{Lent, lent, viewed, CodeMade, by_make, by_attach, by_allocate, by_stretch, CodeRun, ended, next}
 use Rattle.store.specs.declared.Reply as code
-use Rattle.store.proofs.view.Faithful.{control_of, answer_of}
+use Rattle.store.proofs.view.Faithful.{control_of, answer_in, handed_as}
 
 -- what the rules leave, as the code hands it out: the reply, and the words
 abbrev handed : Outcome Store → code.Reply
-handed o = record { control = control_of o.store; answer = answer_of o.reply }
+handed o = record { control = control_of o.store; answer = handed_as (answer_in o.reply) }
 
 abbrev half0 : Outcome Store → List ℕ
 half0 o = o.store.memory.half0
@@ -69,13 +69,13 @@ unfolding rules make
 example_made = by_make half half list (handed made) refl refl
 
 pub example_run : CodeRun first (Attach 0 script_share ∷ Allocate 0 0 1 1 ∷ Stretch 0 0 ∷ [])
-    (answer (handed attached).answer ∷ answer (handed allocated).answer ∷ words (0 ∷ []) ∷ []) third
+    (answer (answer_of (handed attached).answer) ∷ answer (answer_of (handed allocated).answer) ∷ words (0 ∷ []) ∷ []) third
 example_run =
     next (by_attach 0 script_share (handed attached) attaches)
     (next (by_allocate 0 0 1 1 (handed allocated) (half0 allocated) (half1 allocated) allocates)
     (next (by_stretch 0 0 (0 ∷ []) stretches) ended))
 
 -- neither was refused
-pub example_answers : ((handed attached).answer ≡ Done) × ((handed allocated).answer ≡ Done)
+pub example_answers : (answer_of (handed attached).answer ≡ Done) × (answer_of (handed allocated).answer ≡ Done)
 unfolding rules make
 example_answers = (refl, refl)

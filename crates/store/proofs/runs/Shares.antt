@@ -11,7 +11,7 @@ use Rattle.rules.specs.Cycle.{at_reclaim}
 use Rattle.rules.specs.Phases.{session_at}
 use Rattle.rules.specs.Runs.{Call, Allocate, Step, apply, after}
 use Rattle.rules.specs.Claims.{EndsReclaim, used_words, all_shares, SharesKept, ShareAfterReclaim}
-use Rattle.rules.specs.declared.Answer.TheVariants.{Refused}
+use Rattle.rules.specs.Answers.{Refused}
 use Rattle.rules.proofs.runs.Shares.{share-after-reclaim}
 use Rattle.store.specs.CodeRuns.{Lent, viewed, CodeRun, ended, next}
 use Rattle.store.specs.CodeClaims.{SharesKeptIn, CodeShareAfterReclaim}

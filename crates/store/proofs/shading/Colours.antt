@@ -1,7 +1,7 @@
 -- A record's colour word is no other record's colour word, however the records overlap: two different references name different words,
 -- so the words right behind them differ too. A record coloured leaves every other colour as it was.
 use Prim.Native.Nat.{ℕ, ◌+◌, ◌≤◌}
-use mathlib.Core.Path.{◌≡◌, refl}
+use mathlib.Core.Path.{◌≡◌, sym, refl}
 use mathlib.Core.Logic.{◌≢◌}
 use mathlib.Core.Bool.{cond}
 use mathlib.Core.List.{List}
@@ -31,7 +31,7 @@ module _ (h0 h1 : List ℕ) (w c : ℕ) (k : Inside h0 h1 w colour_at) where
       rw (e, half-same) (get_or-set_other (half M (half_of w)) (word_of w + colour_at) (word_of v + colour_at) c 0 o))
       (λ e. rw (half_other M (half_of w) (half_of v) (set (half M (half_of w)) (word_of w + colour_at) c) (half-below_2 w) (half-below_2 v) e))
 
-  pub coloured : (v : ℕ) → 2 ≤ v → colour (put M w colour_at c) v ≡ cond (eqb v w) c (colour M v)
-  coloured v n = eq_or v w
-      (λ e. rw (e, eq-eqb w w refl) colour_new)
-      (λ d. rw (ne_eqb v w d) (colour-kept v n d))
+  pub coloured : (v : ℕ) → 2 ≤ v → colour (put M w colour_at c) v ≡ cond (eqb w v) c (colour M v)
+  coloured v n = eq_or w v
+      (λ e. rw (← e, eq-eqb w w refl) colour_new)
+      (λ d. rw (ne_eqb w v d) (colour-kept v n (λ e. d (sym e))))

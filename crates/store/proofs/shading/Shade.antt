@@ -1,23 +1,18 @@
--- Shading as the code does it, and the bounds that the functions over lent halves ask for.
+-- Shading as the code does it.
 use Prim.Native.Nat.{ℕ, ◌+◌, ◌≤◌}
-use mathlib.Core.Path.{◌≡◌, ap, refl}
+use mathlib.Core.Path.{◌≡◌, ap}
 use mathlib.Core.Bool.{cond}
-use mathlib.Core.List.{List}
+use mathlib.Core.List.{List, []}
 use native.Mathlib.Omega.{arith}
 use native.Mathlib.Nat.{add-zero}
 use lib.Dec.{eqb}
-use lib.ListN.{length, set}
+use lib.ListN.{set}
 use borrow.Author.Tests.{eq-eqb, ne_eqb}
 use Rattle.rules.specs.Memory.{Memory, put, colour_at, grey}
-use Rattle.rules.specs.Control.{Store, with_memory, with_list}
-use Rattle.rules.specs.Barriers.{Heap, heap_of, shade}
-use Rattle.rules.proofs.Ranges.{InRange}
+use Rattle.rules.specs.Control.{Store, with_memory, with_list, new_store}
+use Rattle.rules.specs.Barriers.{shade}
 use Rattle.rules.proofs.memory.Cases.{bool_or, chosen_below}
-use Rattle.rules.proofs.Shaded.{shade_either}
-use Rattle.heap.specs.View.{heap, Within}
-use Rattle.heap.specs.declared.Bounds.{Bounds}
-
--- ---- shading
+use Rattle.store.specs.Marking.{ending}
 
 pub shade-null : (s : Store) (v : ℕ) → v ≡ 0 → s ≡ shade s v
 unfolding shade
@@ -29,30 +24,18 @@ pub shade_record : {N : Memory} {ws : List ℕ} (s : Store) (v : ℕ) → (v ≡
 unfolding shade
 shade_record s v n e d = rw (ne_eqb v 0 n, e, d)
 
--- the globals stay
-pub shade-globals : (s : Store) (v : ℕ) → (shade s v).globals ≡ s.globals
-shade-globals s v = shade_either (λ t. t.globals ≡ s.globals) s v refl refl
-
 -- the list gets an entry where there is a record to shade, so one at most
 module _ (s : Store) (v : ℕ) where
   pub shade-tail : (shade s v).list.tail ≡ s.list.tail + cond (eqb v 0) 0 1
   unfolding shade
   shade-tail = bool_or (eqb v 0) (λ t. rw (t, add-zero)) (λ f. rw f)
 
-  pub shade-end : (shade s v).list.tail ≤ s.list.tail + 1
+  shade-end : (shade s v).list.tail ≤ s.list.tail + 1
   shade-end = omega (arith, shade-tail, chosen_below (eqb v 0) 0 1 1 (omega arith) (omega arith))
 
--- ---- bounds
-
--- bounds that are those of a store in range fit its halves
-pub within : {b : Bounds} {s : Store} (h0 h1 : List ℕ) → heap b h0 h1 ≡ heap_of s → InRange s → Within b h0 h1
-within {b} {s} h0 h1 e k =
-    let a0 : h0 ≡ s.memory.half0 = ap (λ (z : Heap). z.memory.half0) e in
-    let a1 : h1 ≡ s.memory.half1 = ap (λ (z : Heap). z.memory.half1) e in
-    let b0 : b.frontier0 ≡ s.memory.frontier0 = ap (λ (z : Heap). z.memory.frontier0) e in
-    let b1 : b.frontier1 ≡ s.memory.frontier1 = ap (λ (z : Heap). z.memory.frontier1) e in
-    let t : b.tail ≡ s.list.tail = ap (λ (z : Heap). z.tail) e in
-    let n : b.capacity ≡ length s.list.words = ap (λ (z : Heap). z.capacity) e in
-    let l0 : length h0 ≡ length s.memory.half0 = ap length a0 in
-    let l1 : length h1 ≡ length s.memory.half1 = ap length a1 in
-    record { low = omega arith; high = omega arith; listed = omega arith }
+-- so the list's end that the code hands out, by what it says of any store
+pub end_after : (h0 h1 l k0 k1 m : List ℕ) (end n v : ℕ) → ((s : Store) → ending s k0 k1 m n ≡ shade (ending s h0 h1 l end) v) → n ≤ end + 1
+end_after h0 h1 l k0 k1 m end n v f =
+    let some = new_store (record { half0 = 0; half1 = 0; list = 0 }) [] [] [] in
+    let e = ap (λ (s : Store). s.list.tail) (f some) in
+    omega (arith, e, shade-end (ending some h0 h1 l end) v)

@@ -1,27 +1,28 @@
 -- The white records among references, each once: what one reference more adds, and when none is left to add.
 use Prim.Native.Nat.{ℕ, zero, suc, ◌+◌, ◌-◌, ◌≤◌, ◌<◌}
-use mathlib.Core.Path.{◌≡◌, ◌∙◌, sym, refl, ap}
+use mathlib.Core.Path.{◌≡◌, sym, refl, ap}
 use mathlib.Core.Logic.{◌⊎◌, inl, inr}
-use mathlib.Core.Bool.{Bool, true, false, cond, ◌||◌, or-false, or_assoc}
-use mathlib.Core.List.{List, [], ◌∷◌, ◌++◌}
+use mathlib.Core.Bool.{Bool, true, false, cond, ◌||◌, or-false}
+use mathlib.Core.List.{List, [], ◌∷◌, ◌++◌, append_assoc, append-nil}
 use native.Mathlib.Omega.{arith}
 use native.Mathlib.Nat.{add-zero}
 use native.Mathlib.Numerals.{add-one}
 use lib.Dec.{eqb}
-use lib.ListN.{length, take, get_or, length-append}
+use lib.ListN.{length, take, drop, get_or, length-append}
 use lib.Seq.{take-suc, take_all}
+use Rattle.std.proofs.lemmas.List.{take-append-drop}
+use Rattle.std.proofs.lemmas.List.Folds.{list_any-append}
 use borrow.Author.Tests.{eqb-true, eq-eqb, ne_eqb}
 use Rattle.rules.specs.Memory.{Memory, colour, white}
 use Rattle.rules.specs.Barriers.{without}
-use Rattle.rules.proofs.memory.Cases.{bool_or, either, eqb_swap}
+use Rattle.rules.proofs.memory.Cases.{bool_or, either}
 use Rattle.heap.specs.View.{if_white}
 use Rattle.store.specs.Marking.{among, whites_among}
 
 -- ---- words, one more at their end
 
-pub among-more : (v w : ℕ) (xs : List ℕ) → among v (xs ++ (w ∷ [])) ≡ (among v xs || eqb v w)
-among-more v w [] = or-false (eqb v w)
-among-more v w (x ∷ xs) = ap (λ (b : Bool). eqb v x || b) (among-more v w xs) ∙ sym (or_assoc (eqb v x) (among v xs) (eqb v w))
+pub among-more : (v w : ℕ) (xs : List ℕ) → among v (xs ++ (w ∷ [])) ≡ (among v xs || eqb w v)
+among-more v w xs = rw (list_any-append, or-false)
 
 without_more : (w u : ℕ) (xs : List ℕ) → without w (xs ++ (u ∷ [])) ≡ cond (eqb w u) (without w xs) (without w xs ++ (u ∷ []))
 without_more w u [] = refl
@@ -30,11 +31,11 @@ without_more w u (x ∷ xs) = bool_or (eqb w x)
     (λ f. bool_or (eqb w u) (λ a. rw (f, without_more w u xs, a)) (λ a. rw (f, without_more w u xs, a)))
 
 -- taking out another word leaves v among them
-among-without : (v w : ℕ) (xs : List ℕ) → eqb v w ≡ false → among v (without w xs) ≡ among v xs
+among-without : (v w : ℕ) (xs : List ℕ) → eqb w v ≡ false → among v (without w xs) ≡ among v xs
 among-without v w [] d = refl
 among-without v w (x ∷ xs) d = bool_or (eqb w x)
-    (λ t. let e : eqb v x ≡ false = rw (eqb-true w x t) at d in rw (t, e) (among-without v w xs d))
-    (λ f. rw f (ap (λ (b : Bool). eqb v x || b) (among-without v w xs d)))
+    (λ t. let e : eqb x v ≡ false = rw (eqb-true w x t) at d in rw (t, e) (among-without v w xs d))
+    (λ f. rw f (ap (λ (b : Bool). eqb x v || b) (among-without v w xs d)))
 
 -- ---- one reference more
 
@@ -51,31 +52,36 @@ abbrev Behind : ℕ → ℕ → List ℕ → Type 0
 Behind y w ws = cond (eqb y 0) (added w ws) (y ∷ without y (added w ws)) ≡ added w (cond (eqb y 0) ws (y ∷ without y ws))
 
 added_behind : (y w : ℕ) (ws : List ℕ) → Behind y w ws
-added_behind y w ws = bool_or (eqb y 0) (λ a. rw a) (λ a. bool_or (eqb w 0) (λ b. rw (a, b)) (λ b. bool_or (eqb w y) (same a b) (other a b)))
+added_behind y w ws = bool_or (eqb y 0) (λ a. rw a) (λ a. bool_or (eqb w 0) (λ b. rw (a, b)) (λ b. bool_or (eqb y w) (same a b) (other a b)))
   where
-    same : eqb y 0 ≡ false → eqb w 0 ≡ false → eqb w y ≡ true → Behind y w ws
-    same a b c =
-        let d : eqb y w ≡ true = eqb_swap y w ∙ c in
-        bool_or (among w ws) (λ e. rw (a, b, c, e)) (λ e. rw (a, b, c, e, without_more y w ws, d))
+    same : eqb y 0 ≡ false → eqb w 0 ≡ false → eqb y w ≡ true → Behind y w ws
+    same a b d = bool_or (among w ws) (λ e. rw (a, b, d, e)) (λ e. rw (a, b, d, e, without_more y w ws, d))
 
-    other : eqb y 0 ≡ false → eqb w 0 ≡ false → eqb w y ≡ false → Behind y w ws
-    other a b c =
-        let d : eqb y w ≡ false = eqb_swap y w ∙ c in
-        bool_or (among w ws) (λ e. rw (a, b, c, among-without w y ws c, e)) (λ e. rw (a, b, c, among-without w y ws c, e, without_more y w ws, d))
+    other : eqb y 0 ≡ false → eqb w 0 ≡ false → eqb y w ≡ false → Behind y w ws
+    other a b d =
+        bool_or (among w ws) (λ e. rw (a, b, d, among-without w y ws d, e)) (λ e. rw (a, b, d, among-without w y ws d, e, without_more y w ws, d))
 
 one_more : (M : Memory) (vs : List ℕ) (v : ℕ) → whites_among M (vs ++ (v ∷ [])) ≡ added (if_white M v) (whites_among M vs)
 one_more M [] v = rw or-false
 one_more M (x ∷ vs) v = rw (one_more M vs v) (added_behind (if_white M x) (if_white M v) (whites_among M vs))
 
+-- more references give no fewer
+fewer : (M : Memory) (vs ws : List ℕ) → length (whites_among M vs) ≤ length (whites_among M (vs ++ ws))
+fewer M vs [] = rw append-nil (omega arith)
+fewer M vs (w ∷ ws) =
+    let one : length (whites_among M vs) ≤ length (whites_among M (vs ++ (w ∷ []))) = rw (one_more, one_counted) (omega arith) in
+    let rest = rw append_assoc at (fewer M (vs ++ (w ∷ [])) ws) in
+    omega arith
+
 -- a white record is among those found exactly where its reference is among the references
 module _ (M : Memory) (v : ℕ) (n : v ≡ 0 → ⊥) (c : colour M v ≡ white) where
   white-next : (x : ℕ) (vs : List ℕ) → among v (whites_among M vs) ≡ among v vs → among v (whites_among M (x ∷ vs)) ≡ among v (x ∷ vs)
-  white-next x vs e = bool_or (eqb v x) same other
+  white-next x vs e = bool_or (eqb x v) same other
     where
-      same : eqb v x ≡ true → among v (whites_among M (x ∷ vs)) ≡ among v (x ∷ vs)
-      same t = rw (← eqb-true v x t, c, ne_eqb v 0 n, eq-eqb v v refl)
+      same : eqb x v ≡ true → among v (whites_among M (x ∷ vs)) ≡ among v (x ∷ vs)
+      same t = rw (eqb-true x v t, c, ne_eqb v 0 n, eq-eqb v v refl)
 
-      other : eqb v x ≡ false → among v (whites_among M (x ∷ vs)) ≡ among v (x ∷ vs)
+      other : eqb x v ≡ false → among v (whites_among M (x ∷ vs)) ≡ among v (x ∷ vs)
       other f = bool_or (eqb (colour M x) 0)
           (λ t. bool_or (eqb x 0) (λ z. rw (t, z, f) e) (λ z. rw (t, z, f, among-without v x (whites_among M vs) f) e))
           (λ t. rw (t, f) e)
@@ -91,6 +97,9 @@ module _ (M : Memory) (vs : List ℕ) where
 
   pub up_to-next : (i : ℕ) → i < length vs → up_to (i + 1) ≡ added (if_white M (get_or vs i 0)) (up_to i)
   up_to-next i h = rw (add-one i, take-suc vs i 0 h) (one_more M (take i vs) (get_or vs i 0))
+
+  pub up_to-few : (i : ℕ) → length (up_to i) ≤ length (whites_among M vs)
+  up_to-few i = rw take-append-drop at (fewer M (take i vs) (drop i vs))
 
   pub up_to-all : (i : ℕ) → length vs ≤ i → up_to i ≡ whites_among M vs
   up_to-all i h = ap (whites_among M) (take_all i vs h)

@@ -15,7 +15,7 @@ use Rattle.rules.specs.Control.{Store}
 use Rattle.rules.specs.Runs.{Call, apply}
 use Rattle.rules.specs.Script.{Line, line_of, lines_from, lines_of}
 use Rattle.rules.specs.Claims.{Numbers}
-use Rattle.rules.specs.declared.Answer.TheVariants.{Refused, Done, Word, Same, Phase}
+use Rattle.rules.specs.Answers.{Refused, Done, Word, Same, Phase}
 use Rattle.rules.proofs.memory.Cases.{bool_or}
 use Rattle.rules.proofs.claims.Numbers.{numbers}
 use Rattle.workload.specs.Load.{xorshift32, draw, call_drawn, calls_from, load_of, seed_in, count_in, accepted, generate}

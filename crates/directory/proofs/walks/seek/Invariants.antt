@@ -1,11 +1,8 @@
 use mathlib.Core.Path.{◌≡◌}
-use Rattle.store.specs.View.{view}
+use Rattle.directory.specs.View.{viewed}
 use Rattle.directory_rules.specs.Acts.{perform}
 use Rattle.directory_rules.specs.Directory.{seek}
 use Rattle.directory.proofs.walks.seek.Given as goal
 
-abbrev pub invariant-loop-walk : goal.invariant-loop-walk
-invariant-loop-walk l = perform (view l.initial.control l.h0 l.h1 l.list) (seek l.bound l.from l.initial.via l.key l.least) ≡ perform (view l.control l.h0 l.h1 l.list) (seek l.left l.at l.via l.key l.least)
-
-abbrev pub decreases-loop-walk : goal.decreases-loop-walk
-decreases-loop-walk l = l.left
+abbrev pub invariant-loop-left : goal.invariant-loop-left
+invariant-loop-left l = perform (viewed l.initial.control l.lent) (seek l.bound l.initial.at l.initial.via l.key l.least) ≡ perform (viewed l.control l.lent) (seek l.left l.at l.via l.key l.least)

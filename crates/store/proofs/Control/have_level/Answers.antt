@@ -1,16 +1,16 @@
--- The level of the phase, and whether an attached session is found that isn't at it.
-use mathlib.Core.Path.{◌≡◌}
-use lib.ListN.{length}
-use Rattle.rules.specs.Control.{session_count}
-use Rattle.rules.specs.Collector.{have_level}
-use Rattle.store.proofs.shading.Phases.{unmapped}
-use Rattle.store.proofs.session.Search.{lowest, all_at_lem}
+-- The level of the phase, and whether every attached session is at it.
+use mathlib.Core.Path.{◌∙◌}
+use mathlib.Core.Bool.{not, ◌||◌}
+use lib.Dec.{eqb}
 use borrow.Author.Rules.{rules}
+use Rattle.std.proofs.Common.{tests}
+use Rattle.std.proofs.lemmas.Iterator.{YieldsList-from_slice}
+use Rattle.std.proofs.lemmas.Iterator.Search.{all_from_yields_List}
+use Rattle.rules.specs.Collector.{have_level}
+use Rattle.rules.specs.declared.Session.{Session}
+use Rattle.store.proofs.session.Search.{all_at_lem}
 use Rattle.store.proofs.Control.have_level.Goals as goal
 
 pub returns : goal.returns
 unfolding have_level
-returns c =
-    let sessions = c.args.self.sessions in
-    let k : length sessions ≡ session_count = search (rules, unmapped) in
-    λ h0 h1 l. rw (← c.level_of-level.ensures) (rw k at (all_at_lem _ sessions _ (lowest sessions k c.lowest.ensures)))
+returns c = λ h0 h1 l. rw (← c.level_of-level.ensures) (all_from_yields_List (λ (x : Session). not x.attached || eqb x.level c.level_of-level.result) _ _ _ c.all.ensures.ran (YieldsList-from_slice c.args.self.now.sessions cc) (λ x b q k. search (rules, tests)) ∙ all_at_lem c.level_of-level.result c.args.self.now.sessions)

@@ -2,8 +2,8 @@
 use Rattle.store.proofs.tests.Making.{unmade, made}
 use Rattle.store.proofs.Control.make.Goals as goal
 
-pub returns-then-refusal-ne0 : goal.returns-then-refusal-ne0
-returns-then-refusal-ne0 c = unmade _ _ _ c.making_tests-refusal.ensures c.if-refusal-ne0.true (c.fresh-nothing.ensures _ _ _)
+pub returns-in-Ok : goal.returns-in-Ok
+returns-in-Ok c = made _ _ _ c.in-Ok.ensures (c.fresh.ensures _ _ _)
 
-pub returns : goal.returns
-returns c = made _ _ _ c.making_tests-refusal.ensures c.if-refusal-ne0.false (c.fresh-made.ensures _ _ _)
+pub returns-in-Err : goal.returns-in-Err
+returns-in-Err c = unmade _ _ _ c.in-Err.ensures (c.fresh-in-Err.ensures _ _ _)

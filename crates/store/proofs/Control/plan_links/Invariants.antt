@@ -1,16 +1,17 @@
-use Prim.Native.Nat.{◌+◌, ◌-◌, ◌*◌, ◌≤◌}
+-- The links so far are planned, and the rest of the call is single stores on the store with what they write written.
+use Prim.Native.Nat.{◌*◌}
 use mathlib.Core.Path.{◌≡◌}
-use lib.ListN.{length, take, drop}
+use lib.ListN.{length, drop}
 use Rattle.rules.specs.Calls.{store_each}
-use Rattle.store.specs.View.{view}
-use Rattle.store.specs.Links.{link_numbers, link_entries, with_pending}
+use Rattle.store.specs.View.{viewed}
+use Rattle.store.specs.Links.{link_count, with_pending, Listed}
 use Rattle.store.proofs.Control.plan_links.Given as goal
 
-abbrev pub invariant-loop-i : goal.invariant-loop-i
-invariant-loop-i l = (l.i ≤ l.count) × (length l.pending ≡ length l.initial.pending) × (length l.entries ≡ length l.initial.entries) × (l.self.cursor.tail ≤ l.tail) × (l.tail ≤ l.self.cursor.tail + link_entries * l.i) × (l.tail ≤ length l.list)
-    × (store_each (view l.self l.h0 l.h1 l.list) l.s l.register (take l.count l.links)
-    ≡ store_each (with_pending (view l.self l.h0 l.h1 l.list) (take (link_numbers * l.i) l.pending) (take (l.tail - l.self.cursor.tail) l.entries) l.tail) l.s l.register (drop l.i (take l.count l.links)))
-
--- proposed from the loop's first test
-abbrev pub decreases-loop-i : goal.decreases-loop-i
-decreases-loop-i l = l.count - l.i
+abbrev pub invariant-loop-link : goal.invariant-loop-link
+invariant-loop-link l =
+    let s = viewed l.self l.lent in
+    record {
+      words : length l.planned.words ≡ link_count * l.link-index;
+      room : Listed l.self l.planned l.lent.list.now;
+      rest : store_each s l.s l.register l.links ≡ store_each (with_pending s l.planned) l.s l.register (drop l.link-index l.links);
+    }

@@ -1,38 +1,22 @@
--- The plan's refusal, or what it says written: the records shaded, then the field of the two copies.
-use mathlib.Core.Path.{◌≡◌}
-use Rattle.rules.specs.Calls.{store_plan}
-use Rattle.heap.proofs.Halves.{inside_kept}
-use Rattle.heap.proofs.Laid.{laid_none}
+-- What the plan says written: the records shaded, then the field of the two copies.
+use Rattle.rules.specs.Calls.{store, store_commit}
+use Rattle.rules.specs.Barriers.{shade_both}
+use Rattle.heap.proofs.Placing.{inside_kept}
 use Rattle.store.specs.View.{view}
-use Rattle.store.specs.Plans.{storing}
-use Rattle.store.proofs.calls.Store.{Storable, store_away, store-known_by, store-done}
+use Rattle.store.proofs.calls.Store.{storable}
 use Rattle.store.proofs.Control.store.Goals as goal
 
-pub shade_both-tail-requires : goal.shade_both-tail-requires
-shade_both-tail-requires c =
-    let asked : let a = c.args in storing c.store_plan-plan.result ≡ store_plan (view a.self a.h0.now a.h1.now a.list.now) a.s a.register a.field a.from =
-    rw (laid_none 0 _, laid_none 1 _) at c.store_plan-plan.ensures in
-    let told : Storable (view c.args.self c.args.h0.now c.args.h1.now c.args.list.now) c.args.field c.in-Into.v c.in-Into.w =
-    store-known_by _ _ _ _ _ asked c.in-Into.is in
-    told.shaded
+pub shade_both-self-requires : goal.shade_both-self-requires
+shade_both-self-requires c = (storable _ _ _ _ _ c.in-Ok.ensures).shaded
 
 pub put_both-requires : goal.put_both-requires
 put_both-requires c =
-    let asked : let a = c.args in storing c.store_plan-plan.result ≡ store_plan (view a.self a.h0.now a.h1.now a.list.now) a.s a.register a.field a.from =
-    rw (laid_none 0 _, laid_none 1 _) at c.store_plan-plan.ensures in
-    let told : Storable (view c.args.self c.args.h0.now c.args.h1.now c.args.list.now) c.args.field c.in-Into.v c.in-Into.w =
-    store-known_by _ _ _ _ _ asked c.in-Into.is in
-    let k = told in
-    (inside_kept _ _ _ _ _ _ c.shade_both-tail.auto.h0 c.shade_both-tail.auto.h1 k.own, λ z. inside_kept _ _ _ _ _ _ c.shade_both-tail.auto.h0 c.shade_both-tail.auto.h1 (k.copy z))
+    let k = storable _ _ _ _ _ c.in-Ok.ensures in
+    let l = c.shade_both-self.auto in
+    (inside_kept _ _ _ _ _ _ l.h0 l.h1 k.own, λ n. inside_kept _ _ _ _ _ _ l.h0 l.h1 (k.copy n))
 
-pub returns-in-Refusal : goal.returns-in-Refusal
-returns-in-Refusal c =
-    let asked : let a = c.args in storing c.store_plan-plan.result ≡ store_plan (view a.self a.h0.now a.h1.now a.list.now) a.s a.register a.field a.from =
-    rw (laid_none 0 _, laid_none 1 _) at c.store_plan-plan.ensures in
-    rw (store_away _ _ _ _ _ asked c.in-Refusal.is)
-
-pub returns-in-Into : goal.returns-in-Into
-returns-in-Into c =
-    let asked : let a = c.args in storing c.store_plan-plan.result ≡ store_plan (view a.self a.h0.now a.h1.now a.list.now) a.s a.register a.field a.from =
-    rw (laid_none 0 _, laid_none 1 _) at c.store_plan-plan.ensures in
-    rw (store-done _ _ _ _ _ asked c.in-Into.is (c.shade_both-tail.ensures (view c.args.self c.args.h0.now c.args.h1.now c.args.list.now)) (c.put_both.ensures _ _))
+pub returns-in-Ok : goal.returns-in-Ok
+unfolding store store_commit shade_both
+returns-in-Ok c =
+    let a = c.args in
+    rw (← c.in-Ok.ensures, ← c.shade_both-self.ensures (view a.self a.h0.now a.h1.now a.list.now), ← c.put_both.ensures a.self.cursor.frontier0 a.self.cursor.frontier1)

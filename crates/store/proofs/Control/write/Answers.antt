@@ -1,12 +1,6 @@
--- Write: the tests, then the words written.
-use Rattle.store.proofs.calls.Write.{unwritten, writable, written}
+-- The words that the plan writes are words of their halves.
+use Rattle.store.proofs.calls.Write.{targets_inside}
 use Rattle.store.proofs.Control.write.Goals as goal
 
 pub put_both-requires : goal.put_both-requires
-put_both-requires c = writable _ _ _ _ c.args.value c.write_target.ensures c.in-Copies.is
-
-pub returns-in-Refusal : goal.returns-in-Refusal
-returns-in-Refusal c = rw (unwritten _ _ _ _ c.args.value c.write_target.ensures c.in-Refusal.is)
-
-pub returns-in-Copies : goal.returns-in-Copies
-returns-in-Copies c = written _ _ _ _ c.args.value c.write_target.ensures c.in-Copies.is (c.put_both.ensures _ _)
+put_both-requires c = targets_inside _ _ _ _ c.in-Ok.ensures

@@ -1,125 +1,88 @@
--- The handshake at the frontier; below it damage, the record passed over, no room, or its shell.
+-- Below the frontier the record is passed over, the other half is full, or a shell is put at its frontier.
 use mathlib.Core.Path.{sym}
 use native.Mathlib.Omega.{arith}
-use Rattle.rules.specs.Memory.{colour_at, replica_at}
-use Rattle.heap.proofs.Soundness.{lost}
-use Rattle.store.proofs.tests.Flags.{no, yes}
-use Rattle.store.proofs.collector.Numbers.{goes, shells}
-use Rattle.store.proofs.collector.Walk.{AtWalk, AtRecord, at_walk, at_record, header_of, past}
-use Rattle.store.proofs.collector.Shells.{AtShell, front-small, shell_ready, shells_done, shells_lost, shells_passed, shells_full, shells_made}
-use mathlib.Core.Bool.{not}
-use mathlib.Core.Path.{ap}
+use borrow.Author.Tests.{le-leb, lt-leb}
+use Rattle.rules.specs.Memory.{colour_at, replica_at, with_frontier}
+use Rattle.rules.specs.Collector.{past_record, allocate_shells}
+use Rattle.store.proofs.collector.Walk.{size-found, past-found, walk-found, lent_header}
+use Rattle.store.proofs.collector.Shells.{other_long, front-small, shell_ready}
 use Rattle.store.proofs.Cursor.allocate_shells.Goals as goal
 
-pub returns-then-not-below : goal.returns-then-not-below
-returns-then-not-below c = λ s l e. shells_done _ (no (c.below-below.ensures s _ _ l) (ap not c.if-not-below.true)) (c.handshake.ensures s _ _ l e)
-
-pub returns-in_default : goal.returns-in_default
-returns-in_default c =
-    let walk : let a = c.args in AtWalk a.self a.h0.now a.h1.now c.walked-v.result =
-    at_walk c.requires c.below-below.ensures (ap not c.if-not-below.false) c.walked-v.ensures in
-    λ s l e. shells_lost s l walk (lost _ _ c.follow.ensures c.in_default.is)
-
-pub needs_shell-needed-requires : goal.needs_shell-needed-requires
-needs_shell-needed-requires c =
-    let walk : let a = c.args in AtWalk a.self a.h0.now a.h1.now c.walked-v.result =
-    at_walk c.requires c.below-below.ensures (ap not c.if-not-below.false) c.walked-v.ensures in
-    let known : let a = c.args in AtRecord a.self a.h0.now a.h1.now c.walked-v.result c.in-Sound.field-0 c.in-Sound.r c.in-Sound.p =
-    at_record walk c.follow.ensures c.in-Sound.is in
-    let k = known in
-    (header_of k colour_at (omega arith), header_of k replica_at (omega arith))
+pub needs_shell-requires : goal.needs_shell-requires
+needs_shell-requires c =
+    let has = lent_header c.halves-halves.result c.halves-halves.ensures.memory c.in-Sound.ensures in
+    (has colour_at (omega arith), has replica_at (omega arith))
 
 pub past_record-requires : goal.past_record-requires
-past_record-requires c =
-    let walk : let a = c.args in AtWalk a.self a.h0.now a.h1.now c.walked-v.result =
-    at_walk c.requires c.below-below.ensures (ap not c.if-not-below.false) c.walked-v.ensures in
-    let known : let a = c.args in AtRecord a.self a.h0.now a.h1.now c.walked-v.result c.in-Sound.field-0 c.in-Sound.r c.in-Sound.p =
-    at_record walk c.follow.ensures c.in-Sound.is in
-    past known
+past_record-requires c = (c.requires.places, past-found (walk-found c.halves-halves.result c.halves-halves.ensures.memory c.in-Sound.ensures))
 
-pub returns-then-not-needed : goal.returns-then-not-needed
-returns-then-not-needed c =
-    let walk : let a = c.args in AtWalk a.self a.h0.now a.h1.now c.walked-v.result =
-    at_walk c.requires c.below-below.ensures (ap not c.if-not-below.false) c.walked-v.ensures in
-    let known : let a = c.args in AtRecord a.self a.h0.now a.h1.now c.walked-v.result c.in-Sound.field-0 c.in-Sound.r c.in-Sound.p =
-    at_record walk c.follow.ensures c.in-Sound.is in
-    λ s l e. goes _ c.past_record.ensures
-    (shells_passed s l known (no (c.needs_shell-needed.ensures _ _) (ap not c.if-not-needed.true)))
+pub returns-then-not-needs_shell : goal.returns-then-not-needs_shell
+unfolding allocate_shells past_record
+returns-then-not-needs_shell c =
+    let a = c.args in
+    let k = walk-found c.halves-halves.result c.halves-halves.ensures.memory c.in-Sound.ensures in
+    let n = rw c.halves-halves.ensures.memory at c.if-not-needs_shell.ensures in
+    λ s l e. rw (
+      c.past_record.ensures,
+      sym (c.if-not-below.ensures s a.h0.now a.h1.now l),
+      ← c.walked-v.ensures s a.h0.now a.h1.now l,
+      k.follows,
+      ← n,
+      size-found k,
+    )
 
 pub overflow_add-at : goal.overflow_add-at
 overflow_add-at c =
-    let walk : let a = c.args in AtWalk a.self a.h0.now a.h1.now c.walked-v.result =
-    at_walk c.requires c.below-below.ensures (ap not c.if-not-below.false) c.walked-v.ensures in
-    let known : let a = c.args in AtRecord a.self a.h0.now a.h1.now c.walked-v.result c.in-Sound.field-0 c.in-Sound.r c.in-Sound.p =
-    at_record walk c.follow.ensures c.in-Sound.is in
-    let shell : let a = c.args in AtShell a.self a.h0.now a.h1.now c.walked-v.result c.in-Sound.field-0 c.in-Sound.r c.in-Sound.p c.other_half-other.result c.frontier-at.result =
-    record {
-      here = known;
-      needed = yes (c.needs_shell-needed.ensures _ _) (ap not c.if-not-needed.false);
-      other = c.other_half-other.ensures;
-      place = c.frontier-at.ensures _ _;
-    } in
-    let x = shell in
-    omega (arith, front-small x, past x.here)
+    let k = walk-found c.halves-halves.result c.halves-halves.ensures.memory c.in-Sound.ensures in
+    let p = past-found k in
+    let f = front-small _ c.requires (c.frontier-at.ensures c.args.h0.now c.args.h1.now) in
+    omega arith
 
 pub returns-then-h0-at : goal.returns-then-h0-at
+unfolding allocate_shells past_record
 returns-then-h0-at c =
-    let walk : let a = c.args in AtWalk a.self a.h0.now a.h1.now c.walked-v.result =
-    at_walk c.requires c.below-below.ensures (ap not c.if-not-below.false) c.walked-v.ensures in
-    let known : let a = c.args in AtRecord a.self a.h0.now a.h1.now c.walked-v.result c.in-Sound.field-0 c.in-Sound.r c.in-Sound.p =
-    at_record walk c.follow.ensures c.in-Sound.is in
-    let shell : let a = c.args in AtShell a.self a.h0.now a.h1.now c.walked-v.result c.in-Sound.field-0 c.in-Sound.r c.in-Sound.p c.other_half-other.result c.frontier-at.result =
-    record {
-      here = known;
-      needed = yes (c.needs_shell-needed.ensures _ _) (ap not c.if-not-needed.false);
-      other = c.other_half-other.ensures;
-      place = c.frontier-at.ensures _ _;
-    } in
-    λ s l e. shells_full s l shell c.if-h0-at.true
+    let a = c.args in
+    let k = walk-found c.halves-halves.result c.halves-halves.ensures.memory c.in-Sound.ensures in
+    let n = rw c.halves-halves.ensures.memory at c.if-not-needs_shell.ensures in
+    λ s l e. rw (
+      sym (c.if-not-below.ensures s a.h0.now a.h1.now l),
+      ← c.walked-v.ensures s a.h0.now a.h1.now l,
+      k.follows,
+      ← n,
+      size-found k,
+      ← c.other_half-other.ensures,
+      ← c.frontier-at.ensures a.h0.now a.h1.now,
+      other_long _ _ _ _ c.other_half-other.result c.requires.equal,
+      lt-leb _ _ c.if-h0-at.true,
+    )
 
 pub put_shell-requires : goal.put_shell-requires
 put_shell-requires c =
-    let walk : let a = c.args in AtWalk a.self a.h0.now a.h1.now c.walked-v.result =
-    at_walk c.requires c.below-below.ensures (ap not c.if-not-below.false) c.walked-v.ensures in
-    let known : let a = c.args in AtRecord a.self a.h0.now a.h1.now c.walked-v.result c.in-Sound.field-0 c.in-Sound.r c.in-Sound.p =
-    at_record walk c.follow.ensures c.in-Sound.is in
-    let shell : let a = c.args in AtShell a.self a.h0.now a.h1.now c.walked-v.result c.in-Sound.field-0 c.in-Sound.r c.in-Sound.p c.other_half-other.result c.frontier-at.result =
-    record {
-      here = known;
-      needed = yes (c.needs_shell-needed.ensures _ _) (ap not c.if-not-needed.false);
-      other = c.other_half-other.ensures;
-      place = c.frontier-at.ensures _ _;
-    } in
-    shell_ready shell c.if-h0-at.false
+    let k = walk-found c.halves-halves.result c.halves-halves.ensures.memory c.in-Sound.ensures in
+    shell_ready _ c.requires (c.frontier-at.ensures c.args.h0.now c.args.h1.now) k c.other_half-other.ensures c.if-h0-at.false
 
 pub past_record-requires-2 : goal.past_record-requires-2
 past_record-requires-2 c =
-    let walk : let a = c.args in AtWalk a.self a.h0.now a.h1.now c.walked-v.result =
-    at_walk c.requires c.below-below.ensures (ap not c.if-not-below.false) c.walked-v.ensures in
-    let known : let a = c.args in AtRecord a.self a.h0.now a.h1.now c.walked-v.result c.in-Sound.field-0 c.in-Sound.r c.in-Sound.p =
-    at_record walk c.follow.ensures c.in-Sound.is in
-    let shell : let a = c.args in AtShell a.self a.h0.now a.h1.now c.walked-v.result c.in-Sound.field-0 c.in-Sound.r c.in-Sound.p c.other_half-other.result c.frontier-at.result =
-    record {
-      here = known;
-      needed = yes (c.needs_shell-needed.ensures _ _) (ap not c.if-not-needed.false);
-      other = c.other_half-other.ensures;
-      place = c.frontier-at.ensures _ _;
-    } in
-    rw c.with_frontier-grown.ensures (past shell.here)
+    rw c.with_frontier-grown.ensures (c.requires.places, past-found (walk-found c.halves-halves.result c.halves-halves.ensures.memory c.in-Sound.ensures))
 
 pub returns : goal.returns
+unfolding allocate_shells past_record with_frontier
 returns c =
-    let walk : let a = c.args in AtWalk a.self a.h0.now a.h1.now c.walked-v.result =
-    at_walk c.requires c.below-below.ensures (ap not c.if-not-below.false) c.walked-v.ensures in
-    let known : let a = c.args in AtRecord a.self a.h0.now a.h1.now c.walked-v.result c.in-Sound.field-0 c.in-Sound.r c.in-Sound.p =
-    at_record walk c.follow.ensures c.in-Sound.is in
-    let shell : let a = c.args in AtShell a.self a.h0.now a.h1.now c.walked-v.result c.in-Sound.field-0 c.in-Sound.r c.in-Sound.p c.other_half-other.result c.frontier-at.result =
-    record {
-      here = known;
-      needed = yes (c.needs_shell-needed.ensures _ _) (ap not c.if-not-needed.false);
-      other = c.other_half-other.ensures;
-      place = c.frontier-at.ensures _ _;
-    } in
-    let x = shell in
-    λ s l e. shells s _ _ _ l _ _ _ c.with_frontier-grown.ensures c.past_record-2.ensures
-    (shells_made s l x c.if-h0-at.false (c.put_shell.ensures _ _ (sym x.place)))
+    let a = c.args in
+    let k = walk-found c.halves-halves.result c.halves-halves.ensures.memory c.in-Sound.ensures in
+    let n = rw c.halves-halves.ensures.memory at c.if-not-needs_shell.ensures in
+    let f = c.frontier-at.ensures a.h0.now a.h1.now in
+    λ s l e. rw (
+      c.past_record-2.ensures,
+      c.with_frontier-grown.ensures,
+      sym (c.if-not-below.ensures s a.h0.now a.h1.now l),
+      ← c.walked-v.ensures s a.h0.now a.h1.now l,
+      k.follows,
+      ← n,
+      size-found k,
+      ← c.other_half-other.ensures,
+      ← f,
+      other_long _ _ _ _ c.other_half-other.result c.requires.equal,
+      le-leb _ _ c.if-h0-at.false,
+      ← c.put_shell.ensures a.self.frontier0 a.self.frontier1 (sym f),
+    )

@@ -1,54 +1,38 @@
 -- Tospace current after the last session; before it damage, or the registers of the next session forwarded.
-use mathlib.Core.Path.{◌≡◌, ap}
-use mathlib.Core.List.{List}
-use native.Mathlib.Omega.{arith}
-use lib.ListN.{length, get_or}
-use Rattle.rules.specs.Control.{Store, session_count}
-use Rattle.rules.specs.Phases.{absent, lowest_unmarked}
-use Rattle.rules.specs.declared.Session.{Session}
+use Prim.Native.Nat.{ℕ}
+use mathlib.Core.Path.{◌∙◌}
+use lib.ListN.{get_or}
+use borrow.Author.Tests.{lt-ltb, le-ltb}
+use Rattle.rules.specs.Memory.{Memory}
+use Rattle.rules.specs.Phases.{absent, session_at, with_session, move_on, tospace}
+use Rattle.rules.specs.Collector.{forward_all, stack_flip}
 use Rattle.store.specs.Cursors.{having}
-use Rattle.store.proofs.collector.Numbers.{flipped, bounds_within, all_by, tospace_by}
-use Rattle.store.proofs.collector.Flip.{stacks_done, stack_lost, stack_flips, moved_false, moved_true}
-use Rattle.store.proofs.shading.Phases.{unmapped}
-use Rattle.store.proofs.session.Search.{lowest_of_lem}
-use borrow.Author.Rules.{rules}
+use Rattle.store.proofs.collector.Numbers.{damaged, by_lent}
+use Rattle.store.proofs.session.Search.{lowest_found, lowest_none}
 use Rattle.store.proofs.Cursor.stack_flip.Goals as goal
 
-pub returns-then-n-ge-SESSIONS : goal.returns-then-n-ge-SESSIONS
-returns-then-n-ge-SESSIONS c =
-    let count : length c.args.sessions ≡ session_count =
-    search (rules, unmapped) in
-    let next : (s : Store) → c.args.sessions ≡ s.sessions → (c.lowest-n.result ≡ lowest_unmarked s.sessions) × (length s.sessions ≡ session_count) =
-    λ s e. lowest_of_lem c.args.sessions s.sessions e count c.lowest-n.ensures in
+pub returns-in_default : goal.returns-in_default
+unfolding stack_flip move_on tospace
+returns-in_default c =
     let a = c.args in
-    λ s l e. flipped s a.self _ _ l _ c.flip.ensures
-    (stacks_done (having s a.self a.h0.now a.h1.now l) (next s e).0 (next s e).1 c.if-n-ge-SESSIONS.true
-    (tospace_by a.self _ _ c.bounds-b.ensures s l c.other_half-half.ensures))
+    λ s l e.
+    let f = rw e at (lowest_none a.sessions.now c.in_default.ensures) in
+    rw (c.flip.ensures, c.other_half.ensures, c.fromspace.ensures s a.h0.now a.h1.now l, le-ltb _ _ f)
 
-pub forward_all-moved-requires : goal.forward_all-moved-requires
-forward_all-moved-requires c = bounds_within c.args.self _ _ c.bounds-b.ensures c.requires (omega arith)
-
-pub returns-then-not-moved : goal.returns-then-not-moved
-returns-then-not-moved c =
-    let count : length c.args.sessions ≡ session_count =
-    search (rules, unmapped) in
-    let next : (s : Store) → c.args.sessions ≡ s.sessions → (c.lowest-n.result ≡ lowest_unmarked s.sessions) × (length s.sessions ≡ session_count) =
-    λ s e. lowest_of_lem c.args.sessions s.sessions e count c.lowest-n.ensures in
+pub returns-in_err-registers : goal.returns-in_err-registers
+unfolding stack_flip session_at
+returns-in_err-registers c =
     let a = c.args in
-    let i = c.lowest-n.result in
-    λ s l e. stack_lost (having s a.self a.h0.now a.h1.now l) (next s e).0 (next s e).1 c.if-n-ge-SESSIONS.false
-    (ap (λ (xs : List Session). (get_or xs i absent).registers) e)
-    (all_by a.self a.h0.now a.h1.now c.bounds-b.ensures s l (get_or a.sessions i absent).registers c.forward_all-moved.ensures (moved_false c.forward_all-moved.result c.if-not-moved.true))
+    λ s l e.
+    let n = rw e at (lowest_found a.sessions.now c.in-Some.ensures) in
+    let f = rw e at (by_lent a.self a.h0.now a.h1.now c.heap-heap.ensures (λ (M : Memory) (h : ℕ). forward_all M h (get_or a.sessions.now c.in-Some.n absent).registers) s l c.in_err-registers.ensures) in
+    damaged (having s a.self a.h0.now a.h1.now l) c.from_residual.result c.from_residual.ensures.0 ∙ rw (n.0, lt-ltb _ _ n.1, f)
 
 pub returns : goal.returns
+unfolding stack_flip session_at with_session
 returns c =
-    let count : length c.args.sessions ≡ session_count =
-    search (rules, unmapped) in
-    let next : (s : Store) → c.args.sessions ≡ s.sessions → (c.lowest-n.result ≡ lowest_unmarked s.sessions) × (length s.sessions ≡ session_count) =
-    λ s e. lowest_of_lem c.args.sessions s.sessions e count c.lowest-n.ensures in
     let a = c.args in
-    let i = c.lowest-n.result in
-    λ s l e. stack_flips (having s a.self a.h0.now a.h1.now l) (next s e).0 (next s e).1 c.if-n-ge-SESSIONS.false
-    (ap (λ (xs : List Session). (get_or xs i absent).registers) e)
-    (all_by a.self a.h0.now a.h1.now c.bounds-b.ensures s l (get_or a.sessions i absent).registers c.forward_all-moved.ensures (moved_true c.forward_all-moved.result c.if-not-moved.false))
-    c.of-stack.ensures
+    λ s l e.
+    let n = rw e at (lowest_found a.sessions.now c.in-Some.ensures) in
+    let f = rw e at (by_lent a.self a.h0.now a.h1.now c.heap-heap.ensures (λ (M : Memory) (h : ℕ). forward_all M h (get_or a.sessions.now c.in-Some.n absent).registers) s l c.in_ok-registers.ensures) in
+    rw (n.0, lt-ltb _ _ n.1, f)

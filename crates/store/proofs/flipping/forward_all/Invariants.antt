@@ -1,15 +1,11 @@
-use Prim.Native.Nat.{◌≤◌, ◌-◌}
 use mathlib.Core.Path.{◌≡◌}
-use lib.ListN.{length}
-use Rattle.rules.specs.Control.{register_count}
 use Rattle.rules.specs.Barriers.{to}
-use Rattle.heap.specs.View.{heap}
-use Rattle.store.proofs.collector.Forward.{So}
+use Rattle.rules.specs.Collector.{forward_all}
+use Rattle.heap.specs.Halves.{as_heap}
+use Rattle.store.proofs.collector.Forward.{rest_of}
 use Rattle.store.proofs.flipping.forward_all.Given as goal
 
-abbrev pub invariant-loop-i : goal.invariant-loop-i
-invariant-loop-i l = (length l.old ≡ register_count) × (length l.new ≡ register_count) × (l.i ≤ register_count) × So (heap l.b l.h0 l.h1).memory (to (heap l.b l.h0 l.h1)) l.old l.new l.i
-
--- proposed from the loop's first test
-abbrev pub decreases-loop-i : goal.decreases-loop-i
-decreases-loop-i l = 8 - l.i
+abbrev pub invariant-loop-register : goal.invariant-loop-register
+invariant-loop-register l =
+    forward_all (as_heap l.heap).memory (to (as_heap l.heap)) l.initial.register-items
+    ≡ rest_of (as_heap l.heap).memory (to (as_heap l.heap)) l.register-items l.register-index

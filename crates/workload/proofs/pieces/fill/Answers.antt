@@ -1,26 +1,23 @@
--- Invariant: what goes into the buffer from here on is what went in at the start. The measure is the number of entries left.
-use mathlib.Core.Path.{◌∙◌}
-use Rattle.workload.proofs.Filling.{one_more, no_more, begun, all_in, nothing_in}
+-- Entry by entry, while one is left and the longest has room.
+use Rattle.std.proofs.Common.{◌≡◌, ◌-◌, arith}
+use Rattle.workload.proofs.Filling.{begun, one_more, no_more, nothing_in}
 use Rattle.workload.proofs.pieces.fill.Goals as goal
 
-pub returns-then-out-lt-LONGEST_ENTRY-clause-filled :
-    goal.returns-then-out-lt-LONGEST_ENTRY-clause-filled
-returns-then-out-lt-LONGEST_ENTRY-clause-filled c = nothing_in c.args.rest c.args.out.now c.if-out-lt-LONGEST_ENTRY.true
+pub returns-in_default-clause-filled : goal.returns-in_default-clause-filled
+returns-in_default-clause-filled c = nothing_in c.args.rest c.args.out.now (omega (arith, c.in_default.ensures))
 
-pub loop-left-init : goal.loop-left-init
-loop-left-init c =
-    let a = c.args in
-    let e = c.write_version-end.ensures in
-    begun a.rest a.out.now c.if-out-lt-LONGEST_ENTRY.false (e.end, e.bytes)
+pub loop-written-init : goal.loop-written-init
+loop-written-init c =
+    let e = c.write_version.ensures in
+    begun c.args.rest c.args.out.now (omega (arith, c.in-Some.ensures)) (omega arith) e.end e.bytes
 
-pub loop-left-preserved : goal.loop-left-preserved
-loop-left-preserved c = one_more c.loop-left.invariant c.loop-left-test.true c.write_entry-entry.ensures
+pub loop-written-preserved : goal.loop-written-preserved
+loop-written-preserved c = one_more c.loop-written.invariant (omega arith) c.if-last-after.false (omega arith) c.write_entry-after.ensures
+
+pub returns-then-last-after-clause-filled : goal.returns-then-last-after-clause-filled
+returns-then-last-after-clause-filled c = no_more c.loop-written.invariant (λ some. c.if-last-after.true) c.piece_to.ensures
 
 pub returns-clause-filled : goal.returns-clause-filled
 returns-clause-filled c =
-    let a = c.args in
-    let e = c.write_version-end.ensures in
-    no_more c.loop-left.invariant c.loop-left-test.false ∙ all_in a.rest a.out.now c.if-out-lt-LONGEST_ENTRY.false (e.end, e.bytes)
-
-pub returns-clause-within : goal.returns-clause-within
-returns-clause-within c = c.loop-left.invariant.within
+    let none : c.args.rest.left - c.loop-written.written ≡ 0 = omega arith in
+    no_more (rw none at c.loop-written.invariant) (λ some. absurd (omega arith)) c.piece_to-2.ensures

@@ -1,9 +1,0 @@
--- Invariant: no more than 32 globals are passed.
-use Prim.Native.Nat.{◌-◌, ◌≤◌}
-use Rattle.probe.proofs.records.put_globals.Given as goal
-
-abbrev pub invariant-loop-i : goal.invariant-loop-i
-invariant-loop-i l = l.i ≤ 32
-
-abbrev pub decreases-loop-i : goal.decreases-loop-i
-decreases-loop-i l = 32 - l.i

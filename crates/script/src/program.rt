@@ -1,0 +1,151 @@
+// What the programs do: the entries of their input, read through a buffer, and the lines of these, written through another. The halves and
+// the list are lent one by one, as the store's calls take them.
+ghost use Rattle.std.specs.Prelude.{◌≡◌, ℕ, ◌+◌, ◌≤◌, length};
+ghost use Rattle.script.specs.Lines.{longest, Flushed};
+ghost use Rattle.script.specs.Window.{Fetched};
+
+use crate::{Turn, is_short, is_version, keep, stop_of, take_turns, write_bad_version};
+use std::io::{Read, Write};
+
+// What is particular to a program.
+pub trait Program {
+    // The version byte of its input.
+    const VERSION: u8;
+
+    // The bytes of the longest entry that isn't 15, its length byte among them.
+    const LONGEST_ENTRY: usize;
+
+    const LONGEST_LINE: usize;
+
+    ghost LONGEST_LINE: { ℕ };
+
+    // Does the next entry, all bytes of which are there as far as the input has them, and maybe others after it. The input is what
+    // is filled of a buffer of this size.
+    fn take(
+        turn: Turn,
+        h0: &mut [u32],
+        h1: &mut [u32],
+        list: &mut [u32],
+        input: &[u8],
+        size: usize,
+        out: &mut [u8],
+    ) -> Turn
+        requires inside { turn.at ≤ length input.now }
+        requires room { turn.end + LONGEST_LINE ≤ length out.old }
+        ensures reached { result.at ≤ length input.now }
+        ensures within { result.end ≤ length out.new };
+}
+
+// The program for scripts.
+pub struct Script;
+
+impl Program for Script {
+    const VERSION: u8 = 1;
+
+    const LONGEST_ENTRY: usize = crate::window::LONGEST_ENTRY;
+
+    const LONGEST_LINE: usize = crate::LONGEST_LINE;
+
+    ghost LONGEST_LINE = { longest };
+
+    fn take(
+        turn: Turn,
+        h0: &mut [u32],
+        h1: &mut [u32],
+        list: &mut [u32],
+        input: &[u8],
+        size: usize,
+        out: &mut [u8],
+    ) -> Turn {
+        let stop = stop_of(input.len(), size);
+        take_turns(turn, h0, h1, list, input, stop, out)
+    }
+}
+
+// Where the next entry starts in the input buffer, and how many bytes of the buffer are filled.
+#[derive(Clone, Copy)]
+struct Window {
+    at: usize,
+    filled: usize,
+}
+
+// The input buffer with the whole of the next entry in it, as far as the input has it.
+fn fetch(
+    stdin: &mut impl Read,
+    input: &mut [u8],
+    at: usize,
+    filled: usize,
+    longest: usize,
+) -> Window
+    requires { filled ≤ length input.old }
+    ensures { Fetched longest input.old at filled input.new result.at result.filled }
+{
+    if !is_short(longest, at, filled, input.len()) {
+        return Window { at, filled };
+    }
+    let kept = keep(input, at, filled);
+    let got = streams::read_full(stdin, &mut input[kept..]);
+    Window {
+        at: 0,
+        filled: kept + got,
+    }
+}
+
+// Where the next line goes: after the output so far, or, where a line of so many bytes may not fit there, to the front, when the
+// output so far is written out; None if that fails.
+fn flush(stdout: &mut impl Write, out: &[u8], end: usize, longest: usize) -> Option<usize>
+    requires { end ≤ length out.now }
+    ensures { Flushed longest end (length out.now) result }
+{
+    if longest <= out.len() - end {
+        Some(end)
+    } else {
+        streams::write_all(stdout, &out[..end]).then_some(0)
+    }
+}
+
+// Does the entries of the input, from the first on, until the input ends, an entry is 15 or a write fails, on a new store over the
+// halves and the list. Answers whether all lines were written, a bool, as no caller asks why not; after a write that failed there is no
+// other, and there is none where the output has not the room for any.
+pub fn run<P: Program>(
+    stdin: &mut impl Read,
+    stdout: &mut impl Write,
+    h0: &mut [u32],
+    h1: &mut [u32],
+    list: &mut [u32],
+    input: &mut [u8],
+    out: &mut [u8],
+) -> bool {
+    let mut filled = streams::read_full(stdin, input);
+    if !is_version(&input[..filled], P::VERSION) {
+        let end = write_bad_version(out);
+        return streams::write_all(stdout, &out[..end]);
+    }
+    if out.len() < P::LONGEST_LINE {
+        return false;
+    }
+    let mut turn = Turn {
+        control: store::Control::make(h0, h1, list).control,
+        at: 1,
+        number: 1,
+        end: 0,
+        more: true,
+    };
+    // every loop has to end: there are no more turns than entries can be counted
+    for _ in 0..u64::MAX {
+        let window = fetch(stdin, input, turn.at, filled, P::LONGEST_ENTRY);
+        turn.at = window.at;
+        filled = window.filled;
+        let Some(end) = flush(stdout, out, turn.end, P::LONGEST_LINE) else {
+            return false;
+        };
+        turn.end = end;
+        let number = turn.number;
+        let size = input.len();
+        turn = P::take(turn, h0, h1, list, &input[..filled], size, out);
+        if !turn.more || turn.number == number {
+            break;
+        }
+    }
+    streams::write_all(stdout, &out[..turn.end])
+}
