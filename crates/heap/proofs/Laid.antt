@@ -1,15 +1,15 @@
 -- Halves with pending words written: their lengths, each word, and one pending word after another.
-use Prim.Native.Nat.{ℕ, ◌+◌, ◌*◌, ◌%◌, ◌≤◌, ◌<◌}
+use Prim.Native.Nat.{ℕ, ◌+◌, ◌-◌, ◌*◌, ◌/◌, ◌%◌, ◌≤◌, ◌<◌}
 use mathlib.Core.Path.{◌≡◌, refl, ◌∙◌}
 use mathlib.Core.Bool.{Bool, true, false, cond, ◌&&◌}
 use mathlib.Core.List.{List, [], ◌∷◌, ◌++◌}
 use native.Mathlib.Omega.{arith}
-use lib.Dec.{eqb}
+use lib.Dec.{eqb, leb}
 use lib.ListN.{length, get_or, set, length-set}
 use lib.Seq.{get_or-set_same, get_or-set_other}
-use borrow.Author.Tests.{eq-eqb, ne_eqb, le-leb}
+use borrow.Author.Tests.{eq-eqb, ne_eqb, le-leb, leb-true, eqb-true}
 use Rattle.rules.specs.Memory.{half, half_of, word_of, in_half, put}
-use Rattle.rules.proofs.memory.Cases.{eq_or}
+use Rattle.rules.proofs.memory.Cases.{eq_or, bool_or}
 use Rattle.heap.specs.View.{memory, Inside}
 use Rattle.heap.specs.Pending.{laid, memory_with, seen}
 use Rattle.heap.specs.declared.halves.Pending.{Pending}
@@ -25,6 +25,25 @@ one_seen false ws j x k l = refl
 one_seen true ws j x k l = eq_or j k
     (λ e. rw (eq-eqb j k e, e) (get_or-set_same ws k x 0 l))
     (λ n. rw (ne_eqb j k n) (get_or-set_other ws j k x 0 (λ z. n (omega arith))))
+
+-- a reference names word k of half h where it is the reference of that word
+pub one_reference : (h a k : ℕ) → h ≤ 1 → (in_half h a && eqb (word_of a) k) ≡ eqb a (2 * k + 2 + h)
+unfolding in_half half_of word_of
+one_reference h a k l = eq_or a (2 * k + 2 + h)
+    (λ e.
+    let low : 2 ≤ a = omega arith in
+    let half : a % 2 ≡ h = omega arith in
+    let place : (a - 2) / 2 ≡ k = omega arith in
+    rw (eq-eqb a (2 * k + 2 + h) e, le-leb 2 a low, eq-eqb (a % 2) h half, eq-eqb ((a - 2) / 2) k place))
+    (λ n. rw (ne_eqb a (2 * k + 2 + h) n)
+    (bool_or (leb 2 a)
+    (λ t. bool_or (eqb (a % 2) h)
+    (λ u.
+    let low = leb-true 2 a t in
+    let half = eqb-true (a % 2) h u in
+    rw (t, u) (ne_eqb ((a - 2) / 2) k (λ w. n (omega arith))))
+    (λ f. rw (t, f)))
+    (λ f. rw f)))
 
 -- all of them
 pub laid-length : (h : ℕ) (ps : List Pending) (ws : List ℕ) → length (laid h ps ws) ≡ length ws

@@ -11,6 +11,7 @@ pub mod Answers
 pub mod Passed
 pub mod ToShade
 pub mod Plans
+pub mod Shaded
 pub mod Written
 -- the arms of this crate's functions
 pub mod Levels

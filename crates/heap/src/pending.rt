@@ -1,5 +1,5 @@
 // Words that are going to be written, and words read through them.
-ghost use Rattle.std.specs.Prelude.{◌≡◌, cond, ◌&&◌, eqb, set};
+ghost use Rattle.std.specs.Prelude.{◌≡◌, ◌+◌, ◌*◌, ◌^◌, ◌≤◌, ◌<◌, cond, ◌&&◌, eqb, set};
 ghost use Rattle.rules.specs.Memory.{in_half, word_of};
 ghost use Rattle.heap.specs.Pending.{laid, seen};
 
@@ -7,12 +7,14 @@ use crate::Pending;
 use crate::forwarding::in_half;
 use crate::words::word_of;
 
-// The word of a pending one where that is word `at` of half h, else x.
-#[tactic(auto, unfolding(rules::specs::Memory::in_half))]
+// The word of a pending one where that is word `at` of half h, else x. The references are compared whole: to take each apart, into its half
+// and its place there, costs three times as much.
+#[tactic(auto, using(crate::proofs::Laid::one_reference))]
 fn over(p: Pending, h: u32, at: usize, x: u32) -> u32
+    requires { (h ≤ 1) × (at < 2 ^ 61) }
     ensures { result ≡ cond (in_half h p.place && eqb (word_of p.place) at) p.word x }
 {
-    if in_half(h, p.place) && word_of(p.place) == at {
+    if p.place as usize == 2 * at + 2 + h as usize {
         p.word
     } else {
         x
@@ -22,6 +24,7 @@ fn over(p: Pending, h: u32, at: usize, x: u32) -> u32
 // Word `at` of half h with the pending words written, where it is x before that.
 #[tactic(auto, unfolding(crate::specs::Pending::seen))]
 pub(crate) fn seen_word(pending: &[Pending], h: u32, at: usize, x: u32) -> u32
+    requires { (h ≤ 1) × (at < 2 ^ 61) }
     ensures { result ≡ seen h pending.now at x }
 {
     let mut word = x;

@@ -19,6 +19,14 @@ pub(crate) fn word_of(v: u32) -> usize
     ((v - 2) / 2) as usize
 }
 
+// The half that a reference is in.
+#[tactic(auto, unfolding(rules::specs::Memory::half, rules::specs::Memory::half_of))]
+pub fn half_of<'a>(h0: &'a [u32], h1: &'a [u32], v: u32) -> &'a [u32]
+    ensures { (f0 f1 : ℕ) → result.now ≡ half (memory h0.now h1.now f0 f1) (half_of v) }
+{
+    if v % 2 == 0 { h0 } else { h1 }
+}
+
 impl<'a> Halves<'a> {
     // The lent halves, where the records of each end, and the words that are going to be written.
     pub fn new(
@@ -42,11 +50,10 @@ impl<'a> Halves<'a> {
     }
 
     // The half that a reference is in, as it is now.
-    #[tactic(auto, unfolding(rules::specs::Memory::half, rules::specs::Memory::half_of))]
     pub fn half_of(&self, v: u32) -> &'a [u32]
         ensures { result.now ≡ half (as_written self.now) (half_of v) }
     {
-        if v % 2 == 0 { self.half0 } else { self.half1 }
+        half_of(self.half0, self.half1, v)
     }
 
     // The frontier of the half that a reference is in.
