@@ -4,8 +4,9 @@
 pub mod Pending
 -- a row written into a longer one
 pub mod Rows
--- load, read, the birth number
+-- load, read, the birth number; and load and read as the field of the record that a reference names
 pub mod Fields
+pub mod ByReference
 -- store and put
 pub mod Store
 -- write

@@ -3,7 +3,7 @@
 
 -- the collector's numbers: their bounds, and what a unit of work leaves that hands them on
 pub mod Numbers
--- the record at the walk place; 12 Reclaim
+-- the record at the walk place
 pub mod Walk
 -- 5 Allocate
 pub mod Shells

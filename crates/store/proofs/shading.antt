@@ -10,5 +10,5 @@ pub mod Counting
 pub mod Colours
 -- the second pass, which shades
 pub mod ShadeAll
--- 3 RootMark and 4 HeapMark: what each unit leaves
+-- of 4 HeapMark: what the rule says of a scan, by what the passes found, and which entries of the list can be shaded
 pub mod Phases

@@ -52,6 +52,10 @@ pub record LinkWrites : Type 0 where
   pub words : List Pending
   pub entries : List ℕ
 
+-- of no link
+abbrev pub no_links : LinkWrites
+no_links = record { words = []; entries = [] }
+
 -- with those of one more, a plan of a store to reference field i
 abbrev pub with_link : LinkWrites → StorePlan → ℕ → LinkWrites
 with_link p q i =
@@ -66,10 +70,10 @@ with_pending s p =
     with_list (with_memory s (memory_with p.words s.memory.half0 s.memory.half1 s.memory.frontier0 s.memory.frontier1))
     (sets s.list.words s.list.tail p.entries) s.list.head (s.list.tail + length p.entries)
 
--- how the plans of a call on s ended, by what the code hands out of them: refused, or the store with what they write
-abbrev pub linked : Store → Result LinkWrites Refusal → Tested (Outcome Store)
-linked s (Err r) = refused (number r)
-linked s (Ok p) = done (with_pending s p)
+-- how the plans of a call on s ended, by what the code hands out and what is planned: refused, or the store with what they write
+abbrev pub linked : Store → Result (Unit {0}) Refusal → LinkWrites → Tested (Outcome Store)
+linked s (Err r) p = refused (number r)
+linked s (Ok u) p = done (with_pending s p)
 
 -- the list has room for the entries
 abbrev pub Listed : Control → LinkWrites → List ℕ → Type 0

@@ -108,7 +108,7 @@ impl Control {
         let n = (r as usize) + (p as usize);
         let head = Head {
             shape: 256 * r + p,
-            colour,
+            colour: colour as u32,
             replica,
             birth,
         };

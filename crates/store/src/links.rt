@@ -6,7 +6,7 @@ ghost use Rattle.rules.specs.Calls.{most_links, store, store_each, store_links};
 ghost use Rattle.rules.specs.Runs.{apply, StoreLinks};
 ghost use Rattle.heap.specs.Pending.{laid};
 ghost use Rattle.store.specs.View.{view, viewed, outcome};
-ghost use Rattle.store.specs.Links.{place_of, link_words, link_count, link_entries, most_word, Placeable, entry_of, LinkWrites, with_link, with_pending, linked, Listed};
+ghost use Rattle.store.specs.Links.{place_of, link_words, link_count, link_entries, most_word, Placeable, entry_of, LinkWrites, no_links, with_link, with_pending, linked, Listed, tailed};
 
 use crate::lent::Lent;
 use crate::{Control, Reply};
@@ -92,7 +92,7 @@ impl Model for Planned {
 impl Planned {
     // Of no link.
     fn new() -> Self
-        ensures { result ≡ record { words = []; entries = [] } }
+        ensures { result ≡ no_links }
     {
         Self {
             words: [Pending { place: 0, word: 0 }; PENDING],
@@ -145,68 +145,54 @@ fn put_links(h0: &mut [u32], h1: &mut [u32], list: &mut [u32], at: usize, planne
 }
 
 impl Control {
-    // The plan of a link, after the links that are planned.
-    #[tactic(auto, using(crate::proofs::calls::Links::plan_after, crate::proofs::calls::Links::link_placeable, crate::proofs::calls::Links::link_stored), unfolding(rules::specs::Calls::store))]
-    fn plan_link(
-        mut self,
-        lent: Lent,
-        s: u32,
-        register: u32,
-        link: Link,
-        mut planned: Planned,
-    ) -> Result<Planned, Refusal>
-        requires { (length planned.words < link_count * most_links) × Listed self planned lent.list.now }
-        ensures plan { linked (viewed self lent.entry) result
-            ≡ store (with_pending (viewed self lent.entry) planned) s register link.field link.from }
-        ensures words { IfOk result (λ p. length p.words ≡ length planned.words + link_count) }
-        ensures room { IfOk result (λ p. Listed self p lent.entry.list.now) }
-    {
-        self.cursor.tail += planned.entries().len();
-        let words = planned.words();
-        let plan = self.store_plan(words, lent, s, register, link.field, link.from)?;
-        planned.add(plan, link.field);
-        Ok(planned)
-    }
-
-    // The plans of links, one after the other.
+    // The plans of links, one after the other, each after the links that are planned: the list ends behind their entries then. That end is
+    // set in the control record where it stands, so that it isn't copied; who calls this sets it again.
     fn plan_links(
-        self,
+        &mut self,
         lent: Lent,
         s: u32,
         register: u32,
         links: &[Link],
-    ) -> Result<Planned, Refusal>
-        requires { (length links.now ≤ most_links) × (self.cursor.tail ≤ length lent.list.now) }
-        ensures plans { linked (viewed self lent.entry) result
-            ≡ store_each (viewed self lent.entry) s register links.now }
-        ensures room { IfOk result (λ p. Listed self p lent.entry.list.now) }
+        planned: &mut Planned,
+    ) -> Result<(), Refusal>
+        requires { (length links.now ≤ most_links) × (self.old.cursor.tail ≤ length lent.list.now) × (planned.old ≡ no_links) }
+        ensures plans { linked (viewed self.old lent.entry) result planned.new
+            ≡ store_each (viewed self.old lent.entry) s register links.now }
+        ensures room { IfOk result (λ _. Listed self.old planned.new lent.entry.list.now) }
+        ensures moved { self.new ≡ tailed self.old self.new.cursor.tail }
     {
-        let mut planned = Planned::new();
+        let tail = self.cursor.tail;
         for link in links {
-            planned = self.plan_link(lent, s, register, *link, planned)?;
+            self.cursor.tail = tail + planned.entries().len();
+            let words = planned.words();
+            let plan = self.store_plan(words, lent, s, register, link.field, link.from)?;
+            planned.add(plan, link.field);
         }
-        Ok(planned)
+        Ok(())
     }
 
     // The tests of several links, and what they write.
     #[tactic(auto, using(crate::proofs::tests::Results::session_tests, crate::proofs::tests::Opening::session_bounds), unfolding(rules::specs::Calls::store_links, rules::specs::Calls::is_count))]
     fn links_plan(
-        self,
+        &mut self,
         lent: Lent,
         s: u32,
         register: u32,
         count: u32,
         links: &[Link; rules::LINKS],
-    ) -> Result<Planned, Refusal>
-        ensures plans { linked (viewed self lent.entry) result
-            ≡ store_links (viewed self lent.entry) s register count links.now }
-        ensures room { IfOk result (λ p. Listed self p lent.entry.list.now) }
+        planned: &mut Planned,
+    ) -> Result<(), Refusal>
+        requires { planned.old ≡ no_links }
+        ensures plans { linked (viewed self.old lent.entry) result planned.new
+            ≡ store_links (viewed self.old lent.entry) s register count links.now }
+        ensures room { IfOk result (λ _. Listed self.old planned.new lent.entry.list.now) }
+        ensures moved { self.new ≡ tailed self.old self.new.cursor.tail }
     {
         self.attached_tests(lent, s)?;
         if (rules::LINKS as u32) < count {
             return Err(Refusal::TooMany);
         }
-        self.plan_links(lent, s, register, &links[..count as usize])
+        self.plan_links(lent, s, register, &links[..count as usize], planned)
     }
 
     // Store of several links: each of the first `count` fields named gets what the register beside it holds; all of them, or none.
@@ -228,14 +214,19 @@ impl Control {
             half1: h1,
             list,
         };
+        let tail = self.cursor.tail;
+        let mut planned = Planned::new();
         // no `?`: refused or not, the reply hands the control record back
-        let answer = match self.links_plan(lent, s, register, count, &links) {
-            Ok(planned) => {
-                put_links(h0, h1, list, self.cursor.tail, &planned);
-                self.cursor.tail += planned.entries().len();
+        let answer = match self.links_plan(lent, s, register, count, &links, &mut planned) {
+            Ok(()) => {
+                put_links(h0, h1, list, tail, &planned);
+                self.cursor.tail = tail + planned.entries().len();
                 Ok(Value::Done)
             }
-            Err(refusal) => Err(refusal),
+            Err(refusal) => {
+                self.cursor.tail = tail;
+                Err(refusal)
+            }
         };
         Reply {
             control: self,

@@ -42,29 +42,32 @@ fn count_whites(halves: &Halves<'_>, registers: &[u32; Control::REGISTERS]) -> R
     Ok(count)
 }
 
-// The second pass, on tested registers: each record that is white at its turn is shaded. The list ends at `tail` before it; its end
-// after it.
+// The second pass, on tested registers: each record that is white at its turn is shaded, until the list, which ends at `tail` before
+// it, ends at `last`, as the first pass counted.
 fn shade_registers(
     h0: &mut [u32],
     h1: &mut [u32],
     list: &mut [u32],
     tail: usize,
+    last: usize,
     registers: &[u32; Control::REGISTERS],
-) -> usize
+)
     // a colour doesn't depend on the frontiers: 0 stands for any
     requires { (length registers.now ≡ register_count)
         × ((j : ℕ) → j < register_count → (get_or registers.now j 0 ≡ null → ⊥) → Inside h0.old h1.old (get_or registers.now j 0) colour_at)
-        × (tail + length (whites_among (memory h0.old h1.old 0 0) registers.now) ≤ length list.old) }
-    ensures { (s : Store) → ending s h0.new h1.new list.new result
+        × (last ≡ tail + length (whites_among (memory h0.old h1.old 0 0) registers.now)) × (last ≤ length list.old) }
+    ensures { (s : Store) → ending s h0.new h1.new list.new last
         ≡ shade_all (ending s h0.old h1.old list.old tail)
         (whites_among (memory h0.old h1.old 0 0) registers.now) }
 {
     let mut end = tail;
     for v in registers {
+        if last <= end {
+            break;
+        }
         let w = Halves::new(h0, h1, 0, 0, &[]).if_white(*v);
         end = shade_one(h0, h1, list, end, w);
     }
-    end
 }
 
 impl Cursor {
@@ -88,7 +91,9 @@ impl Cursor {
         if list.len() - self.tail < count {
             return Err(Damage);
         }
-        self.tail = shade_registers(h0, h1, list, self.tail, &session.registers);
+        let last = self.tail + count;
+        shade_registers(h0, h1, list, self.tail, last, &session.registers);
+        self.tail = last;
         Ok(Next {
             cursor: self,
             touch: Touch::Session(n, None),

@@ -40,7 +40,7 @@ fn put_shell(h0: &mut [u32], h1: &mut [u32], other: u32, at: usize, v: u32, n: u
     let halves = Halves::new(h0, h1, 0, 0, &[]);
     let head = Head {
         shape: halves.word(v, SHAPE_AT),
-        colour: Colour::White,
+        colour: Colour::White as u32,
         replica: v,
         birth: halves.word(v, BIRTH_AT),
     };

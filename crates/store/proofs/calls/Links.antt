@@ -1,19 +1,21 @@
 -- Several links by their plans: a single store on a store with pending words, what it adds to them, and one link after another.
-use Prim.Native.Nat.{ℕ, ◌+◌, ◌*◌, ◌≤◌}
+use Prim.Native.Nat.{ℕ, ◌+◌, ◌*◌, ◌≤◌, ◌<◌}
 use mathlib.Core.Path.{◌≡◌, refl, sym, ap, ◌∙◌}
 use mathlib.Core.Bool.{Bool, true, false, cond}
 use mathlib.Core.List.{List, [], ◌∷◌, ◌++◌}
 use native.Mathlib.Omega.{arith}
 use lib.Dec.{eqb}
-use lib.ListN.{length, set, length-append}
+use lib.ListN.{length, set, get_or, drop, length-append}
+use Rattle.std.proofs.lemmas.List.{drop_more}
 use lib.Seq.{sets, length-sets}
 use borrow.Author.Tests.{eq-eqb, ne_eqb}
-use Rattle.rules.specs.Refusals.{passed, done}
+use Rattle.rules.specs.Refusals.{passed, refused, done}
 use Rattle.rules.specs.Memory.{Memory, null, half_of, word_of, in_half, colour_at, grey, ref_field, put}
 use Rattle.rules.specs.Control.{Store, in_range, with_memory, with_list}
 use Rattle.rules.specs.Phases.{session_at, fromspace}
 use Rattle.rules.specs.Barriers.{shade, shade_both, put_both}
-use Rattle.rules.specs.Calls.{session_of, operands_of, record_of, store_plan, store_commit, store}
+use Rattle.rules.specs.Calls.{session_of, operands_of, record_of, store_plan, store_commit, store, store_each}
+use Rattle.rules.specs.declared.Link.{Link}
 use Rattle.rules.specs.declared.StorePlan.{StorePlan}
 use Rattle.rules.specs.declared.Writes.{Writes}
 use Rattle.rules.proofs.Ranges.{InRange}
@@ -171,3 +173,23 @@ module _ (c : Control) (p : LinkWrites) (h0 h1 l : List ℕ) (n k i from : ℕ) 
       (λ t. omega (arith, entry_none w.first t, entry_none w.second z, u.known.ends, u.known.lent2))
       (λ t. omega (arith, entry-few w.first, entry_none w.second z, (u.shaded.0 t).1)))
       (λ z. omega (arith, entry-few w.first, entry-few w.second, (u.shaded.1 z).1))
+
+-- ---- one link after another, by a control record in which the list's end has moved
+
+module _ (c b : Control) (p : LinkWrites) (h0 h1 l : List ℕ) (n k i from : ℕ) (m : b ≡ tailed c b.cursor.tail) where
+  pub plan_moved : store_plan (view_with (tailed b (c.cursor.tail + length p.entries)) p.words h0 h1 l) n k i from
+      ≡ store_plan (view_with (tailed c (c.cursor.tail + length p.entries)) p.words h0 h1 l) n k i from
+  plan_moved = ap (λ (x : Control). store_plan (view_with (tailed x (c.cursor.tail + length p.entries)) p.words h0 h1 l) n k i from) m
+
+module _ (s : Store) (n k i : ℕ) (xs : List Link) (none : Link) (here : i < length xs) where
+  abbrev next : Link
+  next = get_or xs i none
+
+  -- the next one is refused
+  pub each_refused : {r : ℕ} → refused r ≡ store_plan s n k next.field next.from → refused r ≡ store_each s n k (drop i xs)
+  unfolding store
+  each_refused e = rw (drop_more xs i none here, ← e)
+
+  -- the next one is stored
+  pub each_on : {t : Store} → store s n k next.field next.from ≡ done t → store_each s n k (drop i xs) ≡ store_each t n k (drop (i + 1) xs)
+  each_on e = rw (drop_more xs i none here, e)

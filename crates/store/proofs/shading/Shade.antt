@@ -1,6 +1,6 @@
 -- Shading as the code does it.
 use Prim.Native.Nat.{ℕ, ◌+◌, ◌≤◌}
-use mathlib.Core.Path.{◌≡◌, ap}
+use mathlib.Core.Path.{◌≡◌, ap, refl}
 use mathlib.Core.Bool.{cond}
 use mathlib.Core.List.{List, []}
 use native.Mathlib.Omega.{arith}
@@ -12,6 +12,7 @@ use Rattle.rules.specs.Memory.{Memory, put, colour_at, grey}
 use Rattle.rules.specs.Control.{Store, with_memory, with_list, new_store}
 use Rattle.rules.specs.Barriers.{shade}
 use Rattle.rules.proofs.memory.Cases.{bool_or, chosen_below}
+use Rattle.rules.proofs.Shaded.{shade_either}
 use Rattle.store.specs.Marking.{ending}
 
 pub shade-null : (s : Store) (v : ℕ) → v ≡ 0 → s ≡ shade s v
@@ -23,6 +24,9 @@ pub shade_record : {N : Memory} {ws : List ℕ} (s : Store) (v : ℕ) → (v ≡
     → with_list (with_memory s N) ws s.list.head (s.list.tail + 1) ≡ shade s v
 unfolding shade
 shade_record s v n e d = rw (ne_eqb v 0 n, e, d)
+
+pub shade-globals : (s : Store) (v : ℕ) → (shade s v).globals ≡ s.globals
+shade-globals s v = shade_either (λ t. t.globals ≡ s.globals) s v refl refl
 
 -- the list gets an entry where there is a record to shade, so one at most
 module _ (s : Store) (v : ℕ) where

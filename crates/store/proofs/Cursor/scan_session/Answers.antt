@@ -1,5 +1,5 @@
 -- The registers are damage or the list is full: refused; else the white records among them are shaded, and the session is marked.
-use mathlib.Core.Path.{◌≡◌, ◌∙◌, ap}
+use mathlib.Core.Path.{◌≡◌, ◌∙◌, ap, refl}
 use native.Mathlib.Omega.{arith}
 use borrow.Author.Rules.{rules}
 use lib.ListN.{length}
@@ -41,7 +41,8 @@ shade_registers-requires c =
     let n : length a.session.now.registers ≡ register_count = search rules in (
       n,
       λ j h z. header_inside _ _ _ _ _ (tested-sound _ _ _ k.0 j (omega arith) z) r.low r.high _ (omega arith),
-      rw (whites_any a.h0.now a.h1.now a.self.frontier0 a.self.frontier1 a.session.now.registers, k.1) (omega arith),
+      rw (whites_any a.h0.now a.h1.now a.self.frontier0 a.self.frontier1 a.session.now.registers, k.1) refl,
+      omega arith,
     )
 
 pub returns : goal.returns
