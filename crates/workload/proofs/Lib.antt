@@ -8,6 +8,8 @@ pub mod Sizes
 pub mod Asking
 -- the arguments of an entry, one after another
 pub mod Arguments
+-- the arguments of some classes, and of others behind them
+pub mod Appending
 -- an entry put into a buffer
 pub mod Placing
 -- entries one after another put into a buffer

@@ -4,7 +4,7 @@ use mathlib.Core.Path.{◌≡◌}
 use mathlib.Core.List.{List, [], ◌∷◌}
 use native.Mathlib.Omega.{arith}
 use lib.ListN.{length, set, length-set}
-use lib.Seq.{sets}
+use lib.Seq.{sets, length-sets}
 use Rattle.rules.proofs.memory.Sets.{sets-before}
 use Rattle.workload.specs.Load.{xorshift32, kind_count, form_at, draw, entry_bytes}
 use Rattle.workload.specs.Entries.{Placed, arguments_from, Room, arguments_into, entry_into}
@@ -31,9 +31,9 @@ module _ (x at : ℕ) (out : List ℕ) where
     arguments-room room = rw (kind, value, length-set) (omega (arith, arguments-short))
 
     module _ {p : Placed} (e : p ≡ arguments_into classes first (at + 2) kinded) where
-      pub entry-end : (at + 2 ≤ p.end) × (p.end ≤ at + longest_entry)
+      pub entry-end : (at + 2 ≤ p.end) × (p.end ≤ at + longest_entry) × (length p.out ≡ length out)
       unfolding arguments_into
-      entry-end = rw (e, kind, value) (omega arith, omega (arith, arguments-short))
+      entry-end = rw (e, kind, value) (omega arith, omega (arith, arguments-short), rw (length-sets, length-set))
 
       pub entry-placed : record { next = p.next; out = set p.out at (p.end - (at + 1)); end = p.end } ≡ entry_into x at out
       unfolding arguments_into entry_into draw entry_bytes

@@ -32,7 +32,6 @@ fn main(rt: HostRuntime) {
     let mut input = [0u8; 9];
     let mut out = [0u8; 4096];
     let got = streams::read_full(&mut stdin, &mut input);
-    if let Some(load) = workload::asked(&input[..got]) {
-        write_load(&mut stdout, load, &mut out);
-    }
+    let load = workload::start(&input[..got]);
+    write_load(&mut stdout, load, &mut out);
 }
