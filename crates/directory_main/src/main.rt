@@ -8,6 +8,7 @@ mod lines; // lines.rt: the text of their lines
 mod turns; // turns.rt: one entry, its call and its line
 
 ghost use Rattle.directory_main.specs.Lines.{longest};
+ghost use Rattle.directory_main.specs.Window.{longest_entry, version};
 
 use script::{Program, Turn};
 
@@ -20,6 +21,10 @@ impl Program for Directory {
     const LONGEST_ENTRY: usize = 10;
 
     const LONGEST_LINE: usize = lines::LONGEST_LINE;
+
+    ghost VERSION = { version };
+
+    ghost LONGEST_ENTRY = { longest_entry };
 
     ghost LONGEST_LINE = { longest };
 
@@ -54,7 +59,7 @@ fn main(rt: HostRuntime) {
     let mut list = [0u32; 1365];
     let mut input = [0u8; 4096];
     let mut out = [0u8; 4096];
-    script::run::<Directory>(
+    script::run::<Directory, _, _>(
         &mut rt.stdin(),
         &mut rt.stdout(),
         &mut half0,

@@ -24,3 +24,5 @@ pub mod Output
 pub mod Keeping
 -- the input buffer's bytes still to be done, moved to its front
 pub mod Moving
+-- what a writer has got
+pub mod Growing

@@ -1,6 +1,7 @@
--- The lines of the output: the longest, where the next one goes, and the line of a bad version.
+-- The lines of the output: the longest, where the next one goes, what a writer has got, and the line of a bad version.
 use Rattle.std.specs.Prelude.{ℕ, ◌+◌, ◌≤◌, ◌≡◌, cond, Option, Some, IfSome, List, Result, leb, length}
 use Rattle.std.proofs.lemmas.List.Edits.{sets}
+use Rattle.std.specs.Io.KnownBytes.{Appends}
 use Rattle.rules.specs.Answers.{answer_of}
 use Rattle.rules.specs.declared.Value.{Value}
 use Rattle.rules.specs.declared.Refusal.{Refusal}
@@ -26,6 +27,10 @@ pub record Flushed (longest end size : ℕ) (at : Option ℕ) : Type 0 where
   pub room : longest ≤ size → IfSome at (λ i. i + longest ≤ size)
   -- where one fitted already nothing is written
   pub still : end + longest ≤ size → at ≡ Some end
+
+-- what a writer has got stays, and bytes come behind it, where it is known
+abbrev pub Grows : Option (List ℕ) → Option (List ℕ) → Type 0
+Grows old new = (text : List ℕ) × Appends old new text
 
 -- the output and the end of what was written
 pub record Written : Type 0 where

@@ -2,6 +2,10 @@
 use Rattle.std.specs.Prelude.{ℕ, ◌+◌, ◌-◌, ◌≤◌, ◌≡◌, Bool, true, false, cond, ◌&&◌, List, ◌++◌, leb, ltb, length, take, drop}
 use Rattle.std.proofs.Math.Seq.{slice}
 
+-- "version byte 1"
+abbrev pub version : ℕ
+version = 1
+
 -- the bytes of a script's longest entry that isn't 15, its length byte among them
 abbrev pub longest_entry : ℕ
 longest_entry = 9

@@ -1,13 +1,14 @@
 // What the programs do: the entries of their input, read through a buffer, and the lines of these, written through another. The halves and
 // the list are lent one by one, as the store's calls take them.
-ghost use Rattle.std.specs.Prelude.{◌≡◌, ℕ, ◌+◌, ◌≤◌, length};
-ghost use Rattle.script.specs.Lines.{longest, Flushed};
-ghost use Rattle.script.specs.Window.{Fetched};
+ghost use Rattle.std.specs.Prelude.{◌≡◌, ℕ, ◌+◌, ◌≤◌, length, get_or, ltb, eqb, ◌&&◌, IfSome};
+ghost use Rattle.std.specs.Bool.{OnTrue};
+ghost use Rattle.script.specs.Lines.{longest, Flushed, Grows};
+ghost use Rattle.script.specs.Window.{longest_entry, version, Fetched};
 
 use crate::{Turn, is_short, is_version, keep, stop_of, take_turns, write_bad_version};
 use std::io::{Read, Write};
 
-// What is particular to a program.
+// What is particular to a program. Each number stands in the specs of the program too, and the check proves the two equal.
 pub trait Program {
     // The version byte of its input.
     const VERSION: u8;
@@ -16,6 +17,10 @@ pub trait Program {
     const LONGEST_ENTRY: usize;
 
     const LONGEST_LINE: usize;
+
+    ghost VERSION: { ℕ };
+
+    ghost LONGEST_ENTRY: { ℕ };
 
     ghost LONGEST_LINE: { ℕ };
 
@@ -46,6 +51,10 @@ impl Program for Script {
 
     const LONGEST_LINE: usize = crate::LONGEST_LINE;
 
+    ghost VERSION = { version };
+
+    ghost LONGEST_ENTRY = { longest_entry };
+
     ghost LONGEST_LINE = { longest };
 
     fn take(
@@ -56,7 +65,10 @@ impl Program for Script {
         input: &[u8],
         size: usize,
         out: &mut [u8],
-    ) -> Turn {
+    ) -> Turn
+        ensures reached { turn.at ≤ length input.now → result.at ≤ length input.now }
+        ensures within { turn.end ≤ length out.old → result.end ≤ length out.new }
+    {
         let stop = stop_of(input.len(), size);
         take_turns(turn, h0, h1, list, input, stop, out)
     }
@@ -69,18 +81,19 @@ struct Window {
     filled: usize,
 }
 
-// The input buffer with the whole of the next entry in it, as far as the input has it.
-fn fetch(
-    stdin: &mut impl Read,
-    input: &mut [u8],
-    at: usize,
-    filled: usize,
-    longest: usize,
-) -> Window
-    requires { filled ≤ length input.old }
-    ensures { Fetched longest input.old at filled input.new result.at result.filled }
+// Whether the input begins with the program's version byte.
+fn is_own<P: Program>(input: &[u8]) -> bool
+    ensures { result ≡ (ltb 0 (length input.now) && eqb (get_or input.now 0 0) P.VERSION) }
 {
-    if !is_short(longest, at, filled, input.len()) {
+    is_version(input, P::VERSION)
+}
+
+// The input buffer with the whole of the program's next entry in it, as far as the input has it.
+fn fetch<P: Program, R: Read>(stdin: &mut R, input: &mut [u8], at: usize, filled: usize) -> Window
+    requires { filled ≤ length input.old }
+    ensures { Fetched P.LONGEST_ENTRY input.old at filled input.new result.at result.filled }
+{
+    if !is_short(P::LONGEST_ENTRY, at, filled, input.len()) {
         return Window { at, filled };
     }
     let kept = keep(input, at, filled);
@@ -91,13 +104,14 @@ fn fetch(
     }
 }
 
-// Where the next line goes: after the output so far, or, where a line of so many bytes may not fit there, to the front, when the
+// Where the next line goes: after the output so far, or, where a line of the program's may not fit there, to the front, when the
 // output so far is written out; None if that fails.
-fn flush(stdout: &mut impl Write, out: &[u8], end: usize, longest: usize) -> Option<usize>
+fn flush<P: Program, W: Write>(stdout: &mut W, out: &[u8], end: usize) -> Option<usize>
     requires { end ≤ length out.now }
-    ensures { Flushed longest end (length out.now) result }
+    ensures place { Flushed P.LONGEST_LINE end (length out.now) result }
+    ensures grown { IfSome result (λ _. Grows (W.contents stdout.old) (W.contents stdout.new)) }
 {
-    if longest <= out.len() - end {
+    if P::LONGEST_LINE <= out.len() - end {
         Some(end)
     } else {
         streams::write_all(stdout, &out[..end]).then_some(0)
@@ -105,19 +119,22 @@ fn flush(stdout: &mut impl Write, out: &[u8], end: usize, longest: usize) -> Opt
 }
 
 // Does the entries of the input, from the first on, until the input ends, an entry is 15 or a write fails, on a new store over the
-// halves and the list. Answers whether all lines were written, a bool, as no caller asks why not; after a write that failed there is no
-// other, and there is none where the output has not the room for any.
-pub fn run<P: Program>(
-    stdin: &mut impl Read,
-    stdout: &mut impl Write,
+// halves and the list. Answers whether all lines were written, a bool, as no caller asks why not: where they were, each write has taken
+// all that it was given. After a write that failed there is no other, and there is none where the output has not the room for any.
+#[tactic(auto, using(crate::proofs::Growing::grows_nothing, crate::proofs::Growing::grows_on, crate::proofs::Growing::grows_last))]
+pub fn run<P: Program, R: Read, W: Write>(
+    stdin: &mut R,
+    stdout: &mut W,
     h0: &mut [u32],
     h1: &mut [u32],
     list: &mut [u32],
     input: &mut [u8],
     out: &mut [u8],
-) -> bool {
+) -> bool
+    ensures { OnTrue result (Grows (W.contents stdout.old) (W.contents stdout.new)) }
+{
     let mut filled = streams::read_full(stdin, input);
-    if !is_version(&input[..filled], P::VERSION) {
+    if !is_own::<P>(&input[..filled]) {
         let end = write_bad_version(out);
         return streams::write_all(stdout, &out[..end]);
     }
@@ -133,10 +150,10 @@ pub fn run<P: Program>(
     };
     // every loop has to end: there are no more turns than entries can be counted
     for _ in 0..u64::MAX {
-        let window = fetch(stdin, input, turn.at, filled, P::LONGEST_ENTRY);
+        let window = fetch::<P, R>(stdin, input, turn.at, filled);
         turn.at = window.at;
         filled = window.filled;
-        let Some(end) = flush(stdout, out, turn.end, P::LONGEST_LINE) else {
+        let Some(end) = flush::<P, W>(stdout, out, turn.end) else {
             return false;
         };
         turn.end = end;

@@ -29,8 +29,8 @@ pub fn read_full<R: Read>(input: &mut R, buf: &mut [u8]) -> usize
     done
 }
 
-// Writes all of buf and answers true, and no error, since no caller asks for it, or stops at the first write that takes nothing or fails and answers false, when some
-// of buf may have been written.
+// Writes all of buf and answers true, or stops at the first write that takes nothing or fails and answers false, when some of buf may
+// have been written. A bool and no error, since no caller asks for it.
 pub fn write_all<W: Write>(output: &mut W, buf: &[u8]) -> bool
     ensures { OnTrue result (Appends (W.contents output.old) (W.contents output.new) buf.now) }
 {
