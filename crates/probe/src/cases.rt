@@ -1,11 +1,19 @@
 // A case, and the words that it lends.
-use crate::{records, words};
+use crate::records::{self, CONTROL};
+use crate::words;
 use rules::Link;
 use std::io::{Read, Write};
 use store::Control;
 
 // The words of the links: of each its field, then its register.
 const LINKS: usize = 2 * rules::LINKS;
+
+// Where the control record and the links of a case begin, and how many words it has. They are read at once.
+const RECORD: usize = 8;
+
+const LAST: usize = RECORD + CONTROL;
+
+const CASE: usize = LAST + LINKS;
 
 // The kind and the arguments of a call, how many words of half 0, of half 1 and of the list are lent, the control record, and
 // the links.
@@ -33,9 +41,15 @@ fn links_of(words: &[u32; LINKS]) -> [Link; rules::LINKS] {
 impl Case {
     // The next case of the input, without the words that it lends.
     pub(crate) fn read<R: Read>(stdin: &mut R) -> Option<Case> {
-        let [kind, a, b, c, d, length0, length1, capacity] = words::read_array::<_, 8>(stdin)?;
-        let control = words::read_array(stdin)?;
-        let links = words::read_array(stdin)?;
+        let mut words = [0u32; CASE];
+        if !words::read_words(stdin, &mut words) {
+            return None;
+        }
+        let [kind, a, b, c, d, length0, length1, capacity, ..] = words;
+        let mut control = [0u32; CONTROL];
+        control.copy_from_slice(&words[RECORD..LAST]);
+        let mut links = [0u32; LINKS];
+        links.copy_from_slice(&words[LAST..]);
         Some(Case {
             kind,
             arguments: [a, b, c, d],
@@ -54,18 +68,33 @@ pub(crate) struct Lent<'a> {
     pub(crate) list: &'a mut [u32],
 }
 
-impl Lent<'_> {
-    // Fills them from the input.
-    pub(crate) fn read<R: Read>(&mut self, stdin: &mut R) -> Option<()> {
-        words::read_words(stdin, self.half0)?;
-        words::read_words(stdin, self.half1)?;
-        words::read_words(stdin, self.list)
+impl<'a> Lent<'a> {
+    // The first words of each, as many as a case lends, where there are as many.
+    pub(crate) fn of(
+        half0: &'a mut [u32],
+        half1: &'a mut [u32],
+        list: &'a mut [u32],
+        lengths: [u32; 3],
+    ) -> Option<Lent<'a>> {
+        let [length0, length1, capacity] = lengths;
+        Some(Lent {
+            half0: half0.get_mut(..length0 as usize)?,
+            half1: half1.get_mut(..length1 as usize)?,
+            list: list.get_mut(..capacity as usize)?,
+        })
     }
 
-    // Writes them to the output.
-    pub(crate) fn write<W: Write>(&self, stdout: &mut W) -> Option<()> {
-        words::write_words(stdout, self.half0)?;
-        words::write_words(stdout, self.half1)?;
-        words::write_words(stdout, self.list)
+    // Fills them from the input. Answers whether it had as many.
+    pub(crate) fn read<R: Read>(&mut self, stdin: &mut R) -> bool {
+        words::read_words(stdin, self.half0)
+            & words::read_words(stdin, self.half1)
+            & words::read_words(stdin, self.list)
+    }
+
+    // Writes them to the output. Answers whether all were written.
+    pub(crate) fn write<W: Write>(&self, stdout: &mut W) -> bool {
+        words::write_words(stdout, self.half0)
+            & words::write_words(stdout, self.half1)
+            & words::write_words(stdout, self.list)
     }
 }

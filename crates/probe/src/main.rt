@@ -3,7 +3,7 @@
 // call, three lent lengths, control record, eight links, then the words of half 0, half 1 and the list as far as they are
 // lent. For each case it writes refusal number, value in two words, control record, the lent words, and a count with the
 // words of a stretch, or with those that a list of the directory was lent. tests/programs/probe_program.py has both layouts.
-// A case that is cut short or lends too much ends the program; what finds that answers None.
+// A case that is cut short or lends too much ends the program, and so does a reply that could not be written whole.
 
 #![tactic(auto)]
 
@@ -14,26 +14,33 @@ mod calls; // calls.rt: the call of a case, of the store
 mod requests; // requests.rt: the call of a case, of the directory
 
 use cases::{Case, Lent};
+use records::CONTROL;
 use std::io::{Read, Write};
 use store::Control;
 use words::MOST;
 
-// Writes the answer of a call, the control record after it, and the lent words.
+// The words of an answer, and those of a reply before the lent words. They are written at once.
+const ANSWER: usize = 3;
+
+const REPLY: usize = ANSWER + CONTROL;
+
+// Writes the answer of a call, the control record after it, and the lent words. Answers whether all was written.
 pub(crate) fn write_reply<W: Write>(
     stdout: &mut W,
     number: u32,
     value: u64,
     control: &Control,
     lent: &Lent,
-) -> Option<()> {
+) -> bool {
     let [upper, lower] = words::halves(value);
-    words::write_words(stdout, &[number, upper, lower])?;
-    words::write_words(stdout, &records::words_of(control))?;
-    lent.write(stdout)
+    let mut reply = [0u32; REPLY];
+    reply[..ANSWER].copy_from_slice(&[number, upper, lower]);
+    reply[ANSWER..].copy_from_slice(&records::words_of(control));
+    words::write_words(stdout, &reply) & lent.write(stdout)
 }
 
-// Writes the words of the stretch of a case, after their count; for another call the count 0.
-fn write_stretch<W: Write>(stdout: &mut W, case: &Case, lent: &Lent) -> Option<()> {
+// Writes the words of the stretch of a case, after their count; for another call the count 0. Answers whether all were written.
+fn write_stretch<W: Write>(stdout: &mut W, case: &Case, lent: &Lent) -> bool {
     if case.kind != calls::STRETCH {
         return words::write_words(stdout, &[0]);
     }
@@ -44,28 +51,31 @@ fn write_stretch<W: Write>(stdout: &mut W, case: &Case, lent: &Lent) -> Option<(
     words::write_counted(stdout, part)
 }
 
-// Makes the store's call of a case on the words lent, and writes what comes out.
-fn make_call<W: Write>(stdout: &mut W, case: &Case, lent: &mut Lent) -> Option<()> {
+// Makes the store's call of a case on the words lent, and writes what comes out. Answers whether all was written.
+fn make_call<W: Write>(stdout: &mut W, case: &Case, lent: &mut Lent) -> bool {
     let reply = calls::call(case, lent);
     let number = rules::number_of(reply.answer);
     let value = rules::value_of(reply.answer);
-    write_reply(stdout, number, value, &reply.control, lent)?;
-    write_stretch(stdout, case, lent)
+    write_reply(stdout, number, value, &reply.control, lent) & write_stretch(stdout, case, lent)
 }
 
-// Reads a case and the words that it lends, MOST of each at the most, makes its call and writes what comes out.
-fn take_case<R: Read, W: Write>(stdin: &mut R, stdout: &mut W) -> Option<()> {
-    let case = Case::read(stdin)?;
-    let [length0, length1, capacity] = case.lengths;
-    let mut half0 = [0u32; MOST];
-    let mut half1 = [0u32; MOST];
-    let mut list = [0u32; MOST];
-    let mut lent = Lent {
-        half0: half0.get_mut(..length0 as usize)?,
-        half1: half1.get_mut(..length1 as usize)?,
-        list: list.get_mut(..capacity as usize)?,
+// Reads a case and the words that it lends, makes its call and writes what comes out. Answers whether there may be another case.
+fn take_case<R: Read, W: Write>(
+    stdin: &mut R,
+    stdout: &mut W,
+    half0: &mut [u32],
+    half1: &mut [u32],
+    list: &mut [u32],
+) -> bool {
+    let Some(case) = Case::read(stdin) else {
+        return false;
     };
-    lent.read(stdin)?;
+    let Some(mut lent) = Lent::of(half0, half1, list, case.lengths) else {
+        return false;
+    };
+    if !lent.read(stdin) {
+        return false;
+    }
     if requests::is_kind(case.kind) {
         requests::make_call(stdout, &case, &mut lent)
     } else {
@@ -73,12 +83,16 @@ fn take_case<R: Read, W: Write>(stdin: &mut R, stdout: &mut W) -> Option<()> {
     }
 }
 
-// Takes the cases of the input, until it ends. Every loop has to end, so they are counted.
+// Takes the cases of the input, until it ends. Every loop has to end, so they are counted. The words that a case lends are the first
+// of arrays that stand for all cases.
 fn main(rt: HostRuntime) {
     let mut stdin = rt.stdin();
     let mut stdout = rt.stdout();
+    let mut half0 = [0u32; MOST];
+    let mut half1 = [0u32; MOST];
+    let mut list = [0u32; MOST];
     for _ in 0..u64::MAX {
-        if take_case(&mut stdin, &mut stdout).is_none() {
+        if !take_case(&mut stdin, &mut stdout, &mut half0, &mut half1, &mut list) {
             return;
         }
     }

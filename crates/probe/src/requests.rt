@@ -46,14 +46,17 @@ fn first_words() -> [u32; MOST_LENT] {
     first
 }
 
-// Makes the call of a case, with words for a list, and writes what comes out.
-pub(crate) fn make_call<W: Write>(stdout: &mut W, case: &Case, lent: &mut Lent) -> Option<()> {
+// Makes the call of a case, with words for a list, and writes what comes out. Answers whether all was written; a list that is to be
+// lent more words than there are is not made.
+pub(crate) fn make_call<W: Write>(stdout: &mut W, case: &Case, lent: &mut Lent) -> bool {
     let [_, count, ..] = case.arguments;
     let count = if case.kind == LIST { count } else { 0 };
     let mut first = first_words();
-    let members = first.get_mut(..count as usize)?;
+    let Some(members) = first.get_mut(..count as usize) else {
+        return false;
+    };
     let reply = call(case, lent, members);
     let value = reply.count() as u64;
-    write_reply(stdout, reply.number(), value, &reply.control, lent)?;
-    words::write_counted(stdout, members)
+    write_reply(stdout, reply.number(), value, &reply.control, lent)
+        & words::write_counted(stdout, members)
 }
