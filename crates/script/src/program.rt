@@ -119,8 +119,9 @@ fn flush<P: Program, W: Write>(stdout: &mut W, out: &[u8], end: usize) -> Option
 }
 
 // Does the entries of the input, from the first on, until the input ends, an entry is 15 or a write fails, on a new store over the
-// halves and the list. Answers whether all lines were written, a bool, as no caller asks why not: where they were, each write has taken
-// all that it was given. After a write that failed there is no other, and there is none where the output has not the room for any.
+// halves and the list. Answers whether all lines were written, a bool, as no caller asks why not: where they were, what
+// the writer had got stays and bytes come behind it. After a write that failed there is no other, and there is none where the output has
+// not the room for any.
 #[tactic(auto, using(crate::proofs::Growing::grows_nothing, crate::proofs::Growing::grows_on, crate::proofs::Growing::grows_last))]
 pub fn run<P: Program, R: Read, W: Write>(
     stdin: &mut R,
