@@ -55,7 +55,7 @@ fn write_argument(out: &mut [u8], at: usize, class: Class, value: u32) -> usize
 }
 
 // Puts arguments of these classes at a place of the output, drawn from a value on. Inlined, so that the loop over classes that are
-// known is none in the program: over a table of them an entry took two fifths more time.
+// known is none in the program: over a table of them an entry took two fifths more instructions.
 #[inline(always)]
 fn draw_arguments(out: &mut [u8], at: usize, classes: &[Class], value: u32) -> After
     requires { Room classes.now value at out.old }
