@@ -10,12 +10,12 @@ mod turns; // turns.rt: one entry, its call and its line
 ghost use Rattle.directory_main.specs.Lines.{longest};
 ghost use Rattle.directory_main.specs.Window.{longest_entry, version};
 
-use script::{Program, Turn};
+use script::{StatedProgram, Turn};
 
 // The program for scripts with calls of the directory.
 struct Directory;
 
-impl Program for Directory {
+impl StatedProgram for Directory {
     const VERSION: u8 = 2;
 
     const LONGEST_ENTRY: usize = 10;
@@ -59,7 +59,7 @@ fn main(rt: HostRuntime) {
     let mut list = [0u32; 1365];
     let mut input = [0u8; 4096];
     let mut out = [0u8; 4096];
-    script::run::<Directory, _, _>(
+    script::run_stated::<Directory, _, _>(
         &mut rt.stdin(),
         &mut rt.stdout(),
         &mut half0,

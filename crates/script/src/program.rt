@@ -9,7 +9,7 @@ use crate::{Turn, is_short, is_version, keep, stop_of, take_turns, write_bad_ver
 use std::io::{Read, Write};
 
 // What is particular to a program. Each number stands in the specs of the program too, and the check proves the two equal.
-pub trait Program {
+pub trait StatedProgram {
     // The version byte of its input.
     const VERSION: u8;
 
@@ -44,7 +44,7 @@ pub trait Program {
 // The program for scripts.
 pub struct Script;
 
-impl Program for Script {
+impl StatedProgram for Script {
     const VERSION: u8 = 1;
 
     const LONGEST_ENTRY: usize = crate::window::LONGEST_ENTRY;
@@ -76,24 +76,30 @@ impl Program for Script {
 
 // Where the next entry starts in the input buffer, and how many bytes of the buffer are filled.
 #[derive(Clone, Copy)]
-struct Window {
-    at: usize,
-    filled: usize,
+pub(crate) struct Window {
+    pub(crate) at: usize,
+    pub(crate) filled: usize,
 }
 
 // Whether the input begins with the program's version byte.
-fn is_own<P: Program>(input: &[u8]) -> bool
+fn is_own<P: StatedProgram>(input: &[u8]) -> bool
     ensures { result ≡ (ltb 0 (length input.now) && eqb (get_or input.now 0 0) P.VERSION) }
 {
     is_version(input, P::VERSION)
 }
 
-// The input buffer with the whole of the program's next entry in it, as far as the input has it.
-fn fetch<P: Program, R: Read>(stdin: &mut R, input: &mut [u8], at: usize, filled: usize) -> Window
+// The input buffer with the whole of the next entry in it, of at most so many bytes, as far as the input has it.
+pub(crate) fn fetch_by<R: Read>(
+    stdin: &mut R,
+    input: &mut [u8],
+    at: usize,
+    filled: usize,
+    longest: usize,
+) -> Window
     requires { filled ≤ length input.old }
-    ensures { Fetched P.LONGEST_ENTRY input.old at filled input.new result.at result.filled }
+    ensures { Fetched longest input.old at filled input.new result.at result.filled }
 {
-    if !is_short(P::LONGEST_ENTRY, at, filled, input.len()) {
+    if !is_short(longest, at, filled, input.len()) {
         return Window { at, filled };
     }
     let kept = keep(input, at, filled);
@@ -104,18 +110,45 @@ fn fetch<P: Program, R: Read>(stdin: &mut R, input: &mut [u8], at: usize, filled
     }
 }
 
-// Where the next line goes: after the output so far, or, where a line of the program's may not fit there, to the front, when the
+// The same for the program's longest entry.
+fn fetch<P: StatedProgram, R: Read>(
+    stdin: &mut R,
+    input: &mut [u8],
+    at: usize,
+    filled: usize,
+) -> Window
+    requires { filled ≤ length input.old }
+    ensures { Fetched P.LONGEST_ENTRY input.old at filled input.new result.at result.filled }
+{
+    fetch_by(stdin, input, at, filled, P::LONGEST_ENTRY)
+}
+
+// Where the next line goes: after the output so far, or, where a line of so many bytes may not fit there, to the front, when the
 // output so far is written out; None if that fails.
-fn flush<P: Program, W: Write>(stdout: &mut W, out: &[u8], end: usize) -> Option<usize>
+pub(crate) fn flush_by<W: Write>(
+    stdout: &mut W,
+    out: &[u8],
+    end: usize,
+    longest: usize,
+) -> Option<usize>
     requires { end ≤ length out.now }
-    ensures place { Flushed P.LONGEST_LINE end (length out.now) result }
+    ensures place { Flushed longest end (length out.now) result }
     ensures grown { IfSome result (λ _. Grows (W.contents stdout.old) (W.contents stdout.new)) }
 {
-    if P::LONGEST_LINE <= out.len() - end {
+    if longest <= out.len() - end {
         Some(end)
     } else {
         streams::write_all(stdout, &out[..end]).then_some(0)
     }
+}
+
+// The same for the program's longest line.
+fn flush<P: StatedProgram, W: Write>(stdout: &mut W, out: &[u8], end: usize) -> Option<usize>
+    requires { end ≤ length out.now }
+    ensures place { Flushed P.LONGEST_LINE end (length out.now) result }
+    ensures grown { IfSome result (λ _. Grows (W.contents stdout.old) (W.contents stdout.new)) }
+{
+    flush_by(stdout, out, end, P::LONGEST_LINE)
 }
 
 // Does the entries of the input, from the first on, until the input ends, an entry is 15 or a write fails, on a new store over the
@@ -123,7 +156,7 @@ fn flush<P: Program, W: Write>(stdout: &mut W, out: &[u8], end: usize) -> Option
 // the writer had got stays and bytes come behind it. After a write that failed there is no other, and there is none where the output has
 // not the room for any.
 #[tactic(auto, using(crate::proofs::Growing::grows_nothing, crate::proofs::Growing::grows_on, crate::proofs::Growing::grows_last))]
-pub fn run<P: Program, R: Read, W: Write>(
+pub fn run_stated<P: StatedProgram, R: Read, W: Write>(
     stdin: &mut R,
     stdout: &mut W,
     h0: &mut [u32],

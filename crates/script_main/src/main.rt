@@ -10,7 +10,7 @@ fn main(rt: HostRuntime) {
     let mut list = [0u32; 1365];
     let mut input = [0u8; 4096];
     let mut out = [0u8; 4096];
-    script::run::<script::Script, _, _>(
+    script::run_stated::<script::Script, _, _>(
         &mut rt.stdin(),
         &mut rt.stdout(),
         &mut half0,

@@ -4,7 +4,7 @@ use Rattle.std.specs.Bool.{then_some}
 use borrow.Author.Tests.{lt-leb}
 use Rattle.script.specs.Lines.{next_line, Flushed}
 use Rattle.script.proofs.Growing.{grows_nothing, grows_where}
-use Rattle.script.proofs.program.flush.Goals as goal
+use Rattle.script.proofs.program.flush_by.Goals as goal
 
 -- a line of at most so many bytes fits, or the output was written out
 has_room : (longest end size : ℕ) → end + longest ≤ size → Flushed longest end size (Some end)
@@ -18,18 +18,17 @@ written_out longest end size over true =
     record { place = rw (lt-leb (end + longest) size over); room = λ fits. omega arith; still = λ fits. absurd (omega arith) }
 written_out longest end size over false = record { place = tt; room = λ fits. tt; still = λ fits. absurd (omega arith) }
 
-pub returns-then-LONGEST_LINE-out : goal.returns-then-LONGEST_LINE-out
-returns-then-LONGEST_LINE-out g c =
+pub returns-then-longest-out : goal.returns-then-longest-out
+returns-then-longest-out g c =
     record {
-      place = rw (← c.LONGEST_LINE.ensures) (has_room c.LONGEST_LINE.result c.args.end (length c.args.out.now) (omega arith));
+      place = has_room c.args.longest c.args.end (length c.args.out.now) (omega arith);
       grown = grows_nothing _;
     }
 
-pub returns-else-LONGEST_LINE-out : goal.returns-else-LONGEST_LINE-out
-returns-else-LONGEST_LINE-out g c =
+pub returns-else-longest-out : goal.returns-else-longest-out
+returns-else-longest-out g c =
     record {
       place =
-          rw (← c.LONGEST_LINE.ensures, c.then_some.ensures)
-          (written_out c.LONGEST_LINE.result c.args.end (length c.args.out.now) (omega arith) c.write_all.result);
+          rw c.then_some.ensures (written_out c.args.longest c.args.end (length c.args.out.now) (omega arith) c.write_all.result);
       grown = rw c.then_some.ensures (grows_where _ _ _ _ c.write_all.result c.write_all.ensures);
     }

@@ -2,7 +2,7 @@
 -- written out before stands where it was written.
 use Rattle.std.proofs.Common.{◌≤◌, length}
 use Rattle.script.specs.Lines.{Grows}
-use Rattle.script.proofs.program.run.Given as goal
+use Rattle.script.proofs.unstated.run.Given as goal
 
 abbrev pub invariant-loop : goal.invariant-loop
 invariant-loop g l =

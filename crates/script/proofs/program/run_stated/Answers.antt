@@ -2,8 +2,8 @@
 use borrow.Author.Rules.{rules}
 use Rattle.script.specs.Lines.{Grows}
 use Rattle.script.proofs.Growing.{grows_on, grows_last}
-use Rattle.script.proofs.program.run.Goals as goal
-use Rattle.script.proofs.program.run.Goals.{else-loop-test, then-loop-test+in-Some+then-not-turn}
+use Rattle.script.proofs.program.run_stated.Goals as goal
+use Rattle.script.proofs.program.run_stated.Goals.{else-loop-test, then-loop-test+in-Some+then-not-turn}
 
 pub loop-preserved : goal.loop-preserved
 loop-preserved g c =

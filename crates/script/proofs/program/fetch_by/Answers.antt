@@ -2,7 +2,7 @@
 use Rattle.std.proofs.Common.{◌≡◌, ◌-◌, ◌≤◌, length, arith, sym, ◌∙◌}
 use borrow.Rule.Slice.PartMut.{mid_of, mid_len, put_mid, same_len_mid, take_put}
 use Rattle.script.proofs.Moving.{kept-within, read_on}
-use Rattle.script.proofs.program.fetch.Goals as goal
+use Rattle.script.proofs.program.fetch_by.Goals as goal
 
 pub returns : goal.returns
 returns g c =
@@ -15,4 +15,4 @@ returns g c =
     let rest : length (mid_of k.result (size - k.result) k.new.input) ≡ size - k.result = mid_len k.result size k.new.input (omega arith) in
     let front = take_put k.result (size - k.result) k.new.input r.new.buf start in
     let back : length (put_mid k.result (size - k.result) k.new.input r.new.buf) ≡ size = same_len_mid k.result (size - k.result) k.new.input r.new.buf r.auto.buf in
-    rw (← c.LONGEST_ENTRY.ensures) (read_on c.LONGEST_ENTRY.result a.input.now a.at a.filled k.result r.result k.new.input _ short k.ensures.count k.ensures.bytes front back (rw back (omega (arith, rest, r.auto.buf, r.ensures))))
+    read_on a.longest a.input.now a.at a.filled k.result r.result k.new.input _ short k.ensures.count k.ensures.bytes front back (rw back (omega (arith, rest, r.auto.buf, r.ensures)))
