@@ -2,6 +2,7 @@
 
 #![tactic(auto)]
 
+mod buffers; // buffers.rt: the programs' buffers, read on and written out
 mod entries; // entries.rt: what stands at a place of the input
 mod calls; // calls.rt: the call of an entry, made on the store
 mod lines; // lines.rt: the text of a line

@@ -1,11 +1,12 @@
 // What the programs do: the entries of their input, read through a buffer, and the lines of these, written through another. The halves and
 // the list are lent one by one, as the store's calls take them.
-ghost use Rattle.std.specs.Prelude.{◌≡◌, ℕ, ◌+◌, ◌≤◌, length, get_or, ltb, eqb, ◌&&◌, IfSome};
+ghost use Rattle.std.specs.Prelude.{◌≡◌, ℕ, ◌+◌, ◌≤◌, length, get_or, ltb, eqb, ◌&&◌};
 ghost use Rattle.std.specs.Bool.{OnTrue};
-ghost use Rattle.script.specs.Lines.{longest, Flushed, Grows};
-ghost use Rattle.script.specs.Window.{longest_entry, version, Fetched};
+ghost use Rattle.script.specs.Lines.{longest, Grows};
+ghost use Rattle.script.specs.Window.{longest_entry, version};
 
-use crate::{Turn, is_short, is_version, keep, stop_of, take_turns, write_bad_version};
+use crate::buffers::{fetch, flush};
+use crate::{Turn, is_version, stop_of, take_turns, write_bad_version};
 use std::io::{Read, Write};
 
 // What is particular to a program. Each number stands in the specs of the program too, and the check proves the two equal.
@@ -74,81 +75,11 @@ impl StatedProgram for Script {
     }
 }
 
-// Where the next entry starts in the input buffer, and how many bytes of the buffer are filled.
-#[derive(Clone, Copy)]
-pub(crate) struct Window {
-    pub(crate) at: usize,
-    pub(crate) filled: usize,
-}
-
 // Whether the input begins with the program's version byte.
 fn is_own<P: StatedProgram>(input: &[u8]) -> bool
     ensures { result ≡ (ltb 0 (length input.now) && eqb (get_or input.now 0 0) P.VERSION) }
 {
     is_version(input, P::VERSION)
-}
-
-// The input buffer with the whole of the next entry in it, of at most so many bytes, as far as the input has it.
-pub(crate) fn fetch_by<R: Read>(
-    stdin: &mut R,
-    input: &mut [u8],
-    at: usize,
-    filled: usize,
-    longest: usize,
-) -> Window
-    requires { filled ≤ length input.old }
-    ensures { Fetched longest input.old at filled input.new result.at result.filled }
-{
-    if !is_short(longest, at, filled, input.len()) {
-        return Window { at, filled };
-    }
-    let kept = keep(input, at, filled);
-    let got = streams::read_full(stdin, &mut input[kept..]);
-    Window {
-        at: 0,
-        filled: kept + got,
-    }
-}
-
-// The same for the program's longest entry.
-fn fetch<P: StatedProgram, R: Read>(
-    stdin: &mut R,
-    input: &mut [u8],
-    at: usize,
-    filled: usize,
-) -> Window
-    requires { filled ≤ length input.old }
-    ensures { Fetched P.LONGEST_ENTRY input.old at filled input.new result.at result.filled }
-{
-    fetch_by(stdin, input, at, filled, P::LONGEST_ENTRY)
-}
-
-// Where the next line goes: after the output so far, or, where a line of so many bytes may not fit there, to the front, when the
-// output so far is written out; None if that fails.
-pub(crate) fn flush_by<W: Write>(
-    stdout: &mut W,
-    out: &[u8],
-    end: usize,
-    longest: usize,
-) -> Option<usize>
-    requires { end ≤ length out.now }
-    ensures place { Flushed longest end (length out.now) result }
-    ensures grown { IfSome result (λ _. Grows (W.contents stdout.old) (W.contents stdout.new)) }
-{
-    if longest <= out.len() - end {
-        Some(end)
-    } else {
-        streams::write_all(stdout, &out[..end]).then_some(0)
-    }
-}
-
-// The same for the program's longest line.
-fn flush<P: StatedProgram, W: Write>(stdout: &mut W, out: &[u8], end: usize) -> Option<usize>
-    requires { end ≤ length out.now }
-    ensures place { Flushed P.LONGEST_LINE end (length out.now) result }
-    ensures grown { IfSome result (λ _. Grows (W.contents stdout.old) (W.contents stdout.new)) }
-{
-    flush_by(stdout, out, end, P::LONGEST_LINE)
 }
 
 // Does the entries of the input, from the first on, until the input ends, an entry is 15 or a write fails, on a new store over the

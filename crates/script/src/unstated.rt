@@ -4,7 +4,8 @@ ghost use Rattle.std.specs.Prelude.{◌≡◌, ℕ, ◌+◌, ◌≤◌, length};
 ghost use Rattle.std.specs.Bool.{OnTrue};
 ghost use Rattle.script.specs.Lines.{longest, Grows};
 
-use crate::program::{Script, StatedProgram, fetch_by, flush_by};
+use crate::buffers::{fetch_unstated, flush_unstated};
+use crate::program::{Script, StatedProgram};
 use crate::{Turn, is_version, write_bad_version};
 use std::io::{Read, Write};
 
@@ -94,10 +95,10 @@ pub fn run<P: Program, R: Read, W: Write>(
     };
     // every loop has to end: there are no more turns than entries can be counted
     for _ in 0..u64::MAX {
-        let window = fetch_by(stdin, input, turn.at, filled, P::LONGEST_ENTRY);
+        let window = fetch_unstated::<P, R>(stdin, input, turn.at, filled);
         turn.at = window.at;
         filled = window.filled;
-        let Some(end) = flush_by(stdout, out, turn.end, P::LONGEST_LINE) else {
+        let Some(end) = flush_unstated::<P, W>(stdout, out, turn.end) else {
             return false;
         };
         turn.end = end;

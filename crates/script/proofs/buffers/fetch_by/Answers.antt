@@ -2,7 +2,7 @@
 use Rattle.std.proofs.Common.{◌≡◌, ◌-◌, ◌≤◌, length, arith, sym, ◌∙◌}
 use borrow.Rule.Slice.PartMut.{mid_of, mid_len, put_mid, same_len_mid, take_put}
 use Rattle.script.proofs.Moving.{kept-within, read_on}
-use Rattle.script.proofs.program.fetch_by.Goals as goal
+use Rattle.script.proofs.buffers.fetch_by.Goals as goal
 
 pub returns : goal.returns
 returns g c =

@@ -4,7 +4,7 @@ use Rattle.std.specs.Bool.{then_some}
 use borrow.Author.Tests.{lt-leb}
 use Rattle.script.specs.Lines.{next_line, Flushed}
 use Rattle.script.proofs.Growing.{grows_nothing, grows_where}
-use Rattle.script.proofs.program.flush_by.Goals as goal
+use Rattle.script.proofs.buffers.flush_by.Goals as goal
 
 -- a line of at most so many bytes fits, or the output was written out
 has_room : (longest end size : ℕ) → end + longest ≤ size → Flushed longest end size (Some end)
